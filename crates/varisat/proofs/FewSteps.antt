@@ -1,35 +1,35 @@
 -- At each moment of a run few steps were made since the last change.
 use Rattle.std.proofs.Common.{◌≡◌, ℕ, zero, suc, ◌+◌, ◌-◌, Bool, true, false, List, [], ◌∷◌, length, Option, inl, inr, Result, Ok, Err, sym, ap, ◌∙◌, subst, refl, arith}
 use Rattle.std.specs.declared.alloc.AllocError.{AllocError}
-use Rattle.varisat_theory.specs.Literals.{Literal, Clause}
-use Rattle.varisat_theory.specs.CallBounds.{AreFew}
-use Rattle.varisat_theory.proofs.CallBounds.{few_none}
-use Rattle.varisat_formula.specs.Dimacs.{Reading}
-use Rattle.varisat_formula.specs.Streams.{Input, Taken}
+use Rattle.varisat_theory.specs.promises.Literals.{Literal, Clause}
+use Rattle.varisat_theory.specs.promises.CallBounds.{AreFew}
+use Rattle.varisat_theory.proofs.bounds.CallBounds.{few_none}
+use Rattle.varisat_formula.specs.promises.Dimacs.{Reading}
+use Rattle.varisat_formula.specs.promises.Streams.{Input, Taken}
 use Rattle.varisat_formula.specs.declared.dimacs.error.DimacsError.{DimacsError}
 use Rattle.varisat_names.specs.declared.config.SolverConfigUpdate.{SolverConfigUpdate}
-use Rattle.varisat_solver.specs.States.{Known, State, Ledger}
-use Rattle.varisat_solver.specs.Names.{Sample, Witness}
-use Rattle.varisat_solver.specs.Additions.{AllAdded, OneRefused, RefusedAtOnce, NoFault, MemoryFault, Fault, ClauseRefused, ClausesAdded, RefusedEarly, Read, Unread}
-use Rattle.varisat_solver.specs.Additions as additions
-use Rattle.varisat_solver.specs.Usage as usage
-use Rattle.varisat_solver.specs.Budgets.{CountsSteps}
-use Rattle.varisat_solver.specs.OpenProofs.{BarsAssumptions}
-use Rattle.varisat_solver.specs.Calls as state
-use Rattle.varisat_solver.specs.Calls.{by_state, Verdicts, Ignored, Accepted, Decided, Searched, IsValid, IsSolved, Invalidates, IsLikeButLeft, CountsCall}
-use Rattle.varisat.specs.Pasts.{empty_past, by_answers}
+use Rattle.varisat_solver.specs.promises.States.{Known, State, Ledger}
+use Rattle.varisat_solver.specs.promises.Names.{Sample, Witness}
+use Rattle.varisat_solver.specs.promises.Additions.{AllAdded, OneRefused, RefusedAtOnce, NoFault, MemoryFault, Fault, ClauseRefused, ClausesAdded, RefusedEarly, Read, Unread}
+use Rattle.varisat_solver.specs.promises.Additions as additions
+use Rattle.varisat_solver.specs.promises.Usage as usage
+use Rattle.varisat_solver.specs.promises.Budgets.{CountsSteps}
+use Rattle.varisat_solver.specs.promises.OpenProofs.{BarsAssumptions}
+use Rattle.varisat_solver.specs.promises.Calls as state
+use Rattle.varisat_solver.specs.promises.Calls.{by_state, Verdicts, Ignored, Accepted, Decided, Searched, IsValid, IsSolved, Invalidates, IsLikeButLeft, CountsCall}
+use Rattle.varisat.specs.promises.Pasts.{empty_past, by_answers}
 use Rattle.varisat_proof.specs.declared.proof.format.ProofFormat.{ProofFormat}
-use Rattle.varisat_solver.specs.ProofCalls.{OpensProof, EnablesChecking, Closes}
-use Rattle.varisat_solver.specs.ReturnedLists.{returned_list, returned_variables}
-use Rattle.varisat.specs.Turns.{Makes}
-use Rattle.varisat.specs.Moments.{HasFewSteps, HasFewStepsAlong}
+use Rattle.varisat_solver.specs.promises.ProofCalls.{OpensProof, EnablesChecking, Closes}
+use Rattle.varisat_solver.specs.promises.ReturnedLists.{returned_list, returned_variables}
+use Rattle.varisat.specs.promises.Turns.{Makes}
+use Rattle.varisat.specs.promises.Moments.{HasFewSteps, HasFewStepsAlong}
 use Rattle.varisat.specs.declared.session.Call.{Call}
 use Rattle.varisat.specs.declared.session.Answer.{Answer}
 use Rattle.varisat.specs.declared.session.Call.TheVariants as call
 use Rattle.varisat.specs.declared.session.Answer.TheVariants as answer
 use Rattle.varisat_solver.specs.declared.solver.SolverError.{SolverError}
 use Rattle.varisat_solver.specs.declared.solver.SolverError.TheVariants.{OutOfMemory, Invalid, ProofIoError, ClauseStoreFull, WitnessVar, AssumedVar, VariableLimit, ClauseAfterSolve, ProofOpen, ProofTooLate, Interrupted, ConfigOutOfRange}
-use Rattle.varisat_solver.proofs.CallStates.{same-counted, same-ledger}
+use Rattle.varisat_solver.proofs.calls.CallStates.{same-counted, same-ledger}
 
 none-is-few : (since n : ℕ) → since ≡ 0 → AreFew n since
 none-is-few since n e = subst (AreFew n) (sym e) (few_none n)

@@ -1,20 +1,20 @@
 -- What a run says of the answers alone.
 use Rattle.std.proofs.Common.{false, List, [], ◌∷◌, ap, refl, Result, Ok, Err}
 use Rattle.std.specs.Result.{IfOk}
-use Rattle.varisat_formula.specs.Streams.{Input, Taken}
+use Rattle.varisat_formula.specs.promises.Streams.{Input, Taken}
 use Rattle.varisat.specs.declared.session.Call.{Call}
 use Rattle.varisat.specs.declared.session.Answer.{Answer}
 use Rattle.varisat.specs.declared.session.Call.TheVariants as call
 use Rattle.varisat.specs.declared.session.Answer.TheVariants as answer
-use Rattle.varisat_solver.specs.States.{State, empty_state}
-use Rattle.varisat_solver.specs.Journals.{IsJournal, IsLoggedWithin}
-use Rattle.varisat_solver.specs.Calls.{IsValid}
-use Rattle.varisat_solver.specs.ReturnedLists.{returned_list, returned_variables}
-use Rattle.varisat_solver.specs.Names.{Sample, Witness}
-use Rattle.varisat.specs.Turns.{Makes}
-use Rattle.varisat.specs.Runs.{MakesCall, Run}
-use Rattle.varisat.specs.Pasts.{Findings, IsPastJournal, empty_past, by_answers}
-use Rattle.varisat.specs.Histories.{AreTrue}
+use Rattle.varisat_solver.specs.promises.States.{State, empty_state}
+use Rattle.varisat_solver.specs.promises.Journals.{IsJournal, IsLoggedWithin}
+use Rattle.varisat_solver.specs.promises.Calls.{IsValid}
+use Rattle.varisat_solver.specs.promises.ReturnedLists.{returned_list, returned_variables}
+use Rattle.varisat_solver.specs.promises.Names.{Sample, Witness}
+use Rattle.varisat.specs.promises.Turns.{Makes}
+use Rattle.varisat.specs.promises.Runs.{MakesCall, Run}
+use Rattle.varisat.specs.promises.Pasts.{Findings, IsPastJournal, empty_past, by_answers}
+use Rattle.varisat.specs.promises.Histories.{AreTrue}
 use Rattle.varisat.proofs.Pasts.{Agrees, Leads, past_of, add-clause, add-formula, add-text, make-var, set-usage, hide, observe, assume-list, tell-model, tell-core, config, open-proof, close, enable-checking, stays, new-agrees}
 use Rattle.varisat.proofs.SolvedPasts.{solve}
 use Rattle.varisat.proofs.RunsLogged.{call-within}

@@ -13,16 +13,16 @@ use Rattle.std.proofs.lemmas.List.{get_or-take, take-append-drop, length-take, m
 use Rattle.std.proofs.Math.Seq.{drop-cons}
 use Rattle.std.proofs.lemmas.List.Elements.{All-from_recursion, recursion_from_All}
 use Rattle.std.proofs.lemmas.List.Splits.{slice_split_none, slice_split_at, join_with_byte-slice_split, length-slice_split}
-use Rattle.varisat_literals.specs.Numbers.{literal_number}
-use Rattle.varisat_literals.specs.Numbers.{literal_text, variable_text}
-use Rattle.varisat_formula.specs.Streams.{Input, Taken}
-use Rattle.varisat.specs.Runs.{MayStillFail}
+use Rattle.varisat_literals.specs.promises.Numbers.{literal_number}
+use Rattle.varisat_literals.specs.promises.Numbers.{literal_text, variable_text}
+use Rattle.varisat_formula.specs.promises.Streams.{Input, Taken}
+use Rattle.varisat.specs.promises.Runs.{MayStillFail}
 use Rattle.varisat.specs.declared.session.Call.{Call}
 use Rattle.varisat.specs.declared.session.Call.TheVariants as call
 use Rattle.varisat_names.specs.declared.config.ConfigField.{ConfigField}
 use Rattle.varisat_names.specs.declared.config.ConfigField.TheVariants.{VsidsDecay, ClauseActivityDecay, ReduceLocalsInterval, ReduceMidsInterval, LubyRestartIntervalScale, MaxSteps}
-use Rattle.varisat_names.specs.Settings.{field_text}
-use Rattle.varisat.specs.Lines.{Command, Add, Assume, New, Sample, Witness, Hide, Observe, Solve, Model, Core, Config, Steps, Since, ProofText, ProofBinary, ProofMarked, Close, SelfCheck, MeansCommand, MeansOneCommand, HasNumbersInRange, AsksFor, words, words_of, spelling}
+use Rattle.varisat_names.specs.promises.Settings.{field_text}
+use Rattle.varisat.specs.promises.Lines.{Command, Add, Assume, New, Sample, Witness, Hide, Observe, Solve, Model, Core, Config, Steps, Since, ProofText, ProofBinary, ProofMarked, Close, SelfCheck, MeansCommand, MeansOneCommand, HasNumbersInRange, AsksFor, words, words_of, spelling}
 
 abbrev pub NoSpace : List ℕ → Type 0
 NoSpace word = All (λ b. (b == 32) ≡ false) word

@@ -1,17 +1,17 @@
 -- Names that are in order, and what is accepted then.
 use Rattle.std.proofs.Common.{◌≡◌, ℕ, zero, suc, ◌+◌, ◌-◌, ◌*◌, ◌%◌, ◌<◌, ◌≤◌, nat_lt, max, if◌then◌else◌, false, List, [], ◌∷◌, ◌++◌, inl, inr, ⊎_elim, sym, ap, ◌∙◌, subst, refl, Some, map, arith, rules, ◌⊎◌, None}
 use Rattle.std.proofs.lemmas.Bool.{lt-ltb, cases_lt, eq-eqb}
-use Rattle.varisat_theory.specs.Membership.{◌∈◌}
-use Rattle.varisat_theory.specs.Literals.{Literal, variable_of}
-use Rattle.varisat_theory.proofs.Members.{equal_or_not}
-use Rattle.varisat_names.specs.Maps.{updated}
+use Rattle.varisat_theory.specs.promises.Membership.{◌∈◌}
+use Rattle.varisat_theory.specs.promises.Literals.{Literal, variable_of}
+use Rattle.varisat_theory.proofs.clauses.Members.{equal_or_not}
+use Rattle.varisat_names.specs.promises.Maps.{updated}
 use Rattle.varisat_names.proofs.Maps.{updated-other}
-use Rattle.varisat_solver.specs.Names.{Naming, Sample, bring, bring_next, bring_if_free, name_one, name_all, identity_of, through_names, IsLeastFree, AreInOrder, no_names}
-use Rattle.varisat.specs.Counts.{count_with}
-use Rattle.varisat_literals.specs.Numbers.{variable_limit}
-use Rattle.varisat_solver.specs.Models.{AreNamesInUse}
-use Rattle.varisat_solver.specs.Calls.{IsPastLimit}
-use Rattle.varisat.specs.Laws.{NamesStayInOrder, NamesAreIdentities, GivenIsAccepted, CrowdedIsPastLimit}
+use Rattle.varisat_solver.specs.promises.Names.{Naming, Sample, bring, bring_next, bring_if_free, name_one, name_all, identity_of, through_names, IsLeastFree, AreInOrder, no_names}
+use Rattle.varisat.specs.inside.Counts.{count_with}
+use Rattle.varisat_literals.specs.promises.Numbers.{variable_limit}
+use Rattle.varisat_solver.specs.promises.Models.{AreNamesInUse}
+use Rattle.varisat_solver.specs.promises.Calls.{IsPastLimit}
+use Rattle.varisat.specs.inside.Laws.{NamesStayInOrder, NamesAreIdentities, GivenIsAccepted, CrowdedIsPastLimit}
 
 -- Names that come into use, where those in use are the ones below a count, in order.
 

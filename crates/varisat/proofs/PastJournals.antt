@@ -1,14 +1,14 @@
 -- What a past says of the journal.
 use Rattle.std.proofs.Common.{◌≡◌, ℕ, ◌+◌, ◌≤◌, List, [], ◌++◌, sym, ap, ◌∙◌, subst, arith}
 use Rattle.std.proofs.lemmas.List.{append-nil, append_cancel_left}
-use Rattle.varisat_theory.specs.Literals.{Clause}
-use Rattle.varisat_theory.specs.Counted.{added}
-use Rattle.varisat_theory.specs.Journals.{Entry, Leads, lines_of}
-use Rattle.varisat_theory.specs.NewClauses.{GoesOnAdding}
-use Rattle.varisat_theory.proofs.Journals.{leads_append, by_leads, lines_append}
-use Rattle.varisat_theory.proofs.NewClauses.{adding_leads, adding_adds}
-use Rattle.varisat_theory.proofs.StepAccounts.{added_append}
-use Rattle.varisat_solver.specs.Journals.{LogsMore, AreDerived}
+use Rattle.varisat_theory.specs.promises.Literals.{Clause}
+use Rattle.varisat_theory.specs.promises.Counted.{added}
+use Rattle.varisat_theory.specs.promises.Journals.{Entry, Leads, lines_of}
+use Rattle.varisat_theory.specs.promises.NewClauses.{GoesOnAdding}
+use Rattle.varisat_theory.proofs.journals.Journals.{leads_append, by_leads, lines_append}
+use Rattle.varisat_theory.proofs.journals.NewClauses.{adding_leads, adding_adds}
+use Rattle.varisat_theory.proofs.steps.StepAccounts.{added_append}
+use Rattle.varisat_solver.specs.promises.Journals.{LogsMore, AreDerived}
 
 -- What was told leads somewhere, and its lines add at least as many clauses as interrupted calls made steps.
 pub record KnowsLogged (logged : List Entry) (interrupted : ℕ) : Type 0 where

@@ -3,35 +3,35 @@ use Rattle.std.proofs.Common.{◌≡◌, ◌≢◌, ℕ, zero, suc, ◌≤◌, �
 use Rattle.std.proofs.lemmas.Bool.{false_from_ne_true}
 use Rattle.std.proofs.lemmas.List.{append-nil}
 use Rattle.std.specs.declared.alloc.AllocError.{AllocError}
-use Rattle.varisat_theory.specs.Membership.{◌⊆◌}
-use Rattle.varisat_theory.specs.Literals.{Literal, Clause, Assignment, variable_of, IsSatisfiable}
-use Rattle.varisat_theory.specs.Journals.{Accepts, Assumes}
+use Rattle.varisat_theory.specs.promises.Membership.{◌⊆◌}
+use Rattle.varisat_theory.specs.promises.Literals.{Literal, Clause, Assignment, variable_of, IsSatisfiable}
+use Rattle.varisat_theory.specs.promises.Journals.{Accepts, Assumes}
 use Rattle.varisat_formula.specs.declared.dimacs.error.DimacsError.{DimacsError}
-use Rattle.varisat_formula.specs.Dimacs.{Reading}
-use Rattle.varisat_formula.specs.Streams.{Input, Taken}
+use Rattle.varisat_formula.specs.promises.Dimacs.{Reading}
+use Rattle.varisat_formula.specs.promises.Streams.{Input, Taken}
 use Rattle.varisat_proof.specs.declared.proof.format.ProofFormat.{ProofFormat}
-use Rattle.varisat_proof.specs.Assumed.{lists_of}
+use Rattle.varisat_proof.specs.promises.Assumed.{lists_of}
 use Rattle.varisat_names.specs.declared.config.SolverConfigUpdate.{SolverConfigUpdate}
 use Rattle.varisat_names.proofs.Maps.{updated-other, updated-all}
-use Rattle.varisat_solver.specs.OpenProofs.{OpenProof, BarsAssumptions}
-use Rattle.varisat_solver.specs.ProofCalls.{OpensProof, EnablesChecking, IsProofIfOpen, Closes}
-use Rattle.varisat_solver.specs.States.{Known, State, Ledger, Verdict, Unknown, Sat, Unsat, UnsatUnderAssumptions, new_state, IsRight, HasRightVerdict}
-use Rattle.varisat_solver.specs.Names.{Naming, Mode, bring, bring_next, bring_if_free, name_one, name_all, through_names, free_name, set_mode, give_name, AreShown}
-use Rattle.varisat_solver.specs.Models.{list_names, model_of, IsCompletable}
-use Rattle.varisat_solver.specs.Additions as additions
-use Rattle.varisat_solver.specs.Additions.{AllAdded, OneRefused, RefusedAtOnce, NoFault, MemoryFault, Fault, ClauseRefused, ClausesAdded, RefusedEarly, Read, Unread}
-use Rattle.varisat_solver.specs.Calls as state
-use Rattle.varisat_solver.specs.Calls.{by_state, IsValid, Invalidates, IsLikeButLeft, IsLike, Ignored, Accepted, MayAccept, TakesOne, TakesList, ReturnsList, IsRefuted, RefusesNames, accept, count_anew, start, with_naming, answer_of, reopened_verdict, assumed_verdict, VerdictAfter}
-use Rattle.varisat.specs.Pasts as past
-use Rattle.varisat.specs.Pasts.{Findings, Past, MayReturnModel, MayReturnCore, by_answers}
-use Rattle.varisat_solver.specs.Usage as usage
+use Rattle.varisat_solver.specs.promises.OpenProofs.{OpenProof, BarsAssumptions}
+use Rattle.varisat_solver.specs.promises.ProofCalls.{OpensProof, EnablesChecking, IsProofIfOpen, Closes}
+use Rattle.varisat_solver.specs.promises.States.{Known, State, Ledger, Verdict, Unknown, Sat, Unsat, UnsatUnderAssumptions, new_state, IsRight, HasRightVerdict}
+use Rattle.varisat_solver.specs.promises.Names.{Naming, Mode, bring, bring_next, bring_if_free, name_one, name_all, through_names, free_name, set_mode, give_name, AreShown}
+use Rattle.varisat_solver.specs.promises.Models.{list_names, model_of, IsCompletable}
+use Rattle.varisat_solver.specs.promises.Additions as additions
+use Rattle.varisat_solver.specs.promises.Additions.{AllAdded, OneRefused, RefusedAtOnce, NoFault, MemoryFault, Fault, ClauseRefused, ClausesAdded, RefusedEarly, Read, Unread}
+use Rattle.varisat_solver.specs.promises.Calls as state
+use Rattle.varisat_solver.specs.promises.Calls.{by_state, IsValid, Invalidates, IsLikeButLeft, IsLike, Ignored, Accepted, MayAccept, TakesOne, TakesList, ReturnsList, IsRefuted, RefusesNames, accept, count_anew, start, with_naming, answer_of, reopened_verdict, assumed_verdict, VerdictAfter}
+use Rattle.varisat.specs.promises.Pasts as past
+use Rattle.varisat.specs.promises.Pasts.{Findings, Past, MayReturnModel, MayReturnCore, by_answers}
+use Rattle.varisat_solver.specs.promises.Usage as usage
 use Rattle.varisat_solver.specs.declared.solver.SolverError.{SolverError}
 use Rattle.varisat_solver.specs.declared.solver.SolverError.TheVariants.{ProofIoError, OutOfMemory, Invalid, ClauseStoreFull, WitnessVar, VariableLimit, AssumedVar, ClauseAfterSolve, ProofOpen, ProofTooLate, ConfigOutOfRange}
-use Rattle.varisat_solver.proofs.CallStates.{same-assumptions, same-clauses, same-counted, same-naming, same-verdict}
-use Rattle.varisat_solver.proofs.LoggedEntries.{logs-through, logs, accepts-goes, assumes-goes, lists-append, lists-derived, lists-on}
+use Rattle.varisat_solver.proofs.calls.CallStates.{same-assumptions, same-clauses, same-counted, same-naming, same-verdict}
+use Rattle.varisat_solver.proofs.entries.LoggedEntries.{logs-through, logs, accepts-goes, assumes-goes, lists-append, lists-derived, lists-on}
 use Rattle.varisat.proofs.PastJournals.{KnowsLogged, logged-more}
-use Rattle.varisat_solver.proofs.SearchVerdicts.{logged-fails, core-answer, no-core, reopened-core, assumed-no-core, reopened-not-true, reopened-false, right-reopened, assumed-not-true, right-assumed}
-use Rattle.varisat_solver.proofs.ModelsFit.{completable}
+use Rattle.varisat_solver.proofs.steps.SearchVerdicts.{logged-fails, core-answer, no-core, reopened-core, assumed-no-core, reopened-not-true, reopened-false, right-reopened, assumed-not-true, right-assumed}
+use Rattle.varisat_solver.proofs.calls.ModelsFit.{completable}
 
 -- 1. No name is in use from the watermark on.
 

@@ -1,7 +1,7 @@
 -- Lists of literals that are printed one after the other.
 use Rattle.std.proofs.Common.{◌≡◌, ℕ, zero, suc, ◌<◌, ◌≤◌, List, [], ◌∷◌, ◌++◌, get_or, take, length, flat_map, refl, sym, ap, ◌∙◌, append_assoc, arith}
 use Rattle.std.proofs.lemmas.Grind.{flat_map-append}
-use Rattle.varisat_solver.proofs.ReadPlaces.{split-item}
+use Rattle.varisat_solver.proofs.calls.ReadPlaces.{split-item}
 
 -- what comes behind the text of one item
 pub behind-item : (f : ℕ → List ℕ) (end : List ℕ) (xs : List ℕ) (i v : ℕ) → i < length xs → v ≡ get_or xs i v → (more : List ℕ)

@@ -2,43 +2,43 @@
 use Rattle.std.proofs.Common.{List, [], ◌∷◌, ◌++◌, Bool, ◌≡◌, ℕ, ◌+◌, ◌-◌, ◌*◌, ◌^◌, ◌<◌, ◌≤◌, max, min, length, ⊎_elim, Err, true, false, ◌⊎◌, inl, inr, sym, ap, ◌∙◌, subst, refl, Option, Some, None, Result, Ok, map, append_assoc, append-nil, arith}
 use Rattle.std.proofs.lemmas.List.{append_cancel_left}
 use Rattle.std.proofs.Math.Pow.{pow_mono}
-use Rattle.varisat_theory.specs.Literals.{Clause, Literal, Assignment, variable_of, MakesTrue, SatisfiesAll, IsSatisfiable}
-use Rattle.varisat_theory.specs.Derivations.{Line, IsDerivation, Refutes}
-use Rattle.varisat_theory.specs.Held.{SameClauses}
-use Rattle.varisat_theory.proofs.Held.{same_set-self, same_clauses-self, same_clauses-back, put_back}
-use Rattle.varisat_theory.proofs.Lines.{derivation_derives, derives_derivation, derives_beside, derives_same, refutes_beside, refutes_same, same_lines-self}
-use Rattle.varisat_theory.specs.Membership.{◌∈◌, ◌⊆◌, IsDistinct}
-use Rattle.varisat_theory.proofs.Members.{∈-append_cases}
-use Rattle.varisat_theory.proofs.Count.{length-distinct}
-use Rattle.varisat_theory.proofs.Assigned.{satisfies_fewer}
-use Rattle.varisat_formula.specs.Dimacs.{Reading, dimacs}
-use Rattle.varisat_formula.specs.Streams.{Input, Taken, Reads, HasEnded}
+use Rattle.varisat_theory.specs.promises.Literals.{Clause, Literal, Assignment, variable_of, MakesTrue, SatisfiesAll, IsSatisfiable}
+use Rattle.varisat_theory.specs.promises.Derivations.{Line, IsDerivation, Refutes}
+use Rattle.varisat_theory.specs.promises.Held.{SameClauses}
+use Rattle.varisat_theory.proofs.clauses.Held.{same_set-self, same_clauses-self, same_clauses-back, put_back}
+use Rattle.varisat_theory.proofs.clauses.Lines.{derivation_derives, derives_derivation, derives_beside, derives_same, refutes_beside, refutes_same, same_lines-self}
+use Rattle.varisat_theory.specs.promises.Membership.{◌∈◌, ◌⊆◌, IsDistinct}
+use Rattle.varisat_theory.proofs.clauses.Members.{∈-append_cases}
+use Rattle.varisat_theory.proofs.bounds.Count.{length-distinct}
+use Rattle.varisat_theory.proofs.clauses.Assigned.{satisfies_fewer}
+use Rattle.varisat_formula.specs.promises.Dimacs.{Reading, dimacs}
+use Rattle.varisat_formula.specs.promises.Streams.{Input, Taken, Reads, HasEnded}
 use Rattle.varisat_formula.proofs.ParsedSources.{gives_whole}
 use Rattle.varisat_names.specs.declared.config.SolverConfigUpdate.{SolverConfigUpdate}
-use Rattle.varisat_names.specs.Settings.{Settings, no_update}
+use Rattle.varisat_names.specs.promises.Settings.{Settings, no_update}
 use Rattle.varisat_proof.specs.declared.proof.format.ProofFormat.{ProofFormat}
-use Rattle.varisat_solver.specs.ProofCalls.{OpensProof, EnablesChecking}
-use Rattle.varisat.specs.Proven.{file_update, configured, prepared, Concludes}
-use Rattle.varisat_solver.specs.States.{State, Ledger, join_counted, empty_state, new_state}
-use Rattle.varisat_solver.specs.Names.{Naming, AreInOrder}
-use Rattle.varisat_solver.specs.Models.{IsCompletable}
-use Rattle.varisat.specs.Counts.{count_with}
-use Rattle.varisat_solver.specs.ClauseCalls.{AddsDimacs}
-use Rattle.varisat_solver.specs.OpenProofs.{OpenProof, first_proof}
-use Rattle.varisat_solver.specs.Calls.{by_state, count_anew, Ignored, Accepted}
-use Rattle.varisat_solver.specs.Additions.{NoFault, MemoryFault, Fault, ClauseRefused, ClausesAdded, RefusedEarly, Read, Unread}
-use Rattle.varisat.specs.Pasts.{Findings, Past, empty_past, by_answers}
-use Rattle.varisat_solver.specs.Budgets.{CountsSteps}
-use Rattle.varisat.specs.Decided.{IsUpToHighest, IsModel, named_variables, allowed_steps, Conclusion, Decided, Unknown, IsConclusion, Decides, StatusIsTrue, conclusion_status}
+use Rattle.varisat_solver.specs.promises.ProofCalls.{OpensProof, EnablesChecking}
+use Rattle.varisat.specs.promises.Proven.{file_update, configured, prepared, Concludes}
+use Rattle.varisat_solver.specs.promises.States.{State, Ledger, join_counted, empty_state, new_state}
+use Rattle.varisat_solver.specs.promises.Names.{Naming, AreInOrder}
+use Rattle.varisat_solver.specs.promises.Models.{IsCompletable}
+use Rattle.varisat.specs.inside.Counts.{count_with}
+use Rattle.varisat_solver.specs.promises.ClauseCalls.{AddsDimacs}
+use Rattle.varisat_solver.specs.promises.OpenProofs.{OpenProof, first_proof}
+use Rattle.varisat_solver.specs.promises.Calls.{by_state, count_anew, Ignored, Accepted}
+use Rattle.varisat_solver.specs.promises.Additions.{NoFault, MemoryFault, Fault, ClauseRefused, ClausesAdded, RefusedEarly, Read, Unread}
+use Rattle.varisat.specs.promises.Pasts.{Findings, Past, empty_past, by_answers}
+use Rattle.varisat_solver.specs.promises.Budgets.{CountsSteps}
+use Rattle.varisat.specs.promises.Decided.{IsUpToHighest, IsModel, named_variables, allowed_steps, Conclusion, Decided, Unknown, IsConclusion, Decides, StatusIsTrue, conclusion_status}
 use Rattle.varisat_solver.specs.declared.solver.SolverError.{SolverError}
 use Rattle.varisat_solver.specs.declared.solver.SolverError.TheVariants.{Interrupted, Invalid, ConfigOutOfRange, ProofOpen, ProofTooLate}
-use Rattle.varisat_solver.proofs.CallStates.{same-assumptions, same-clauses, same-counted, same-ledger, same-naming}
+use Rattle.varisat_solver.proofs.calls.CallStates.{same-assumptions, same-clauses, same-counted, same-ledger, same-naming}
 use Rattle.varisat.proofs.NameLaws.{stay-in-order, count-above, count-within, through-all, none-in-order, in-use-below}
-use Rattle.varisat_solver.proofs.Counted.{join-more, join-has, join-only, join-once}
+use Rattle.varisat_solver.proofs.calls.Counted.{join-more, join-has, join-only, join-once}
 use Rattle.varisat.proofs.Pasts.{Agrees, past_of, stays-but, add-text, tell-model, new-agrees}
 use Rattle.varisat.proofs.SolvedPasts.{solve}
-use Rattle.varisat_solver.specs.Calls as state
-use Rattle.varisat_solver.specs.Additions as additions
+use Rattle.varisat_solver.specs.promises.Calls as state
+use Rattle.varisat_solver.specs.promises.Additions as additions
 
 -- Lines that are a proof from some clauses, and stay one from these and others.
 

@@ -1,34 +1,34 @@
 -- What deciding a text leaves in the target of a proof, and how it fails.
 use Rattle.std.proofs.Common.{◌≡◌, ◌≢◌, ◌∙◌, ℕ, true, false, List, [], ◌∷◌, ◌++◌, Some, None, inl, inr, refl, sym, ap, subst, append-nil, append_assoc, Bool, Option, Ok, Err}
 use Rattle.std.proofs.lemmas.List.{append_cancel_left}
-use Rattle.varisat_theory.specs.Literals.{Clause, Literal}
-use Rattle.varisat_formula.specs.Dimacs.{Reading, dimacs}
-use Rattle.varisat_formula.specs.Streams.{Input, Taken}
+use Rattle.varisat_theory.specs.promises.Literals.{Clause, Literal}
+use Rattle.varisat_formula.specs.promises.Dimacs.{Reading, dimacs}
+use Rattle.varisat_formula.specs.promises.Streams.{Input, Taken}
 use Rattle.varisat_formula.proofs.ParsedSources.{gives_whole}
-use Rattle.varisat_solver.specs.States.{State, Unknown, Unsat, Ledger, Verdict, Sat, UnsatUnderAssumptions, IsRight}
-use Rattle.varisat_solver.specs.Names.{AreInOrder}
-use Rattle.varisat.specs.Counts.{count_with}
-use Rattle.varisat_solver.specs.ClauseCalls.{AddsDimacs}
-use Rattle.varisat_solver.specs.Calls.{by_state, IsValid, IsRefuted, ReturnsVerdict}
-use Rattle.varisat_solver.specs.Additions.{AddsAll, NoFault, MemoryFault, Fault, ClauseRefused, ClausesAdded, RefusedEarly, Read, Unread}
-use Rattle.varisat.specs.Decided.{Conclusion, allowed_steps}
-use Rattle.varisat.specs.Proven.{Concludes, prepared, Reports, IsProven, IsProvenIf, DecidesProven, Fails, AsSearched, AsListed}
-use Rattle.varisat_solver.proofs.CallStates.{same-clauses, same-naming, same-assumptions, same-hidden, same-ledger}
+use Rattle.varisat_solver.specs.promises.States.{State, Unknown, Unsat, Ledger, Verdict, Sat, UnsatUnderAssumptions, IsRight}
+use Rattle.varisat_solver.specs.promises.Names.{AreInOrder}
+use Rattle.varisat.specs.inside.Counts.{count_with}
+use Rattle.varisat_solver.specs.promises.ClauseCalls.{AddsDimacs}
+use Rattle.varisat_solver.specs.promises.Calls.{by_state, IsValid, IsRefuted, ReturnsVerdict}
+use Rattle.varisat_solver.specs.promises.Additions.{AddsAll, NoFault, MemoryFault, Fault, ClauseRefused, ClausesAdded, RefusedEarly, Read, Unread}
+use Rattle.varisat.specs.promises.Decided.{Conclusion, allowed_steps}
+use Rattle.varisat.specs.promises.Proven.{Concludes, prepared, Reports, IsProven, IsProvenIf, DecidesProven, Fails, AsSearched, AsListed}
+use Rattle.varisat_solver.proofs.calls.CallStates.{same-clauses, same-naming, same-assumptions, same-hidden, same-ledger}
 use Rattle.varisat.proofs.NameLaws.{stay-in-order, none-in-order}
 use Rattle.varisat.proofs.ProgramDecides.{done, Carries, prepared-begun, unsearched, found}
-use Rattle.varisat_theory.specs.Membership.{◌⊆◌}
-use Rattle.varisat_theory.specs.Journals.{lines_of}
-use Rattle.varisat_proof.specs.Logging.{logged_bytes}
+use Rattle.varisat_theory.specs.promises.Membership.{◌⊆◌}
+use Rattle.varisat_theory.specs.promises.Journals.{lines_of}
+use Rattle.varisat_proof.specs.promises.Logging.{logged_bytes}
 use Rattle.varisat_proof.specs.declared.proof.format.ProofFormat.{ProofFormat}
-use Rattle.varisat_proof.specs.Proving.{OpenState, IsClosed}
-use Rattle.varisat_solver.specs.OpenProofs.{OpenProof, opened_state, GoesOnWriting, searched_under, first_proof}
-use Rattle.varisat_solver.specs.ProofCalls.{IsProofIfOpen}
+use Rattle.varisat_proof.specs.promises.Proving.{OpenState, IsClosed}
+use Rattle.varisat_solver.specs.promises.OpenProofs.{OpenProof, opened_state, GoesOnWriting, searched_under, first_proof}
+use Rattle.varisat_solver.specs.promises.ProofCalls.{IsProofIfOpen}
 use Rattle.varisat_solver.specs.declared.solver.SolverError.{SolverError}
 use Rattle.varisat_solver.specs.declared.solver.SolverError.TheVariants.{Interrupted, ProofIoError, OutOfMemory, Invalid, ClauseStoreFull, WitnessVar, VariableLimit, AssumedVar, ClauseAfterSolve, ProofOpen, ProofTooLate, ConfigOutOfRange, Dimacs}
-use Rattle.varisat_solver.proofs.OpenProofs.{goes-on-none, goes-on-through, plain-bytes}
-use Rattle.varisat_solver.specs.Calls as state
-use Rattle.varisat_solver.specs.Additions as additions
-use Rattle.varisat.specs.Decided as conclusion
+use Rattle.varisat_solver.proofs.entries.OpenProofs.{goes-on-none, goes-on-through, plain-bytes}
+use Rattle.varisat_solver.specs.promises.Calls as state
+use Rattle.varisat_solver.specs.promises.Additions as additions
+use Rattle.varisat.specs.promises.Decided as conclusion
 
 -- Which clauses of a text are accepted: the first ones, and all but where these are known to be unsatisfiable.
 

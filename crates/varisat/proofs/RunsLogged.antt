@@ -1,32 +1,32 @@
 -- What the calls of a run tell together.
 use Rattle.std.proofs.Common.{List, [], ◌∷◌, ◌++◌, refl, subst, ◌≡◌, ℕ, ◌+◌, ◌-◌, Bool, true, false, Option, None, map, inl, inr, Result, Ok, Err, sym, ap, ◌∙◌, arith}
 use Rattle.std.specs.declared.alloc.AllocError.{AllocError}
-use Rattle.varisat_formula.specs.Streams.{Input, Taken}
-use Rattle.varisat_solver.specs.States.{State, Ledger, empty_state}
-use Rattle.varisat_solver.specs.Calls.{IsValid}
-use Rattle.varisat_solver.specs.Journals.{IsJournal, IsLoggedWithin, LogsMore}
-use Rattle.varisat.specs.Runs.{MakesCall, Run, MayStillFail, AreReady}
+use Rattle.varisat_formula.specs.promises.Streams.{Input, Taken}
+use Rattle.varisat_solver.specs.promises.States.{State, Ledger, empty_state}
+use Rattle.varisat_solver.specs.promises.Calls.{IsValid}
+use Rattle.varisat_solver.specs.promises.Journals.{IsJournal, IsLoggedWithin, LogsMore}
+use Rattle.varisat.specs.promises.Runs.{MakesCall, Run, MayStillFail, AreReady}
 use Rattle.varisat.specs.declared.session.Call.{Call}
 use Rattle.varisat.specs.declared.session.Answer.{Answer}
-use Rattle.varisat_theory.specs.Literals.{Literal, Clause}
-use Rattle.varisat_theory.specs.Journals.{Accepts, Assumes, LeadsBy}
-use Rattle.varisat_formula.specs.Dimacs.{Reading}
-use Rattle.varisat_solver.specs.Additions.{AddsAll, ReturnsFault, AllAdded, OneRefused, RefusedAtOnce, NoFault, MemoryFault, Fault, ClauseRefused, ClausesAdded, RefusedEarly, Read, Unread}
-use Rattle.varisat_solver.specs.ClauseCalls.{AddsDimacs, AddsFormula}
-use Rattle.varisat_solver.specs.Names.{Naming, Sample, Witness, set_mode, free_name, name_all, through_names}
-use Rattle.varisat_solver.specs.ReturnedLists.{returned_list, returned_variables}
+use Rattle.varisat_theory.specs.promises.Literals.{Literal, Clause}
+use Rattle.varisat_theory.specs.promises.Journals.{Accepts, Assumes, LeadsBy}
+use Rattle.varisat_formula.specs.promises.Dimacs.{Reading}
+use Rattle.varisat_solver.specs.promises.Additions.{AddsAll, ReturnsFault, AllAdded, OneRefused, RefusedAtOnce, NoFault, MemoryFault, Fault, ClauseRefused, ClausesAdded, RefusedEarly, Read, Unread}
+use Rattle.varisat_solver.specs.promises.ClauseCalls.{AddsDimacs, AddsFormula}
+use Rattle.varisat_solver.specs.promises.Names.{Naming, Sample, Witness, set_mode, free_name, name_all, through_names}
+use Rattle.varisat_solver.specs.promises.ReturnedLists.{returned_list, returned_variables}
 use Rattle.varisat_names.specs.declared.config.SolverConfigUpdate.{SolverConfigUpdate}
 use Rattle.varisat_formula.specs.declared.dimacs.error.DimacsError.{DimacsError}
 use Rattle.varisat_proof.specs.declared.proof.format.ProofFormat.{ProofFormat}
-use Rattle.varisat_solver.specs.ProofCalls.{with_proof, OpensProof, EnablesChecking, ClosesProof}
+use Rattle.varisat_solver.specs.promises.ProofCalls.{with_proof, OpensProof, EnablesChecking, ClosesProof}
 use Rattle.varisat_solver.specs.declared.solver.SolverError.{SolverError}
 use Rattle.varisat_solver.specs.declared.solver.SolverError.TheVariants.{OutOfMemory, Invalid, ProofIoError, ClauseStoreFull, WitnessVar, AssumedVar, VariableLimit, ClauseAfterSolve, ProofOpen, ProofTooLate, Interrupted, ConfigOutOfRange}
-use Rattle.varisat_theory.proofs.Journals.{by_leads, by_leads_append}
-use Rattle.varisat_solver.proofs.CallStates.{same-ledger}
-use Rattle.varisat_solver.proofs.LoggedEntries.{logs-nothing, logs-through, logs, accepts-goes, assumes-goes}
-use Rattle.varisat_solver.specs.Additions as additions
-use Rattle.varisat_solver.specs.Usage as usage
-use Rattle.varisat_solver.specs.Calls as state
+use Rattle.varisat_theory.proofs.journals.Journals.{by_leads, by_leads_append}
+use Rattle.varisat_solver.proofs.calls.CallStates.{same-ledger}
+use Rattle.varisat_solver.proofs.entries.LoggedEntries.{logs-nothing, logs-through, logs, accepts-goes, assumes-goes}
+use Rattle.varisat_solver.specs.promises.Additions as additions
+use Rattle.varisat_solver.specs.promises.Usage as usage
+use Rattle.varisat_solver.specs.promises.Calls as state
 use Rattle.varisat.specs.declared.session.Call.TheVariants as call
 use Rattle.varisat.specs.declared.session.Answer.TheVariants as answer
 

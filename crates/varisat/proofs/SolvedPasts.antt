@@ -1,22 +1,22 @@
 -- What an answer of `solve` says of the state that a solver is in.
 use Rattle.std.proofs.Common.{◌≡◌, ◌≢◌, ℕ, ◌+◌, ◌-◌, arith, Bool, true, false, not, List, [], ◌∷◌, ◌⊎◌, inl, inr, ⊎_elim, sym, ap, ◌∙◌, subst, refl, Some, None, Result, Ok, Err}
 use Rattle.std.proofs.lemmas.Bool.{not-true, false_from_ne_true}
-use Rattle.varisat_theory.specs.Membership.{◌⊆◌}
-use Rattle.varisat_theory.specs.Literals.{Literal, SatisfiesAll, MakesTrue, IsSatisfiable, IsSatisfiableWith}
-use Rattle.varisat_proof.specs.Passing.{LogsConflict}
-use Rattle.varisat_proof.specs.Assumed.{lists_of}
-use Rattle.varisat_solver.specs.States.{State, Ledger, Verdict, Unknown, Sat, Unsat, UnsatUnderAssumptions, IsRight}
-use Rattle.varisat_solver.specs.Journals.{with_entries, AreDerived, EndBy}
-use Rattle.varisat_solver.specs.Calls.{by_state, CountsIf, Decided, Searched, ReturnsVerdict, IsSpent, FailsStep, Solves, with_steps, with_verdict, once_searched, answer_of}
-use Rattle.varisat.specs.Pasts as past
-use Rattle.varisat.specs.Pasts.{Findings, IsAnswer, LogsFalse, by_answers}
+use Rattle.varisat_theory.specs.promises.Membership.{◌⊆◌}
+use Rattle.varisat_theory.specs.promises.Literals.{Literal, SatisfiesAll, MakesTrue, IsSatisfiable, IsSatisfiableWith}
+use Rattle.varisat_proof.specs.promises.Passing.{LogsConflict}
+use Rattle.varisat_proof.specs.promises.Assumed.{lists_of}
+use Rattle.varisat_solver.specs.promises.States.{State, Ledger, Verdict, Unknown, Sat, Unsat, UnsatUnderAssumptions, IsRight}
+use Rattle.varisat_solver.specs.promises.Journals.{with_entries, AreDerived, EndBy}
+use Rattle.varisat_solver.specs.promises.Calls.{by_state, CountsIf, Decided, Searched, ReturnsVerdict, IsSpent, FailsStep, Solves, with_steps, with_verdict, once_searched, answer_of}
+use Rattle.varisat.specs.promises.Pasts as past
+use Rattle.varisat.specs.promises.Pasts.{Findings, IsAnswer, LogsFalse, by_answers}
 use Rattle.varisat_solver.specs.declared.solver.SolverError.{SolverError}
 use Rattle.varisat_solver.specs.declared.solver.SolverError.TheVariants.{Interrupted, ProofIoError, OutOfMemory, Invalid, ClauseStoreFull}
-use Rattle.varisat_solver.proofs.StepEntries.{goes-adding}
-use Rattle.varisat_solver.proofs.CallStates.{same-assumptions, same-clauses, same-counted, same-ledger, same-naming, same-verdict}
-use Rattle.varisat_solver.proofs.SearchVerdicts.{is-unknown-or-not, answer-sat, right-false}
+use Rattle.varisat_solver.proofs.entries.StepEntries.{goes-adding}
+use Rattle.varisat_solver.proofs.calls.CallStates.{same-assumptions, same-clauses, same-counted, same-ledger, same-naming, same-verdict}
+use Rattle.varisat_solver.proofs.steps.SearchVerdicts.{is-unknown-or-not, answer-sat, right-false}
 use Rattle.varisat.proofs.PastJournals.{logged-more, logged-interrupted, nothing-said}
-use Rattle.varisat_solver.proofs.LoggedEntries.{lists-derived, lists-ended, lists-on}
+use Rattle.varisat_solver.proofs.entries.LoggedEntries.{lists-derived, lists-ended, lists-on}
 use Rattle.varisat.proofs.Pasts.{IsCapped, Knows, Agrees, Leads, past_of, like-past, broken-past, breaks, stays, refuted, right-like}
 
 -- the findings once the answer was returned

@@ -2,40 +2,40 @@
 use Rattle.std.proofs.Common.{◌≡◌, ◌≢◌, ℕ, Bool, true, false, List, [], ◌∷◌, ◌++◌, inl, inr, ⊎_elim, sym, ap, ◌∙◌, subst, refl, Option, Some, None, Result, Ok, Err, map, Vec}
 use Rattle.std.specs.Result.{IfOk}
 use Rattle.std.specs.declared.alloc.AllocError.{AllocError}
-use Rattle.varisat_theory.specs.Membership.{◌⊆◌}
-use Rattle.varisat_theory.specs.Literals.{Literal, Clause, variable_of}
-use Rattle.varisat_theory.proofs.Members.{∈-append_left, ∈-append_right}
+use Rattle.varisat_theory.specs.promises.Membership.{◌⊆◌}
+use Rattle.varisat_theory.specs.promises.Literals.{Literal, Clause, variable_of}
+use Rattle.varisat_theory.proofs.clauses.Members.{∈-append_left, ∈-append_right}
 use Rattle.varisat_formula.specs.declared.dimacs.error.DimacsError.{DimacsError}
-use Rattle.varisat_formula.specs.Streams.{Input, Taken}
+use Rattle.varisat_formula.specs.promises.Streams.{Input, Taken}
 use Rattle.varisat_proof.specs.declared.proof.format.ProofFormat.{ProofFormat}
 use Rattle.varisat_names.specs.declared.config.SolverConfigUpdate.{SolverConfigUpdate}
-use Rattle.varisat_solver.specs.OpenProofs.{OpenProof, BarsAssumptions}
-use Rattle.varisat_solver.specs.Journals.{with_entries}
-use Rattle.varisat_solver.specs.ProofCalls.{OpensProof, EnablesChecking, Closes}
-use Rattle.varisat_solver.specs.States.{State, Ledger, Verdict, Unsat, IsRight, HasRightVerdict, join_counted}
-use Rattle.varisat_solver.specs.Models.{IsCompletable, IsReturnedCore}
-use Rattle.varisat_solver.specs.Names.{Naming, Mode, Sample, Witness, name_one, name_all, through_names, set_mode, free_name, IsLeastFree, AreShown}
-use Rattle.varisat_solver.specs.Additions as additions
-use Rattle.varisat_solver.specs.Additions.{AllAdded, OneRefused, RefusedAtOnce, NoFault, MemoryFault, Fault, ClauseRefused, ClausesAdded, RefusedEarly, Read, Unread}
-use Rattle.varisat_solver.specs.Calls as state
-use Rattle.varisat_solver.specs.Calls.{is_valid, IsValid, Invalidates, IsRefusedInvalid, IsLikeButLeft, Ignored, Accepted, TakesClause, TakesOne, TakesList, ReturnsList, RefusesNames, ReturnsVerdict, IsSpent, Solves, VerdictAfter, answer_of, by_state}
-use Rattle.varisat_solver.specs.Usage as usage
-use Rattle.varisat_solver.specs.ReturnedLists.{returned_list, returned_variables}
-use Rattle.varisat.specs.Turns.{Makes}
-use Rattle.varisat_solver.specs.Summaries.{Summary, Represents}
-use Rattle.varisat.specs.Runs.{Run, found_in, story_now}
-use Rattle.varisat.specs.Answers.{Story, with_names, reopened, with_clause, with_assumptions, ended, IsRefused, Outcome, Accepts, Joined, PassedOver, AcceptsAll, EndsText, AcceptsText, ToItsEnd, ToARefusal, IfValid, IsTrueAnswer, IsTrueModel, IsTrueCore, IsAnswered, AreAnswered}
+use Rattle.varisat_solver.specs.promises.OpenProofs.{OpenProof, BarsAssumptions}
+use Rattle.varisat_solver.specs.promises.Journals.{with_entries}
+use Rattle.varisat_solver.specs.promises.ProofCalls.{OpensProof, EnablesChecking, Closes}
+use Rattle.varisat_solver.specs.promises.States.{State, Ledger, Verdict, Unsat, IsRight, HasRightVerdict, join_counted}
+use Rattle.varisat_solver.specs.promises.Models.{IsCompletable, IsReturnedCore}
+use Rattle.varisat_solver.specs.promises.Names.{Naming, Mode, Sample, Witness, name_one, name_all, through_names, set_mode, free_name, IsLeastFree, AreShown}
+use Rattle.varisat_solver.specs.promises.Additions as additions
+use Rattle.varisat_solver.specs.promises.Additions.{AllAdded, OneRefused, RefusedAtOnce, NoFault, MemoryFault, Fault, ClauseRefused, ClausesAdded, RefusedEarly, Read, Unread}
+use Rattle.varisat_solver.specs.promises.Calls as state
+use Rattle.varisat_solver.specs.promises.Calls.{is_valid, IsValid, Invalidates, IsRefusedInvalid, IsLikeButLeft, Ignored, Accepted, TakesClause, TakesOne, TakesList, ReturnsList, RefusesNames, ReturnsVerdict, IsSpent, Solves, VerdictAfter, answer_of, by_state}
+use Rattle.varisat_solver.specs.promises.Usage as usage
+use Rattle.varisat_solver.specs.promises.ReturnedLists.{returned_list, returned_variables}
+use Rattle.varisat.specs.promises.Turns.{Makes}
+use Rattle.varisat_solver.specs.promises.Summaries.{Summary, Represents}
+use Rattle.varisat.specs.promises.Runs.{Run, found_in, story_now}
+use Rattle.varisat.specs.promises.Answers.{Story, with_names, reopened, with_clause, with_assumptions, ended, IsRefused, Outcome, Accepts, Joined, PassedOver, AcceptsAll, EndsText, AcceptsText, ToItsEnd, ToARefusal, IfValid, IsTrueAnswer, IsTrueModel, IsTrueCore, IsAnswered, AreAnswered}
 use Rattle.varisat.specs.declared.session.Call.{Call}
 use Rattle.varisat.specs.declared.session.Answer.{Answer}
 use Rattle.varisat.specs.declared.session.Call.TheVariants as call
 use Rattle.varisat.specs.declared.session.Answer.TheVariants as answer
 use Rattle.varisat_solver.specs.declared.solver.SolverError.{SolverError}
 use Rattle.varisat_solver.specs.declared.solver.SolverError.TheVariants.{Interrupted, ProofIoError, OutOfMemory, Invalid, ClauseStoreFull, WitnessVar, VariableLimit, AssumedVar, ClauseAfterSolve, ProofOpen, ProofTooLate, ConfigOutOfRange}
-use Rattle.varisat_solver.proofs.CallStates.{same-counted, same-ledger, same-naming}
-use Rattle.varisat_solver.proofs.Counted.{join-only}
-use Rattle.varisat_solver.proofs.ModelsFit.{completable}
+use Rattle.varisat_solver.proofs.calls.CallStates.{same-counted, same-ledger, same-naming}
+use Rattle.varisat_solver.proofs.calls.Counted.{join-only}
+use Rattle.varisat_solver.proofs.calls.ModelsFit.{completable}
 use Rattle.varisat.proofs.Pasts.{IsCapped, capped-one, capped-all, capped-freed, capped-shown, model-sat, no-model}
-use Rattle.varisat_solver.proofs.SearchVerdicts.{logged-fails, no-core, reopened-false, right-reopened, right-assumed}
+use Rattle.varisat_solver.proofs.steps.SearchVerdicts.{logged-fails, no-core, reopened-false, right-reopened, right-assumed}
 use Rattle.varisat.proofs.SolvedPasts.{some-with, none-with}
 
 -- 1. The story of a state.

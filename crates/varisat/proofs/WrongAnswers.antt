@@ -1,15 +1,15 @@
 -- No story fits these wrong answers.
 use Rattle.std.proofs.Common.{◌≡◌, Bool, true, false, [], ◌∷◌, ◌++◌, inl, inr, sym, ap, ◌∙◌, subst, refl, Option, Some, None, Ok, Err, not, nat_eq, arith}
-use Rattle.varisat_theory.specs.Membership.{◌∈◌}
-use Rattle.varisat_theory.specs.Literals.{Literal, Clause, Assignment, value, IsSatisfiable, IsSatisfiableWith, SatisfiesAll, MakesTrue}
-use Rattle.varisat_formula.specs.Streams.{Input}
-use Rattle.varisat_formula.specs.Formulas.{Formula}
-use Rattle.varisat_formula.specs.Dimacs.{Reading, dimacs}
+use Rattle.varisat_theory.specs.promises.Membership.{◌∈◌}
+use Rattle.varisat_theory.specs.promises.Literals.{Literal, Clause, Assignment, value, IsSatisfiable, IsSatisfiableWith, SatisfiesAll, MakesTrue}
+use Rattle.varisat_formula.specs.promises.Streams.{Input}
+use Rattle.varisat_formula.specs.promises.Formulas.{Formula}
+use Rattle.varisat_formula.specs.promises.Dimacs.{Reading, dimacs}
 use Rattle.varisat_formula.proofs.ParsedSources.{GivesWhole, gives_whole}
-use Rattle.varisat.specs.Answers.{Story, empty_story, with_names, with_clause, with_assumptions, Accepts, Joined, PassedOver, AcceptsAll, ToItsEnd, ToARefusal, EndsText, IsTrueModel, IsTrueCore}
+use Rattle.varisat.specs.promises.Answers.{Story, empty_story, with_names, with_clause, with_assumptions, Accepts, Joined, PassedOver, AcceptsAll, ToItsEnd, ToARefusal, EndsText, IsTrueModel, IsTrueCore}
 use Rattle.varisat_formula.specs.declared.dimacs.error.DimacsError.{DimacsError}
-use Rattle.varisat_solver.specs.Names.{name_one, free_name}
-use Rattle.varisat.specs.WrongAnswers.{Literals, FitNoStory, WrongAnswersFitNoStory}
+use Rattle.varisat_solver.specs.promises.Names.{name_one, free_name}
+use Rattle.varisat.specs.inside.WrongAnswers.{Literals, FitNoStory, WrongAnswersFitNoStory}
 use Rattle.varisat.specs.declared.session.Call.TheVariants as call
 use Rattle.varisat.specs.declared.session.Answer.TheVariants as answer
 use Rattle.varisat_solver.specs.declared.solver.SolverError.TheVariants.{OutOfMemory, Dimacs}

@@ -1,12 +1,2 @@
-pub mod Pasts
-pub mod Turns
-pub mod Moments
-pub mod Runs
-pub mod Histories
-pub mod Answers
-pub mod WrongAnswers
-pub mod Laws
-pub mod Counts
-pub mod Lines
-pub mod Decided
-pub mod Proven
+pub mod promises
+pub mod inside

@@ -1,11 +1,11 @@
 //! How a text is decided: by a new solver, which may write a proof.
 ghost use Rattle.std.specs.Prelude.{◌≡◌, ◌-◌, ◌^◌, ◌<◌, true, Ok, Err, IfOk, IfErr, IsSome};
-ghost use Rattle.varisat_proof.specs.Proving.{IsClosed};
-ghost use Rattle.varisat_solver.specs.States.{State, new_state};
-ghost use Rattle.varisat_solver.specs.Summaries.{Represents};
-ghost use Rattle.varisat_solver.specs.ProofCalls.{ClosesProof};
-ghost use Rattle.varisat.specs.Decided.{concluded};
-ghost use Rattle.varisat.specs.Proven.{CanCountFault, prepared, Reports, DecidesBy, FailsBy};
+ghost use Rattle.varisat_proof.specs.promises.Proving.{IsClosed};
+ghost use Rattle.varisat_solver.specs.promises.States.{State, new_state};
+ghost use Rattle.varisat_solver.specs.promises.Summaries.{Represents};
+ghost use Rattle.varisat_solver.specs.promises.ProofCalls.{ClosesProof};
+ghost use Rattle.varisat.specs.promises.Decided.{concluded};
+ghost use Rattle.varisat.specs.promises.Proven.{CanCountFault, prepared, Reports, DecidesBy, FailsBy};
 
 use std::alloc::Allocator;
 use std::io::Write;

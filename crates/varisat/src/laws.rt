@@ -1,8 +1,8 @@
 //! What holds of names as long as none is freed, and so for a user who hides nothing; of a core that is found; and of a
 //! check of a proof's bytes; and that `answers` of `answers_of` rules wrong answers out.
-ghost use Rattle.varisat.specs.Laws.{NamesStayInOrder, NamesAreIdentities, GivenIsAccepted, CrowdedIsPastLimit};
-ghost use Rattle.varisat.specs.WrongAnswers.{WrongAnswersFitNoStory};
-ghost use Rattle.varisat.specs.Laws.{AgainIsNoStep, CoresAreLogged, CoresAreWritten, BytesAreAccepted, MarkedProofsPass};
+ghost use Rattle.varisat.specs.inside.Laws.{NamesStayInOrder, NamesAreIdentities, GivenIsAccepted, CrowdedIsPastLimit};
+ghost use Rattle.varisat.specs.inside.WrongAnswers.{WrongAnswersFitNoStory};
+ghost use Rattle.varisat.specs.inside.Laws.{AgainIsNoStep, CoresAreLogged, CoresAreWritten, BytesAreAccepted, MarkedProofsPass};
 
 /// Names come into use in order.
 pub fn names_stay_in_order()

@@ -2,10 +2,10 @@
 ghost use Rattle.std.specs.Prelude.{◌≡◌, ◌≢◌, ◌==◌, ℕ, ◌+◌, ◌<◌, ◌≤◌, ◌^◌, List, [], ◌∷◌, ◌++◌, map, IfOk, IfSome, IfNone, OnOk, decimal, length, codes};
 ghost use Rattle.std.specs.List.{All, join_with_byte};
 ghost use Rattle.std.specs.Io.KnownBytes.{Appends};
-ghost use Rattle.varisat_theory.specs.Literals.{Literal};
-ghost use Rattle.varisat_literals.specs.Numbers.{literal_text, variable_text};
-ghost use Rattle.varisat.specs.Lines.{Command, Add, Assume, Config, words, MeansCommand, BeginsList, MeansUpdate, MeansOneCommand, AsksFor, SetsUsage, Opens, words_of, literals_text, variables_text, names_text, refusal_text, done_text, list_text, made_text, solved_text, truth_text, count_text, hex_digit, hex_text, bytes_text, opened_text, closed_text, answer_text};
-ghost use Rattle.varisat_solver.specs.ReturnedLists.{returned_list, returned_variables};
+ghost use Rattle.varisat_theory.specs.promises.Literals.{Literal};
+ghost use Rattle.varisat_literals.specs.promises.Numbers.{literal_text, variable_text};
+ghost use Rattle.varisat.specs.promises.Lines.{Command, Add, Assume, Config, words, MeansCommand, BeginsList, MeansUpdate, MeansOneCommand, AsksFor, SetsUsage, Opens, words_of, literals_text, variables_text, names_text, refusal_text, done_text, list_text, made_text, solved_text, truth_text, count_text, hex_digit, hex_text, bytes_text, opened_text, closed_text, answer_text};
+ghost use Rattle.varisat_solver.specs.promises.ReturnedLists.{returned_list, returned_variables};
 
 use crate::session::{Answer, Call};
 use itoa::Buffer;

@@ -1,11 +1,11 @@
 //! The commands of the program, over readers and writers.
 ghost use Rattle.std.specs.Prelude.{◌≡◌, ◌-◌, ◌^◌, ◌<◌, ◌∷◌};
-ghost use Rattle.varisat_literals.specs.Numbers.{literal_text};
-ghost use Rattle.varisat_formula.specs.Written.{Puts};
-ghost use Rattle.varisat.specs.Lines.{literals_text};
-ghost use Rattle.varisat.specs.Decided.{concluded, StatusIsTrue, model_text, conclusion_text, conclusion_status};
-ghost use Rattle.varisat.specs.Proven.{CanCountFault, SolvesText};
-ghost use Rattle.varisat_proof.specs.Verified.{fault_status};
+ghost use Rattle.varisat_literals.specs.promises.Numbers.{literal_text};
+ghost use Rattle.varisat_formula.specs.promises.Written.{Puts};
+ghost use Rattle.varisat.specs.promises.Lines.{literals_text};
+ghost use Rattle.varisat.specs.promises.Decided.{concluded, StatusIsTrue, model_text, conclusion_text, conclusion_status};
+ghost use Rattle.varisat.specs.promises.Proven.{CanCountFault, SolvesText};
+ghost use Rattle.varisat_proof.specs.promises.Verified.{fault_status};
 
 use crate::deciding::decide_text;
 pub use crate::deciding::{Report, SolveOptions};

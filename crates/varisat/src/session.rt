@@ -1,13 +1,13 @@
 //! Any list of calls of a solver.
 ghost use Rattle.std.specs.Prelude.{◌≡◌, [], IfOk, OnErr};
-ghost use Rattle.varisat_solver.specs.States.{State, empty_state};
-ghost use Rattle.varisat_solver.specs.Summaries.{Represents, LeadsRepresented};
-ghost use Rattle.varisat.specs.Runs.{MakesCall, Run, HasRightLog, MayStillFail, AreReady, story_now};
-ghost use Rattle.varisat_solver.specs.Calls.{by_state};
-ghost use Rattle.varisat.specs.Pasts.{empty_past, by_answers};
-ghost use Rattle.varisat.specs.Histories.{AreTrue};
-ghost use Rattle.varisat.specs.Answers.{AreAnswered, empty_story};
-ghost use Rattle.varisat.specs.Moments.{HasFewSteps, HasFewStepsAlong};
+ghost use Rattle.varisat_solver.specs.promises.States.{State, empty_state};
+ghost use Rattle.varisat_solver.specs.promises.Summaries.{Represents, LeadsRepresented};
+ghost use Rattle.varisat.specs.promises.Runs.{MakesCall, Run, HasRightLog, MayStillFail, AreReady, story_now};
+ghost use Rattle.varisat_solver.specs.promises.Calls.{by_state};
+ghost use Rattle.varisat.specs.promises.Pasts.{empty_past, by_answers};
+ghost use Rattle.varisat.specs.promises.Histories.{AreTrue};
+ghost use Rattle.varisat.specs.promises.Answers.{AreAnswered, empty_story};
+ghost use Rattle.varisat.specs.promises.Moments.{HasFewSteps, HasFewStepsAlong};
 
 use std::alloc::{AllocError, Allocator};
 use varisat_formula::formula::CnfFormula;

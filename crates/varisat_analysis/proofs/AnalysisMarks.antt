@@ -1,15 +1,15 @@
 -- How `add_literals` marks the literals of a clause, and what the loops of analysis read.
 use Rattle.std.proofs.Common.{◌≡◌, ℕ, zero, suc, ◌+◌, ◌<◌, ◌≤◌, Bool, true, false, List, [], ◌∷◌, ◌++◌, length, get_or, set, take, ◌⊎◌, inl, inr, ⊎_elim, refl, sym, ap, ◌∙◌, subst, arith, append_assoc, add-one, get_or-set_same, get_or-set_other}
 use Rattle.std.proofs.lemmas.Bool.{cases_Bool}
-use Rattle.varisat_theory.specs.Membership.{◌∈◌, ◌⊆◌}
-use Rattle.varisat_theory.specs.Literals.{Literal, Clause, variable_of, opposite}
-use Rattle.varisat_theory.specs.Propagation.{IsFalse}
-use Rattle.varisat_theory.proofs.Members.{equal_or_not, ∈-append_left, ∈-append_right, ∈-append_cases, distinct_append}
-use Rattle.varisat_theory.proofs.Places.{∈-take_more}
+use Rattle.varisat_theory.specs.promises.Membership.{◌∈◌, ◌⊆◌}
+use Rattle.varisat_theory.specs.promises.Literals.{Literal, Clause, variable_of, opposite}
+use Rattle.varisat_theory.specs.promises.Propagation.{IsFalse}
+use Rattle.varisat_theory.proofs.clauses.Members.{equal_or_not, ∈-append_left, ∈-append_right, ∈-append_cases, distinct_append}
+use Rattle.varisat_theory.proofs.clauses.Places.{∈-take_more}
 use Rattle.varisat_prop.specs.View.{View, literal_at, node_at, level_of, IsOnTrailBefore, WellFormed}
-use Rattle.varisat_prop.proofs.LiteralValues.{variable-opposite}
-use Rattle.varisat_prop.proofs.ViewGrowth.{append-nil}
-use Rattle.varisat_prop.proofs.ReadElements.{element, item-∈}
+use Rattle.varisat_prop.proofs.trails.LiteralValues.{variable-opposite}
+use Rattle.varisat_prop.proofs.views.ViewGrowth.{append-nil}
+use Rattle.varisat_prop.proofs.views.ReadElements.{element, item-∈}
 use Rattle.varisat_analysis.specs.Flags.{IsFlagged}
 use Rattle.varisat_analysis.specs.Learned.{current_level, IsOfKept}
 use Rattle.varisat_analysis.specs.declared.analyze_conflict.Parts.{Parts}

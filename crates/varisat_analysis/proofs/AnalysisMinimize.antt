@@ -1,17 +1,17 @@
 -- What `minimize` leaves follows.
 use Rattle.std.proofs.Common.{◌≡◌, ℕ, zero, suc, ◌+◌, ◌<◌, ◌≤◌, Bool, List, [], ◌∷◌, length, get_or, set, take, ◌⊎◌, inl, inr, ⊎_elim, refl, sym, ap, ◌∙◌, subst, arith, add-one, length-set, get_or-set_other}
 use Rattle.std.proofs.lemmas.Bool.{cases_lt}
-use Rattle.varisat_theory.specs.Membership.{◌∈◌, IsDistinct}
-use Rattle.varisat_theory.specs.Literals.{Literal, Clause, variable_of, opposite, opposites}
-use Rattle.varisat_theory.specs.Analysis.{Implied, Known, ByReason}
-use Rattle.varisat_theory.proofs.Members.{∈-append_left, ∈-append_right, ∈-append_cases}
-use Rattle.varisat_theory.proofs.Places.{∈-get_or, place_in, place_in_take}
-use Rattle.varisat_theory.proofs.Values.{opposite_twice, ∈-opposites}
-use Rattle.varisat_theory.proofs.Implication.{implied_alone}
-use Rattle.varisat_theory.proofs.Learning.{follows_shorter}
+use Rattle.varisat_theory.specs.promises.Membership.{◌∈◌, IsDistinct}
+use Rattle.varisat_theory.specs.promises.Literals.{Literal, Clause, variable_of, opposite, opposites}
+use Rattle.varisat_theory.specs.promises.Analysis.{Implied, Known, ByReason}
+use Rattle.varisat_theory.proofs.clauses.Members.{∈-append_left, ∈-append_right, ∈-append_cases}
+use Rattle.varisat_theory.proofs.clauses.Places.{∈-get_or, place_in, place_in_take}
+use Rattle.varisat_theory.proofs.clauses.Values.{opposite_twice, ∈-opposites}
+use Rattle.varisat_theory.proofs.clauses.Implication.{implied_alone}
+use Rattle.varisat_theory.proofs.clauses.Learning.{follows_shorter}
 use Rattle.varisat_prop.specs.View.{View, literal_at, node_at, level_of, WellFormed, ViewFits}
-use Rattle.varisat_prop.proofs.LiteralValues.{variable-opposite}
-use Rattle.varisat_prop.proofs.DistinctPlaces.{distinct-places}
+use Rattle.varisat_prop.proofs.trails.LiteralValues.{variable-opposite}
+use Rattle.varisat_prop.proofs.pairs.DistinctPlaces.{distinct-places}
 use Rattle.varisat_analysis.specs.Flags.{IsFlagged}
 use Rattle.varisat_analysis.specs.Marks.{Marking, IsMarkOf, OfClause, OfCurrentLevel, MarksAreListed, Marks, IsMinimized, Minimizes}
 use Rattle.varisat_analysis.specs.Redundancy.{IsReasoned, ListsNew, IsRedundant, IsAsBefore}

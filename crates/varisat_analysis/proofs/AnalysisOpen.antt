@@ -1,8 +1,8 @@
 -- How many places of the current level are marked, which `resolve` counts.
 use Rattle.std.proofs.Common.{◌≡◌, ◌≢◌, ℕ, zero, suc, ◌+◌, ◌<◌, ◌≤◌, Bool, true, false, ◌&&◌, nat_eq, List, get_or, ⊎_elim, refl, sym, ap, ◌∙◌, arith}
 use Rattle.std.proofs.lemmas.Bool.{eqb-true, eq-eqb, ne_eqb, and_parts, and_from, and_left, and_right, cases_lt}
-use Rattle.varisat_theory.specs.Literals.{variable_of}
-use Rattle.varisat_theory.proofs.Members.{equal_or_not}
+use Rattle.varisat_theory.specs.promises.Literals.{variable_of}
+use Rattle.varisat_theory.proofs.clauses.Members.{equal_or_not}
 use Rattle.varisat_prop.specs.View.{View, literal_at, node_at}
 use Rattle.varisat_analysis.specs.Flags.{IsFlagged}
 use Rattle.varisat_analysis.specs.Learned.{current_level, IsOfCurrentLevel}

@@ -1,22 +1,22 @@
 -- The clause that `analyze_conflict` learns, from what each part of the analysis found.
 use Rattle.std.proofs.Common.{◌≡◌, ℕ, ◌+◌, ◌<◌, ◌≤◌, Bool, true, false, List, [], ◌∷◌, length, get_or, inl, inr, ⊎_elim, refl, sym, ap, ◌∙◌, subst, arith}
 use Rattle.std.proofs.lemmas.Bool.{cases_lt, cases_Bool}
-use Rattle.varisat_theory.specs.Membership.{◌∈◌, SameSet, IsDistinct}
-use Rattle.varisat_theory.specs.Literals.{Literal, Clause, opposite}
-use Rattle.varisat_theory.specs.Propagation.{Follows}
-use Rattle.varisat_theory.proofs.Growth.{follows_more, covered_by_self}
-use Rattle.varisat_theory.proofs.Implication.{implied_false}
-use Rattle.varisat_theory.proofs.Members.{∈-or_not}
-use Rattle.varisat_theory.proofs.Places.{∈-get_or, place_in}
-use Rattle.varisat_theory.proofs.Values.{opposite_twice}
+use Rattle.varisat_theory.specs.promises.Membership.{◌∈◌, SameSet, IsDistinct}
+use Rattle.varisat_theory.specs.promises.Literals.{Literal, Clause, opposite}
+use Rattle.varisat_theory.specs.promises.Propagation.{Follows}
+use Rattle.varisat_theory.proofs.clauses.Growth.{follows_more, covered_by_self}
+use Rattle.varisat_theory.proofs.clauses.Implication.{implied_false}
+use Rattle.varisat_theory.proofs.clauses.Members.{∈-or_not}
+use Rattle.varisat_theory.proofs.clauses.Places.{∈-get_or, place_in}
+use Rattle.varisat_theory.proofs.clauses.Values.{opposite_twice}
 use Rattle.varisat_prop.specs.declared.prop.graph.Conflict.{Conflict}
-use Rattle.varisat_theory.specs.Analysis.{Reached, AtStart, InReason}
+use Rattle.varisat_theory.specs.promises.Analysis.{Reached, AtStart, InReason}
 use Rattle.varisat_prop.specs.declared.prop.graph.Reason.{Reason}
 use Rattle.varisat_prop.specs.declared.prop.graph.Reason.TheVariants as reason
 use Rattle.varisat_prop.specs.Changes.{named_in, NamesKeptClause, IsConflicting}
 use Rattle.varisat_prop.specs.View.{View, literal_at, node_of, level_of, is_clause, WellFormed, ViewFits}
 use Rattle.varisat_prop.specs.Watches.{IsRearranged}
-use Rattle.varisat_prop.proofs.LongRearranged.{swap-rearranged, swap-at}
+use Rattle.varisat_prop.proofs.watching.LongRearranged.{swap-rearranged, swap-at}
 use Rattle.std.specs.List.{swap}
 use Rattle.varisat_analysis.specs.Learned.{current_level, implying_clause, reason_clause, IsLaterInLevel, IsOfConflict, IsLevelOf, IsAsserting, IsOfKept, IsLearned, ListsInvolved}
 use Rattle.varisat_analysis.specs.Bumps.{literals_among, AreVariablesAbove}

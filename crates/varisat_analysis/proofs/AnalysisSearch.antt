@@ -1,19 +1,19 @@
 -- The search of `is_redundant` for what implies a literal to be false.
 use Rattle.std.proofs.Common.{◌≡◌, ℕ, zero, suc, ◌+◌, ◌-◌, ◌<◌, ◌≤◌, Bool, true, false, List, [], ◌∷◌, ◌++◌, length, get_or, set, take, take_all, drop, ◌⊎◌, inl, inr, ⊎_elim, refl, sym, ap, ◌∙◌, subst, arith, append_assoc, length-append, get_or-set_same}
 use Rattle.std.proofs.lemmas.Bool.{cases_Bool}
-use Rattle.varisat_theory.specs.Membership.{◌∈◌}
-use Rattle.varisat_theory.specs.Literals.{Literal, variable_of, opposite}
-use Rattle.varisat_theory.specs.Propagation.{IsFalse}
-use Rattle.varisat_theory.proofs.Members.{∈-append_left, ∈-append_right, ∈-append_cases, ∈-or_not}
-use Rattle.varisat_theory.proofs.Places.{∈-take_more}
+use Rattle.varisat_theory.specs.promises.Membership.{◌∈◌}
+use Rattle.varisat_theory.specs.promises.Literals.{Literal, variable_of, opposite}
+use Rattle.varisat_theory.specs.promises.Propagation.{IsFalse}
+use Rattle.varisat_theory.proofs.clauses.Members.{∈-append_left, ∈-append_right, ∈-append_cases, ∈-or_not}
+use Rattle.varisat_theory.proofs.clauses.Places.{∈-take_more}
 use Rattle.varisat_prop.specs.declared.prop.graph.Reason.{Reason}
 use Rattle.varisat_prop.specs.declared.prop.graph.Reason.TheVariants as reason
 use Rattle.varisat_prop.specs.declared.prop.graph.ImplNode.{ImplNode}
 use Rattle.varisat_prop.specs.Changes.{NamesClause, causes_of}
 use Rattle.varisat_clause.specs.Stored.{StoredClause}
 use Rattle.varisat_prop.specs.View.{View, node_of, no_node, level_of, is_clause, WellFormed}
-use Rattle.varisat_prop.proofs.LiteralValues.{variable-opposite}
-use Rattle.varisat_prop.proofs.ViewGrowth.{append-nil}
+use Rattle.varisat_prop.proofs.trails.LiteralValues.{variable-opposite}
+use Rattle.varisat_prop.proofs.views.ViewGrowth.{append-nil}
 use Rattle.varisat_analysis.specs.Flags.{IsFlagged}
 use Rattle.varisat_analysis.specs.Marks.{Marking}
 use Rattle.varisat_analysis.specs.Redundancy.{IsImplied, IsReasoned, count_unmarked, ListsNew, Explores, FindsRedundancy}

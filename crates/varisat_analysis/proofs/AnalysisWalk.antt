@@ -1,21 +1,21 @@
 -- The walk of `resolve` back over the trail, down to the first unique implication point.
 use Rattle.std.proofs.Common.{◌≡◌, ◌≢◌, ℕ, zero, suc, ◌+◌, ◌-◌, ◌^◌, ◌<◌, ◌≤◌, Bool, true, false, List, [], ◌∷◌, ◌++◌, length, get_or, set, ◌⊎◌, inl, inr, ⊎_elim, refl, sym, ap, ◌∙◌, subst, arith, add-one, get_or-set_same, get_or-set_other}
 use Rattle.std.proofs.lemmas.Bool.{cases_lt}
-use Rattle.varisat_theory.specs.Membership.{◌∈◌, IsDistinct}
-use Rattle.varisat_theory.specs.Literals.{Literal, Clause, variable_of, opposite}
-use Rattle.varisat_theory.specs.Analysis.{AtStart, InReason}
-use Rattle.varisat_theory.proofs.Members.{equal_or_not, ∈-append_left, ∈-append_right, ∈-append_cases, distinct_append}
-use Rattle.varisat_theory.proofs.Places.{∈-get_or, place_in}
-use Rattle.varisat_theory.proofs.Values.{opposite_twice}
-use Rattle.varisat_theory.proofs.Learning.{Pending, IsPassed, pending_start, pending_skip, pending_resolve, pending_end}
+use Rattle.varisat_theory.specs.promises.Membership.{◌∈◌, IsDistinct}
+use Rattle.varisat_theory.specs.promises.Literals.{Literal, Clause, variable_of, opposite}
+use Rattle.varisat_theory.specs.promises.Analysis.{AtStart, InReason}
+use Rattle.varisat_theory.proofs.clauses.Members.{equal_or_not, ∈-append_left, ∈-append_right, ∈-append_cases, distinct_append}
+use Rattle.varisat_theory.proofs.clauses.Places.{∈-get_or, place_in}
+use Rattle.varisat_theory.proofs.clauses.Values.{opposite_twice}
+use Rattle.varisat_theory.proofs.clauses.Learning.{Pending, IsPassed, pending_start, pending_skip, pending_resolve, pending_end}
 use Rattle.varisat_prop.specs.declared.prop.graph.Reason.{Reason}
 use Rattle.varisat_prop.specs.declared.prop.graph.Reason.TheVariants as reason
 use Rattle.varisat_prop.specs.declared.prop.graph.Conflict.{Conflict}
 use Rattle.varisat_prop.specs.declared.prop.graph.Conflict.TheVariants as conflict
 use Rattle.varisat_prop.specs.Changes.{others_of, causes_of, named_in, NamesKeptClause, IsConflicting}
-use Rattle.varisat_prop.proofs.ReadElements.{element}
+use Rattle.varisat_prop.proofs.views.ReadElements.{element}
 use Rattle.varisat_prop.specs.View.{View, clause_at, literal_at, decision_at, node_of, node_at, level_of, is_clause, IsOnTrailBefore, Implies, IsReason, WellFormed, ViewFits}
-use Rattle.varisat_prop.proofs.LiteralValues.{variable-opposite}
+use Rattle.varisat_prop.proofs.trails.LiteralValues.{variable-opposite}
 use Rattle.varisat_analysis.specs.Flags.{IsFlagged}
 use Rattle.varisat_analysis.specs.Bumps.{literals_among, AreVariablesAbove}
 use Rattle.varisat_analysis.proofs.BumpedVariables.{among-append}
@@ -24,7 +24,7 @@ use Rattle.varisat_analysis.specs.Marks.{Marking, IsDeepConflict, IsClean, IsMar
 use Rattle.varisat_analysis.proofs.CopiedLiterals.{distinct-push}
 use Rattle.varisat_analysis.proofs.AnalysisMarks.{mark-of}
 use Rattle.varisat_analysis.proofs.WellFormedViews.{named-kept, reason-kept, reason-first, reason-named, inside-at, level-opposite, level-same, same-place, place-of, stands-∈, no-clash, true-same, false-same, level-small, causes-before, has-late, fixed-implied, last-in}
-use Rattle.varisat_prop.proofs.TrailValues.{trail-short}
+use Rattle.varisat_prop.proofs.trails.TrailValues.{trail-short}
 use Rattle.varisat_analysis.proofs.AnalysisOpen.{count-small, open-is, open-level, open-marked, closed-unmarked, open-same, count-same, count-none, count-some}
 
 -- the literal is of the current level, and marked

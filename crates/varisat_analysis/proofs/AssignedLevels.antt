@@ -2,10 +2,10 @@
 use Rattle.std.proofs.Common.{◌≡◌, ℕ, ◌*◌, ◌<◌, ◌≤◌, Bool, false, List, [], ◌∷◌, length, replicate, get_or, inl, inr, ⊎_elim, refl, sym, ap, ◌∙◌, subst, arith}
 use Rattle.std.proofs.lemmas.Bool.{cases_lt}
 use Rattle.std.proofs.lemmas.List.{length-replicate}
-use Rattle.varisat_theory.specs.Membership.{◌∈◌}
-use Rattle.varisat_theory.specs.Literals.{Literal, Clause, variable_of, opposite}
-use Rattle.varisat_theory.proofs.Members.{∈-append_cases}
-use Rattle.varisat_theory.proofs.Places.{∈-get_or, place_in}
+use Rattle.varisat_theory.specs.promises.Membership.{◌∈◌}
+use Rattle.varisat_theory.specs.promises.Literals.{Literal, Clause, variable_of, opposite}
+use Rattle.varisat_theory.proofs.clauses.Members.{∈-append_cases}
+use Rattle.varisat_theory.proofs.clauses.Places.{∈-get_or, place_in}
 use Rattle.varisat_clause.specs.Stored.{StoredClause}
 use Rattle.varisat_prop.specs.declared.prop.graph.Reason.{Reason}
 use Rattle.varisat_prop.specs.declared.prop.graph.Reason.TheVariants as reason
@@ -13,8 +13,8 @@ use Rattle.varisat_prop.specs.declared.prop.graph.Conflict.{Conflict}
 use Rattle.varisat_prop.specs.declared.prop.graph.ImplNode.{ImplNode}
 use Rattle.varisat_prop.specs.View.{View, clause_at, literal_at, node_at, level_of, IsOnTrailBefore, Implies, IsReason, WellFormed}
 use Rattle.varisat_prop.specs.Changes.{named_in, IsConflicting}
-use Rattle.varisat_prop.proofs.LiteralValues.{made-inside, variable-opposite}
-use Rattle.varisat_prop.proofs.TrailValues.{trail-short, trail-true, decisions-few}
+use Rattle.varisat_prop.proofs.trails.LiteralValues.{made-inside, variable-opposite}
+use Rattle.varisat_prop.proofs.trails.TrailValues.{trail-short, trail-true, decisions-few}
 use Rattle.varisat_analysis.specs.Learned.{names_of, IsInvolved, IsOfConflict, IsReasonOf, AreInvolved}
 use Rattle.varisat_analysis.specs.Bumps.{literals_among}
 use Rattle.varisat_analysis.specs.Assessments.{CanCount, IsAssigned}

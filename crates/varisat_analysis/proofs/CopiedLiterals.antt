@@ -1,13 +1,13 @@
 -- Copies of a clause's literals, each once, and their flags.
 use Rattle.std.proofs.Common.{◌≡◌, ◌≢◌, ℕ, zero, suc, ◌+◌, ◌*◌, ◌<◌, ◌≤◌, Bool, true, false, ◌||◌, IsTrue, ◌↔◌, List, [], ◌∷◌, ◌++◌, inl, inr, ⊎_elim, length, get_or, set, take, take_all, refl, sym, ap, ap₂, ◌∙◌, subst, arith, get_or-set_same, get_or-set_other}
-use Rattle.varisat_theory.specs.Literals.{Literal, variable_of, opposite}
-use Rattle.varisat_theory.proofs.Members.{equal_or_not}
+use Rattle.varisat_theory.specs.promises.Literals.{Literal, variable_of, opposite}
+use Rattle.varisat_theory.proofs.clauses.Members.{equal_or_not}
 use Rattle.varisat_analysis.specs.Flags.{AreFlagged}
-use Rattle.varisat_theory.specs.Membership.{◌∈◌, SameSet, IsDistinct}
-use Rattle.varisat_theory.proofs.Members.{∈-append_left, ∈-append_right, ∈-append_cases}
-use Rattle.varisat_theory.specs.Searches.{IsTautology}
-use Rattle.varisat_theory.proofs.Values.{opposite_twice}
-use Rattle.varisat_theory.proofs.Places.{∈-take_more}
+use Rattle.varisat_theory.specs.promises.Membership.{◌∈◌, SameSet, IsDistinct}
+use Rattle.varisat_theory.proofs.clauses.Members.{∈-append_left, ∈-append_right, ∈-append_cases}
+use Rattle.varisat_theory.specs.promises.Searches.{IsTautology}
+use Rattle.varisat_theory.proofs.clauses.Values.{opposite_twice}
+use Rattle.varisat_theory.proofs.clauses.Places.{∈-take_more}
 
 pub distinct-push : {X : Type 0} (xs : List X) (x : X) → IsDistinct xs → (x ∈ xs → ⊥) → IsDistinct (xs ++ x ∷ [])
 distinct-push [] x d n = ((λ h. h), tt)

@@ -2,23 +2,23 @@
 use Rattle.std.proofs.Common.{◌≡◌, ◌≢◌, ℕ, zero, suc, ◌+◌, ◌-◌, ◌*◌, ◌<◌, ◌≤◌, Bool, true, false, List, [], ◌∷◌, ◌++◌, length, get_or, set, take, take_all, replicate, ◌⊎◌, inl, inr, ⊎_elim, refl, sym, ap, ◌∙◌, subst, arith, get_or-set_same, get_or-set_other}
 use Rattle.std.proofs.lemmas.Bool.{cases_lt}
 use Rattle.std.proofs.lemmas.List.{append-nil, length-replicate}
-use Rattle.varisat_theory.specs.Membership.{◌∈◌, IsDistinct}
-use Rattle.varisat_theory.specs.Literals.{Literal, Clause, variable_of, opposite}
-use Rattle.varisat_theory.specs.Propagation.{IsFalse, Conflicts}
-use Rattle.varisat_theory.specs.Analysis.{Implied, Known, AtStart, InReason}
-use Rattle.varisat_theory.proofs.Implication.{implied_alone, implied_clash}
-use Rattle.varisat_theory.proofs.Members.{equal_or_not, ∈-append_left, ∈-append_right, ∈-append_cases}
-use Rattle.varisat_theory.proofs.Places.{∈-get_or, ∈-take_more, place_in}
-use Rattle.varisat_theory.proofs.Values.{opposite_twice}
+use Rattle.varisat_theory.specs.promises.Membership.{◌∈◌, IsDistinct}
+use Rattle.varisat_theory.specs.promises.Literals.{Literal, Clause, variable_of, opposite}
+use Rattle.varisat_theory.specs.promises.Propagation.{IsFalse, Conflicts}
+use Rattle.varisat_theory.specs.promises.Analysis.{Implied, Known, AtStart, InReason}
+use Rattle.varisat_theory.proofs.clauses.Implication.{implied_alone, implied_clash}
+use Rattle.varisat_theory.proofs.clauses.Members.{equal_or_not, ∈-append_left, ∈-append_right, ∈-append_cases}
+use Rattle.varisat_theory.proofs.clauses.Places.{∈-get_or, ∈-take_more, place_in}
+use Rattle.varisat_theory.proofs.clauses.Values.{opposite_twice}
 use Rattle.varisat_prop.specs.declared.prop.graph.Reason.{Reason}
 use Rattle.varisat_prop.specs.declared.prop.graph.Reason.TheVariants as reason
 use Rattle.varisat_prop.specs.declared.prop.graph.ImplNode.{ImplNode}
 use Rattle.varisat_clause.specs.Stored.{StoredClause}
 use Rattle.varisat_prop.specs.Changes.{others_of, causes_of}
 use Rattle.varisat_prop.specs.View.{View, literal_at, decision_at, node_of, node_at, level_of, IsOnTrailBefore, IsReason, WellFormed, ViewFits, no_node}
-use Rattle.varisat_prop.proofs.LiteralValues.{made-inside}
-use Rattle.varisat_prop.proofs.ReadElements.{element, item-∈}
-use Rattle.varisat_prop.proofs.TrailValues.{trail-true}
+use Rattle.varisat_prop.proofs.trails.LiteralValues.{made-inside}
+use Rattle.varisat_prop.proofs.views.ReadElements.{element, item-∈}
+use Rattle.varisat_prop.proofs.trails.TrailValues.{trail-true}
 use Rattle.varisat_analysis.specs.Flags.{IsFlagged}
 use Rattle.varisat_analysis.specs.Learned.{implying_clause, reason_clause}
 use Rattle.varisat_analysis.specs.FailedCores.{IsDecided, IsReachedFrom, ListsFailedCore, FlagsCauses, decided_by}

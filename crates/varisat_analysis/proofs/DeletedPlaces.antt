@@ -1,15 +1,15 @@
 -- The clauses that are left where some were deleted, by their places.
 use Rattle.std.proofs.Common.{◌≡◌, ℕ, zero, suc, Bool, true, false, not, List, [], ◌∷◌, map, cond, ◌⊎◌, inl, inr, ⊎_elim, refl, sym, ap, ap₂, ◌∙◌, subst}
 use Rattle.std.specs.List.{filter}
-use Rattle.varisat_theory.specs.Membership.{◌∈◌}
-use Rattle.varisat_theory.proofs.Members.{equal_or_not}
+use Rattle.varisat_theory.specs.promises.Membership.{◌∈◌}
+use Rattle.varisat_theory.proofs.clauses.Members.{equal_or_not}
 use Rattle.varisat_clause.specs.Stored.{StoredClause, IsClauseRef, AreRising, stored_at, header_at}
 use Rattle.varisat_clause.specs.Collected.{live_of}
 use Rattle.varisat_clause.specs.Filters.{deleted_at}
 use Rattle.varisat_clause.specs.Reductions.{unmarked_places, all_deleted}
 use Rattle.varisat_clause.proofs.StoredClauses.{clause-same, clause-other}
 use Rattle.varisat_clause.proofs.DatabaseTracks.{place-is}
-use Rattle.varisat_prop.proofs.SimplifiedPairs.{∈-filter}
+use Rattle.varisat_prop.proofs.pairs.SimplifiedPairs.{∈-filter}
 use Rattle.varisat_analysis.specs.HeaderChanges.{PlacedClause, placed_clause, SameButHeaders}
 use Rattle.varisat_analysis.proofs.SameButHeaders.{headers-place, with-same-look}
 

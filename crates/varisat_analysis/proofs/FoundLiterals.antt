@@ -1,8 +1,8 @@
 -- A loop that looks for a literal of a clause: one is found, or none is such so far.
 use Rattle.std.proofs.Common.{◌≡◌, ℕ, ◌+◌, ◌<◌, true, IsTrue, ◌↔◌, List, length, get_or, take, ⊎_elim, refl, sym, ◌∙◌, subst}
-use Rattle.varisat_theory.specs.Membership.{◌∈◌}
-use Rattle.varisat_theory.proofs.Places.{∈-take_more}
-use Rattle.varisat_prop.proofs.ReadElements.{element, item-∈}
+use Rattle.varisat_theory.specs.promises.Membership.{◌∈◌}
+use Rattle.varisat_theory.proofs.clauses.Places.{∈-take_more}
+use Rattle.varisat_prop.proofs.views.ReadElements.{element, item-∈}
 
 module _ (P : ℕ → Type 0) (lits : List ℕ) {k l : ℕ} (inside : k < length lits) (read : l ≡ get_or lits k l) where
   pub one-found : P l → IsTrue true ↔ ((m : ℕ) × (m ∈ lits) × P m)

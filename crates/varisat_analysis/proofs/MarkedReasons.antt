@@ -1,9 +1,9 @@
 -- Which clauses are reasons, and marks that tell it.
 use Rattle.std.proofs.Common.{◌≡◌, ℕ, Bool, true, false, ◌&&◌, ◌<◌, Option, None, List, [], ◌∷◌, length, get_or, cond, refl, sym, ap, ◌∙◌, subst, arith}
 use Rattle.std.specs.Prelude.{is_some}
-use Rattle.varisat_theory.specs.Membership.{◌∈◌}
-use Rattle.varisat_theory.specs.Literals.{Clause, variable_of}
-use Rattle.varisat_theory.proofs.Places.{∈-get_or}
+use Rattle.varisat_theory.specs.promises.Membership.{◌∈◌}
+use Rattle.varisat_theory.specs.promises.Literals.{Clause, variable_of}
+use Rattle.varisat_theory.proofs.clauses.Places.{∈-get_or}
 use Rattle.varisat_clause.specs.Stored.{StoredClause, no_clause, stored_at}
 use Rattle.varisat_clause.specs.Stores.{Store, stored_clauses, IsSound}
 use Rattle.varisat_clause.proofs.StoredClauses.{stored-found}

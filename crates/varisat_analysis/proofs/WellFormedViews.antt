@@ -1,13 +1,13 @@
 -- Places, variables and levels of a well-formed view, which most proofs read.
 use Rattle.std.proofs.Common.{◌≡◌, ℕ, zero, suc, ◌-◌, ◌<◌, ◌≤◌, true, List, [], ◌∷◌, length, get_or, take, ◌⊎◌, inl, inr, ⊎_elim, refl, sym, ap, ◌∙◌, subst, arith}
 use Rattle.std.proofs.lemmas.Bool.{cases_lt}
-use Rattle.varisat_theory.specs.Membership.{◌∈◌, SameSet}
-use Rattle.varisat_theory.specs.Literals.{Literal, Clause, variable_of, opposite}
-use Rattle.varisat_theory.specs.Propagation.{IsFalse}
-use Rattle.varisat_theory.specs.Analysis.{Implied, ByReason}
-use Rattle.varisat_theory.proofs.Members.{∈-append_right, ∈-append_cases}
-use Rattle.varisat_theory.proofs.Places.{∈-get_or, place_in}
-use Rattle.varisat_theory.proofs.Values.{opposite_twice}
+use Rattle.varisat_theory.specs.promises.Membership.{◌∈◌, SameSet}
+use Rattle.varisat_theory.specs.promises.Literals.{Literal, Clause, variable_of, opposite}
+use Rattle.varisat_theory.specs.promises.Propagation.{IsFalse}
+use Rattle.varisat_theory.specs.promises.Analysis.{Implied, ByReason}
+use Rattle.varisat_theory.proofs.clauses.Members.{∈-append_right, ∈-append_cases}
+use Rattle.varisat_theory.proofs.clauses.Places.{∈-get_or, place_in}
+use Rattle.varisat_theory.proofs.clauses.Values.{opposite_twice}
 use Rattle.varisat_prop.specs.declared.prop.graph.Reason.{Reason}
 use Rattle.varisat_prop.specs.declared.prop.graph.Reason.TheVariants as reason
 use Rattle.varisat_prop.specs.declared.prop.graph.ImplNode.{ImplNode}
@@ -15,12 +15,12 @@ use Rattle.varisat_prop.specs.declared.prop.graph.Conflict.{Conflict}
 use Rattle.varisat_prop.specs.declared.prop.graph.Conflict.TheVariants as conflict
 use Rattle.varisat_clause.specs.Stored.{literals_of, AreReordered}
 use Rattle.varisat_clause.proofs.StoredClauses.{reordered-old}
-use Rattle.varisat_prop.proofs.WellFormedChanges.{stored-kept, kept-here}
-use Rattle.varisat_prop.proofs.KeptPairs.{implied-kept}
+use Rattle.varisat_prop.proofs.views.WellFormedChanges.{stored-kept, kept-here}
+use Rattle.varisat_prop.proofs.pairs.KeptPairs.{implied-kept}
 use Rattle.varisat_prop.specs.View.{View, pairs_from, kept, clause_at, literal_at, decision_at, no_node, node_of, node_at, level_of, is_clause, IsOnTrailBefore, Implies, IsReason, WellFormed, PropagatedBeforeDecisions, ViewFits}
 use Rattle.varisat_prop.specs.Changes.{NamesClause, NamesPlace, others_of, causes_of, named_in, NamesKeptClause, IsConflicting}
-use Rattle.varisat_prop.proofs.LiteralValues.{same-variable, variable-opposite, made-clash, made-inside}
-use Rattle.varisat_prop.proofs.TrailValues.{trail-true}
+use Rattle.varisat_prop.proofs.trails.LiteralValues.{same-variable, variable-opposite, made-clash, made-inside}
+use Rattle.varisat_prop.proofs.trails.TrailValues.{trail-true}
 use Rattle.varisat_analysis.specs.Learned.{current_level, implying_clause, names_of, reason_clause}
 
 -- where kept clauses are reordered, each was kept before as a set

@@ -1,8 +1,8 @@
 -- The glue of a clause, the tier by it, and what a conflict makes of the clauses that took part in it.
 use Rattle.std.specs.Prelude.{◌≡◌, ℕ, ◌-◌, ◌/◌, ◌^◌, ◌<◌, Bool, true, false, not, ◌&&◌, nat_eq, nat_le, nat_lt, min, if◌then◌else◌, List, [], ◌∷◌, length, map, slice_index_or, ◌⊎◌}
 use Rattle.std.specs.Set.{distinct_count}
-use Rattle.varisat_theory.specs.Membership.{◌∈◌}
-use Rattle.varisat_theory.specs.Literals.{Literal, variable_of, opposite}
+use Rattle.varisat_theory.specs.promises.Membership.{◌∈◌}
+use Rattle.varisat_theory.specs.promises.Literals.{Literal, variable_of, opposite}
 use Rattle.varisat_clause.specs.declared.header.Tier.{Tier}
 use Rattle.varisat_clause.specs.declared.header.Tier.TheVariants.{Irred, Core, Mid, Local}
 use Rattle.varisat_clause.specs.Tiers.{is_tier}

@@ -1,7 +1,7 @@
 -- Flags by number, as those of variables and of literals.
 use Rattle.std.specs.Prelude.{◌≡◌, ℕ, Bool, true, false, List, ◌↔◌, slice_index_or}
-use Rattle.varisat_theory.specs.Membership.{◌∈◌}
-use Rattle.varisat_theory.specs.Literals.{Literal}
+use Rattle.varisat_theory.specs.promises.Membership.{◌∈◌}
+use Rattle.varisat_theory.specs.promises.Literals.{Literal}
 
 -- the number's flag is set
 abbrev pub IsFlagged : List Bool → ℕ → Type 0

@@ -1,6 +1,6 @@
 -- Stored clauses of which the headers alone change.
 use Rattle.std.specs.Prelude.{◌≡◌, ℕ, List, map, not}
-use Rattle.varisat_theory.specs.Searches.{KeptClause}
+use Rattle.varisat_theory.specs.promises.Searches.{KeptClause}
 use Rattle.varisat_clause.specs.declared.header.Tier.TheVariants as tier
 use Rattle.varisat_clause.specs.Tiers.{is_tier}
 use Rattle.varisat_clause.specs.Stored.{StoredClause}

@@ -1,8 +1,8 @@
 -- What conflict analysis marks on its way to the learned clause.
 use Rattle.std.specs.Prelude.{◌≡◌, ℕ, zero, suc, ◌+◌, ◌<◌, ◌≤◌, ◌⊎◌, Bool, true, false, ◌&&◌, nat_eq, List, [], ◌∷◌, ◌++◌, slice_index_or, length}
-use Rattle.varisat_theory.specs.Membership.{◌∈◌, ◌⊆◌, IsDistinct}
-use Rattle.varisat_theory.specs.Literals.{Literal, Clause, opposite, variable_of}
-use Rattle.varisat_theory.specs.Propagation.{Follows}
+use Rattle.varisat_theory.specs.promises.Membership.{◌∈◌, ◌⊆◌, IsDistinct}
+use Rattle.varisat_theory.specs.promises.Literals.{Literal, Clause, opposite, variable_of}
+use Rattle.varisat_theory.specs.promises.Propagation.{Follows}
 use Rattle.varisat_prop.specs.declared.prop.graph.Conflict.{Conflict}
 use Rattle.varisat_clause.specs.Stores.{IsSound}
 use Rattle.varisat_clause.specs.Collected.{live_clauses}

@@ -1,7 +1,7 @@
 -- Which literals of a clause the others imply to be false, as the search for them marks it.
 use Rattle.std.specs.Prelude.{◌≡◌, ℕ, ◌+◌, ◌<◌, ◌⊎◌, Bool, true, false, List, [], ◌∷◌, ◌++◌, slice_index_or, length}
-use Rattle.varisat_theory.specs.Membership.{◌∈◌, ◌⊆◌}
-use Rattle.varisat_theory.specs.Literals.{Literal, opposite, variable_of}
+use Rattle.varisat_theory.specs.promises.Membership.{◌∈◌, ◌⊆◌}
+use Rattle.varisat_theory.specs.promises.Literals.{Literal, opposite, variable_of}
 use Rattle.varisat_prop.specs.Changes.{causes_of}
 use Rattle.varisat_prop.specs.View.{View, node_of, level_of, is_clause}
 use Rattle.varisat_analysis.specs.Flags.{IsFlagged}

@@ -1,8 +1,8 @@
 //! Learns a clause from a conflict.
 ghost use Rattle.std.specs.Prelude.{◌≡◌, ℕ, ◌<◌, ◌≤◌, ◌++◌, true, false, length, slice_index_or, OnOk, IfOk, MatchOption};
-ghost use Rattle.varisat_theory.specs.Membership.{◌∈◌, SameSet, IsDistinct};
-ghost use Rattle.varisat_theory.specs.Literals.{variable_of, opposite};
-ghost use Rattle.varisat_theory.specs.Propagation.{IsFalse};
+ghost use Rattle.varisat_theory.specs.promises.Membership.{◌∈◌, SameSet, IsDistinct};
+ghost use Rattle.varisat_theory.specs.promises.Literals.{variable_of, opposite};
+ghost use Rattle.varisat_theory.specs.promises.Propagation.{IsFalse};
 ghost use Rattle.varisat_prop.specs.View.{View, level_of, WellFormed, PropagatedBeforeDecisions};
 ghost use Rattle.varisat_prop.specs.Changes.{IsConflicting};
 ghost use Rattle.varisat_analysis.specs.Learned.{no_analysis, names_of, Shows, IsLevelOf, IsLearned, AreInvolved};

@@ -1,6 +1,6 @@
 //! Tiers of learned clauses by their glue, and what a conflict does to the clauses that took part in it.
 ghost use Rattle.std.specs.Prelude.{◌≡◌, true, OnOk, OnErr};
-ghost use Rattle.varisat_theory.specs.Membership.{◌∈◌};
+ghost use Rattle.varisat_theory.specs.promises.Membership.{◌∈◌};
 ghost use Rattle.varisat_clause.specs.Stored.{IsClauseRef};
 ghost use Rattle.varisat_clause.specs.Stores.{stored_clauses, IsSound, RewritesHeaderAt};
 ghost use Rattle.varisat_clause.specs.ClauseActivities.{scored, RewritesScored};

@@ -1,6 +1,6 @@
 //! What a conflict does to the activities of variables.
 ghost use Rattle.std.specs.Prelude.{◌≡◌, ℕ, ◌<◌, length};
-ghost use Rattle.varisat_theory.specs.Membership.{◌∈◌};
+ghost use Rattle.varisat_theory.specs.promises.Membership.{◌∈◌};
 ghost use Rattle.varisat_analysis.specs.Bumps.{bumped_each};
 
 use std::alloc::Allocator;

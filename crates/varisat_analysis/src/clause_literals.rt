@@ -1,8 +1,8 @@
 //! The literals of a clause: copies of them, each once, and whether the clause is true by its form or by one of them.
 ghost use Rattle.std.specs.Prelude.{◌≡◌, ◌<◌, length, slice_index_or, false, OnOk, IfOk, IsTrue, ◌↔◌};
-ghost use Rattle.varisat_theory.specs.Membership.{◌∈◌, SameSet, IsDistinct};
-ghost use Rattle.varisat_theory.specs.Literals.{Literal, opposite};
-ghost use Rattle.varisat_theory.specs.Searches.{IsTautology};
+ghost use Rattle.varisat_theory.specs.promises.Membership.{◌∈◌, SameSet, IsDistinct};
+ghost use Rattle.varisat_theory.specs.promises.Literals.{Literal, opposite};
+ghost use Rattle.varisat_theory.specs.promises.Searches.{IsTautology};
 ghost use Rattle.varisat_prop.specs.Parts.{IsMadeTrue};
 ghost use Rattle.varisat_prop.specs.Looks.{IsInRange};
 ghost use Rattle.varisat_analysis.specs.Flags.{AreFlagged};

@@ -1,8 +1,8 @@
 //! Finds which assumptions can't be true together, once one of them is false when its turn comes.
 ghost use Rattle.std.specs.Prelude.{◌≡◌, ◌*◌, ◌++◌, length, replicate, slice_index_or, slice_set, false, OnOk};
-ghost use Rattle.varisat_theory.specs.Membership.{◌∈◌};
-ghost use Rattle.varisat_theory.specs.Literals.{Literal, opposite};
-ghost use Rattle.varisat_theory.specs.Propagation.{IsFalse};
+ghost use Rattle.varisat_theory.specs.promises.Membership.{◌∈◌};
+ghost use Rattle.varisat_theory.specs.promises.Literals.{Literal, opposite};
+ghost use Rattle.varisat_theory.specs.promises.Propagation.{IsFalse};
 ghost use Rattle.varisat_prop.specs.Changes.{causes_of};
 ghost use Rattle.varisat_prop.specs.View.{View, node_of, WellFormed};
 ghost use Rattle.varisat_analysis.specs.Learned.{Shows};

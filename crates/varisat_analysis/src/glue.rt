@@ -1,8 +1,8 @@
 //! Sets of levels, to a close approximation, and how many levels a clause has.
 ghost use Rattle.std.specs.Prelude.{◌≡◌, ◌≢◌, ℕ, ◌<◌, ◌%◌, ◌↔◌, IsTrue, true, false, length, map, nat_eq, slice_index_or};
 ghost use Rattle.std.specs.Set.{distinct_count};
-ghost use Rattle.varisat_theory.specs.Membership.{◌∈◌};
-ghost use Rattle.varisat_theory.specs.Literals.{Literal, variable_of};
+ghost use Rattle.varisat_theory.specs.promises.Membership.{◌∈◌};
+ghost use Rattle.varisat_theory.specs.promises.Literals.{Literal, variable_of};
 ghost use Rattle.varisat_analysis.specs.Bumps.{level_in};
 ghost use Rattle.varisat_analysis.specs.Assessments.{glue_of, CanCount};
 ghost use Rattle.varisat_analysis.specs.Levels.{HasLevelBit};

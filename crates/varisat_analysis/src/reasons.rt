@@ -1,6 +1,6 @@
 //! The clauses that are reasons: their marks, and reasons that follow them to other places.
 ghost use Rattle.std.specs.Prelude.{◌≡◌, ◌<◌, false, length};
-ghost use Rattle.varisat_theory.specs.Membership.{◌∈◌};
+ghost use Rattle.varisat_theory.specs.promises.Membership.{◌∈◌};
 ghost use Rattle.varisat_clause.specs.Stored.{StoredClause, IsClauseRef};
 ghost use Rattle.varisat_clause.specs.Stores.{stored_clauses, clause_of, IsSound, RewritesClauses, RewritesClauseAt};
 ghost use Rattle.varisat_clause.specs.Databases.{Database, Tracks};

@@ -1,6 +1,6 @@
 //! Room for lists and flags that are needed for a short time.
 ghost use Rattle.std.specs.Prelude.{◌≡◌, ◌≤◌, ◌*◌, ◌-◌, ◌++◌, [], length, replicate, false, OnOk};
-ghost use Rattle.varisat_literals.specs.Numbers.{variable_limit};
+ghost use Rattle.varisat_literals.specs.promises.Numbers.{variable_limit};
 
 use std::alloc::{AllocError, Allocator};
 use varisat_literals::Lit;

@@ -16,7 +16,7 @@ use denote.Struct.Struct.{within}
 use denote.Struct.Owning.{shape}
 use Rattle.core.proofs.atomic.Steps.{Ptr-Good}
 use Rattle.std_alloc.proofs.ResultValues.{and_tt}
-use Rattle.varisat_client.specs.Clients.{Client}
+use Rattle.varisat_client.specs.inside.Clients.{Client}
 use Rattle.varisat_c.specs.ClientHandles.{handle_owns}
 use Rattle.varisat_c.specs.declared.client_handle.ClientHandle as declared
 use Rattle.varisat_c.specs.contracts.client_handle.ClientHandle as handle

@@ -1,8 +1,8 @@
 -- A search whose end is told by a number.
 use Rattle.std.proofs.Common.{◌≡◌, ℕ}
 use Rattle.varisat_client.specs.declared.client.SearchEnd.{SearchEnd}
-use Rattle.varisat_client.specs.Pasts.{IsSearchEnd}
-use Rattle.varisat_client.specs.Clients.{Client, Moves}
+use Rattle.varisat_client.specs.promises.Pasts.{IsSearchEnd}
+use Rattle.varisat_client.specs.inside.Clients.{Client, Moves}
 use Rattle.varisat_c.specs.Ends.{end_code, SearchesBy}
 
 -- it moves the past as the end says

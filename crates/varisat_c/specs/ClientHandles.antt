@@ -7,8 +7,8 @@ use denote.RawPtr.{Ptr}
 use Rattle.core.specs.contracts.clone.Clone+copy.TheImpl as copied
 use Rattle.std_heap.specs.contracts.Global as heap
 use Rattle.std_heap.specs.contracts.GlobalAllocator.TheImpl as impl
-use Rattle.varisat_client.specs.Pasts.{Past}
-use Rattle.varisat_client.specs.Clients.{Client, RepresentsPast, Moves}
+use Rattle.varisat_client.specs.promises.Pasts.{Past}
+use Rattle.varisat_client.specs.inside.Clients.{Client, RepresentsPast, Moves}
 use Rattle.varisat_c.specs.Slots.{slot_owns}
 use Rattle.varisat_client.specs.contracts.client.Client as client
 

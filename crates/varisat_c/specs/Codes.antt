@@ -1,6 +1,6 @@
 -- The numbers by which a C program is told a number or a refusal.
 use Rattle.std.specs.Prelude.{◌≡◌, ℕ, ◌-◌, ◌^◌, min, ℤ, pos, ◌-ℤ◌, Result, Ok, Err}
-use Rattle.varisat_literals.specs.Numbers.{variable_number}
+use Rattle.varisat_literals.specs.promises.Numbers.{variable_number}
 use Rattle.varisat_calls.specs.Callers.{Caller, NamesNew}
 use Rattle.varisat_calls.specs.Texts.{EndsText}
 

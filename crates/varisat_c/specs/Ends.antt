@@ -4,7 +4,7 @@ use Rattle.varisat_client.specs.declared.client.SearchEnd.{SearchEnd}
 use Rattle.varisat_client.specs.declared.client.SearchEnd.TheVariants.{Satisfiable, Unsatisfiable, Interrupted, Refused}
 use Rattle.varisat_client.specs.declared.refusal.Refusal.{Refusal}
 use Rattle.varisat_client.specs.declared.refusal.Refusal.TheVariants.{OutOfMemory, VariableLimit, ClauseStoreFull}
-use Rattle.varisat_client.specs.Pasts.{Past, IsSearchEnd}
+use Rattle.varisat_client.specs.promises.Pasts.{Past, IsSearchEnd}
 
 -- the number of an end
 abbrev pub end_code : SearchEnd → ℕ

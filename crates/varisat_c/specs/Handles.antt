@@ -7,9 +7,9 @@ use denote.RawPtr.{Ptr}
 use Rattle.core.specs.contracts.clone.Clone+copy.TheImpl as copied
 use Rattle.std_heap.specs.contracts.Global as heap
 use Rattle.std_heap.specs.contracts.GlobalAllocator.TheImpl as impl
-use Rattle.varisat_theory.specs.Literals.{IsSatisfiableWith}
-use Rattle.varisat_solver.specs.States.{State}
-use Rattle.varisat_solver.specs.Summaries.{Represents}
+use Rattle.varisat_theory.specs.promises.Literals.{IsSatisfiableWith}
+use Rattle.varisat_solver.specs.promises.States.{State}
+use Rattle.varisat_solver.specs.promises.Summaries.{Represents}
 use Rattle.varisat_calls.specs.Callers.{Caller}
 use Rattle.varisat_c.specs.Slots.{slot_owns}
 use Rattle.varisat_calls.specs.contracts.caller.Caller as caller

@@ -1,7 +1,7 @@
 //! A client of the solver for C programs: each call takes a handle, behind which a client stands.
 ghost use Rattle.std.specs.Prelude.{◌≡◌, ◌↔◌, Some, None, IsSome, IsTrue, IfSome};
-ghost use Rattle.varisat_client.specs.Pasts.{empty_past, AddsNumber, AssumesNumber, Begins, LimitsSteps, ReturnsValue, ReturnsFailed};
-ghost use Rattle.varisat_client.specs.Clients.{RepresentsPast};
+ghost use Rattle.varisat_client.specs.promises.Pasts.{empty_past, AddsNumber, AssumesNumber, Begins, LimitsSteps, ReturnsValue, ReturnsFailed};
+ghost use Rattle.varisat_client.specs.inside.Clients.{RepresentsPast};
 ghost use Rattle.varisat_c.specs.Ends.{SearchesBy, refusal_code};
 ghost use Rattle.varisat_c.specs.ClientHandles.{MovesHeld, IsTrueBehind};
 

@@ -1,6 +1,6 @@
 //! A C program's word for a client.
 ghost use Rattle.std.specs.Prelude.{◌≡◌, Some, None, Option, IsSome};
-ghost use Rattle.varisat_client.specs.Clients as clients;
+ghost use Rattle.varisat_client.specs.inside.Clients as clients;
 
 use crate::slot::Slot;
 use std::alloc::Global;

@@ -3,9 +3,9 @@
 #![tactic(auto)]
 
 ghost use Rattle.std.specs.Prelude.{◌≡◌, ◌↔◌, ◌≤◌, min, length, take, drop, Some, None, IsSome, IsTrue, IfSome};
-ghost use Rattle.varisat_solver.specs.Summaries.{LeadsRepresented};
-ghost use Rattle.varisat_solver.specs.Calls.{AddsClause, Assumes, ReturnsList, ReturnsSteps, ReturnsValid, by_state};
-ghost use Rattle.varisat_solver.specs.ProofCalls.{EnablesChecking};
+ghost use Rattle.varisat_solver.specs.promises.Summaries.{LeadsRepresented};
+ghost use Rattle.varisat_solver.specs.promises.Calls.{AddsClause, Assumes, ReturnsList, ReturnsSteps, ReturnsValid, by_state};
+ghost use Rattle.varisat_solver.specs.promises.ProofCalls.{EnablesChecking};
 ghost use Rattle.varisat_calls.specs.Codes.{field_numbered, format_numbered, mode_numbered};
 ghost use Rattle.varisat_calls.specs.Callers.{IsNew, MakesNumbered, MakesOver, AddsNumber, LimitsSteps, Searches, SetsField, SetsMode, ReturnsListOf, Shows, Opens, Closes};
 ghost use Rattle.varisat_calls.specs.Lookups.{ReturnsValue, ReturnsFailed};

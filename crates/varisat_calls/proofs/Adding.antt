@@ -1,9 +1,9 @@
 -- How a clause grows that is given a literal at a time, and what comes at its end.
 use Rattle.std.proofs.Common.{◌≡◌, ℕ, ℤ, pos, Bool, true, false, Some, None, List, [], ◌∷◌, ◌++◌, refl, sym, ap, subst, ◌∙◌}
-use Rattle.varisat_theory.specs.Literals.{Literal}
-use Rattle.varisat_literals.specs.Numbers.{literal_numbered}
-use Rattle.varisat_solver.specs.Summaries.{LeadsRepresented}
-use Rattle.varisat_solver.specs.Calls.{AddsClause}
+use Rattle.varisat_theory.specs.promises.Literals.{Literal}
+use Rattle.varisat_literals.specs.promises.Numbers.{literal_numbered}
+use Rattle.varisat_solver.specs.promises.Summaries.{LeadsRepresented}
+use Rattle.varisat_solver.specs.promises.Calls.{AddsClause}
 use Rattle.varisat_calls.specs.Codes.{answer_number}
 use Rattle.varisat_calls.specs.Callers.{Answer, Caller, clause_of, with_clause, AddsNumber, Put, Ended}
 use Rattle.varisat_calls.proofs.Making.{made}

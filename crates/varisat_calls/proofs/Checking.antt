@@ -1,10 +1,10 @@
 -- Clauses that a marked proof was given.
 use Rattle.std.proofs.Common.{◌≡◌, ◌++◌, List, [], sym, subst}
-use Rattle.varisat_theory.specs.Literals.{Clause, IsSatisfiable}
+use Rattle.varisat_theory.specs.promises.Literals.{Clause, IsSatisfiable}
 use Rattle.varisat_proof.specs.declared.checker.error.CheckVerdict.TheVariants.{Refutation}
 use Rattle.varisat_proof.specs.declared.checker.marked.MarkedReport.{MarkedReport}
-use Rattle.varisat_proof.specs.Calls.{IsTrueReport}
-use Rattle.varisat_proof.specs.Verified.{AreGiven}
+use Rattle.varisat_proof.specs.promises.Calls.{IsTrueReport}
+use Rattle.varisat_proof.specs.promises.Verified.{AreGiven}
 
 -- what satisfies the clauses satisfies those that are among them
 given-satisfied : (P cs : List Clause) → AreGiven P cs → IsSatisfiable P → IsSatisfiable cs

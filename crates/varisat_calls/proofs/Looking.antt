@@ -1,11 +1,11 @@
 -- The literals of a list that are kept, and what is told of one of them.
 use Rattle.std.proofs.Common.{◌≡◌, ℕ, ℤ, refl, sym, ap, subst, ◌∙◌}
 use Rattle.std.specs.Prelude.{Bool, List}
-use Rattle.varisat_theory.specs.Membership.{◌∈◌}
-use Rattle.varisat_theory.specs.Literals.{Literal, opposite}
-use Rattle.varisat_literals.specs.Numbers.{literal_numbered}
-use Rattle.varisat_client.specs.LiteralSets.{IsSetOf}
-use Rattle.varisat_solver.specs.Summaries.{Summary}
+use Rattle.varisat_theory.specs.promises.Membership.{◌∈◌}
+use Rattle.varisat_theory.specs.promises.Literals.{Literal, opposite}
+use Rattle.varisat_literals.specs.promises.Numbers.{literal_numbered}
+use Rattle.varisat_client.specs.inside.LiteralSets.{IsSetOf}
+use Rattle.varisat_solver.specs.promises.Summaries.{Summary}
 use Rattle.varisat_calls.specs.Callers.{Caller}
 use Rattle.varisat_calls.specs.Lookups.{Lookups, IsValidSolver, IsModel, IsCore, IsValueIn, IsMember, ReturnsValue, ReturnsFailed, True, False, Unknown, Yes, No, Failed, Unfailed}
 use Rattle.varisat_calls.specs.declared.lookups.Kept.TheVariants as kept

@@ -1,23 +1,23 @@
 -- How the calls of a caller are those of its solver.
 use Rattle.std.proofs.Common.{◌≡◌, ℕ, ℤ, pos, ◌≤ℤ◌, Option, Some, None, List, Result, Ok, Err, map, refl, sym, ap, subst, ◌∙◌}
 use Rattle.std.specs.declared.alloc.AllocError.{AllocError}
-use Rattle.varisat_theory.specs.Membership.{◌∈◌}
-use Rattle.varisat_theory.specs.Literals.{Literal, Clause}
-use Rattle.varisat_literals.specs.Numbers.{literal_numbered, variable_numbered}
-use Rattle.varisat_formula.specs.Rest.{Progress}
-use Rattle.varisat_formula.specs.Streams.{Taken}
-use Rattle.varisat_names.specs.Settings.{update_of}
+use Rattle.varisat_theory.specs.promises.Membership.{◌∈◌}
+use Rattle.varisat_theory.specs.promises.Literals.{Literal, Clause}
+use Rattle.varisat_literals.specs.promises.Numbers.{literal_numbered, variable_numbered}
+use Rattle.varisat_formula.specs.promises.Rest.{Progress}
+use Rattle.varisat_formula.specs.promises.Streams.{Taken}
+use Rattle.varisat_names.specs.promises.Settings.{update_of}
 use Rattle.varisat_names.specs.declared.config.ConfigField.{ConfigField}
 use Rattle.varisat_names.specs.declared.config.SolverConfigUpdate.{SolverConfigUpdate}
 use Rattle.varisat_names.specs.declared.variables.data.SamplingMode.{SamplingMode}
 use Rattle.varisat_proof.specs.declared.proof.format.ProofFormat.{ProofFormat}
-use Rattle.varisat_solver.specs.States.{State}
-use Rattle.varisat_solver.specs.Summaries.{Summary, Represents, LeadsRepresented}
-use Rattle.varisat_solver.specs.Calls.{Solves, Configures, by_state}
-use Rattle.varisat_solver.specs.ClauseCalls.{AddsFormula}
-use Rattle.varisat_solver.specs.ProofCalls.{OpensProof}
-use Rattle.varisat_solver.specs.Usage.{ChangesMode}
-use Rattle.varisat_solver.specs.Refusals.{refusal_number}
+use Rattle.varisat_solver.specs.promises.States.{State}
+use Rattle.varisat_solver.specs.promises.Summaries.{Summary, Represents, LeadsRepresented}
+use Rattle.varisat_solver.specs.promises.Calls.{Solves, Configures, by_state}
+use Rattle.varisat_solver.specs.promises.ClauseCalls.{AddsFormula}
+use Rattle.varisat_solver.specs.promises.ProofCalls.{OpensProof}
+use Rattle.varisat_solver.specs.promises.Usage.{ChangesMode}
+use Rattle.varisat_solver.specs.promises.Refusals.{refusal_number}
 use Rattle.varisat_solver.specs.declared.solver.SolverError.TheVariants as error
 use Rattle.varisat_solver.specs.declared.solver.SolverError.{SolverError}
 use Rattle.varisat_calls.specs.Numbers.{returned_numbers, returned_names}

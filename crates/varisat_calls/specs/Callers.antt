@@ -3,21 +3,21 @@
 -- and 15 where there is nothing to tell.
 use Rattle.std.specs.Prelude.{◌≡◌, ◌⊎◌, ℕ, ℤ, pos, ◌<ℤ◌, ◌≤ℤ◌, Bool, true, false, Option, Some, None, List, [], ◌∷◌, ◌++◌, Result, Ok, Err, map}
 use Rattle.std.specs.declared.alloc.AllocError.{AllocError}
-use Rattle.varisat_theory.specs.Membership.{◌∈◌}
-use Rattle.varisat_theory.specs.Literals.{Literal}
-use Rattle.varisat_literals.specs.Numbers.{literal_numbered, variable_numbered}
-use Rattle.varisat_formula.specs.Rest.{Progress}
-use Rattle.varisat_formula.specs.Streams.{Taken}
-use Rattle.varisat_names.specs.Settings.{update_of}
+use Rattle.varisat_theory.specs.promises.Membership.{◌∈◌}
+use Rattle.varisat_theory.specs.promises.Literals.{Literal}
+use Rattle.varisat_literals.specs.promises.Numbers.{literal_numbered, variable_numbered}
+use Rattle.varisat_formula.specs.promises.Rest.{Progress}
+use Rattle.varisat_formula.specs.promises.Streams.{Taken}
+use Rattle.varisat_names.specs.promises.Settings.{update_of}
 use Rattle.varisat_names.specs.declared.config.ConfigField.{ConfigField}
 use Rattle.varisat_names.specs.declared.variables.data.SamplingMode.{SamplingMode}
 use Rattle.varisat_proof.specs.declared.proof.format.ProofFormat.{ProofFormat}
-use Rattle.varisat_solver.specs.States.{State, empty_state}
-use Rattle.varisat_solver.specs.Summaries.{Summary, Represents, LeadsRepresented}
-use Rattle.varisat_solver.specs.Refusals.{refusal_number}
-use Rattle.varisat_solver.specs.Calls.{AddsClause, Solves, Configures, MakesVar, with_max_steps, by_state}
-use Rattle.varisat_solver.specs.Usage.{ChangesMode, Observes}
-use Rattle.varisat_solver.specs.ProofCalls.{OpensProof, ClosesProof}
+use Rattle.varisat_solver.specs.promises.States.{State, empty_state}
+use Rattle.varisat_solver.specs.promises.Summaries.{Summary, Represents, LeadsRepresented}
+use Rattle.varisat_solver.specs.promises.Refusals.{refusal_number}
+use Rattle.varisat_solver.specs.promises.Calls.{AddsClause, Solves, Configures, MakesVar, with_max_steps, by_state}
+use Rattle.varisat_solver.specs.promises.Usage.{ChangesMode, Observes}
+use Rattle.varisat_solver.specs.promises.ProofCalls.{OpensProof, ClosesProof}
 use Rattle.varisat_solver.specs.declared.solver.SolverError.{SolverError}
 use Rattle.varisat_calls.specs.Numbers.{returned_numbers, returned_names}
 use Rattle.varisat_calls.specs.Codes.{answer_number, verdict_number, numbered}

@@ -6,7 +6,7 @@ use Rattle.varisat_names.specs.declared.variables.data.SamplingMode.{SamplingMod
 use Rattle.varisat_names.specs.declared.variables.data.SamplingMode.TheVariants.{Sample, Witness, Hide}
 use Rattle.varisat_proof.specs.declared.proof.format.ProofFormat.{ProofFormat}
 use Rattle.varisat_proof.specs.declared.proof.format.ProofFormat.TheVariants.{Drat, BinaryDrat, Marked}
-use Rattle.varisat_solver.specs.Refusals.{refusal_number}
+use Rattle.varisat_solver.specs.promises.Refusals.{refusal_number}
 use Rattle.varisat_solver.specs.declared.solver.SolverError.{SolverError}
 
 -- the setting of a number, if it is one of a setting

@@ -1,13 +1,13 @@
 -- The literals of a model or a core that are kept, and what is told of one of them.
 use Rattle.std.specs.Prelude.{◌≡◌, ℕ, ℤ, pos, Bool, Option, Some, None, List, Result, Ok}
 use Rattle.std.specs.declared.alloc.AllocError.{AllocError}
-use Rattle.varisat_theory.specs.Membership.{◌∈◌}
-use Rattle.varisat_theory.specs.Literals.{Literal, opposite}
-use Rattle.varisat_literals.specs.Numbers.{literal_numbered}
-use Rattle.varisat_client.specs.LiteralSets.{Has, IsSetOf}
-use Rattle.varisat_solver.specs.States.{State}
-use Rattle.varisat_solver.specs.Summaries.{Summary, LeadsRepresented}
-use Rattle.varisat_solver.specs.Calls.{ReturnsList, by_state}
+use Rattle.varisat_theory.specs.promises.Membership.{◌∈◌}
+use Rattle.varisat_theory.specs.promises.Literals.{Literal, opposite}
+use Rattle.varisat_literals.specs.promises.Numbers.{literal_numbered}
+use Rattle.varisat_client.specs.inside.LiteralSets.{Has, IsSetOf}
+use Rattle.varisat_solver.specs.promises.States.{State}
+use Rattle.varisat_solver.specs.promises.Summaries.{Summary, LeadsRepresented}
+use Rattle.varisat_solver.specs.promises.Calls.{ReturnsList, by_state}
 use Rattle.varisat_calls.specs.Callers.{Caller, IsWrong}
 use Rattle.varisat_calls.specs.declared.lookups.Kept.{Kept}
 use Rattle.varisat_calls.specs.declared.lookups.Kept.TheVariants as kept

@@ -1,7 +1,7 @@
 -- Literals as the numbers of 32 bits by which a caller is told them.
 use Rattle.std.specs.Prelude.{ℕ, ◌-◌, ◌^◌, nat_eq, if◌then◌else◌, true, ℤ, pos, List, map}
-use Rattle.varisat_theory.specs.Literals.{Literal, literal_of}
-use Rattle.varisat_literals.specs.Numbers.{literal_number}
+use Rattle.varisat_theory.specs.promises.Literals.{Literal, literal_of}
+use Rattle.varisat_literals.specs.promises.Numbers.{literal_number}
 
 -- A literal's number. That of the last variable of all is 2^31, which such a number can't be: it is told as 0, and no solver has it.
 abbrev pub returned_number : Literal → ℤ

@@ -1,12 +1,12 @@
 -- DIMACS texts that a caller gives in pieces, and texts whose proof is checked.
 use Rattle.std.specs.Prelude.{◌≡◌, ◌⊎◌, ℕ, List, [], Option, Some, None, Result, Ok, Err}
-use Rattle.varisat_theory.specs.Literals.{IsSatisfiable}
+use Rattle.varisat_theory.specs.promises.Literals.{IsSatisfiable}
 use Rattle.varisat_formula.specs.declared.dimacs.error.DimacsError.{DimacsError}
-use Rattle.varisat_formula.specs.Dimacs.{dimacs}
-use Rattle.varisat_formula.specs.Rest.{Progress, begin, AdvancesBy, RunsOutIn, IsEnding}
-use Rattle.varisat_solver.specs.ClauseCalls.{AddsFormula}
-use Rattle.varisat_solver.specs.Refusals.{refusal_number}
-use Rattle.varisat_solver.specs.Summaries.{LeadsRepresented}
+use Rattle.varisat_formula.specs.promises.Dimacs.{dimacs}
+use Rattle.varisat_formula.specs.promises.Rest.{Progress, begin, AdvancesBy, RunsOutIn, IsEnding}
+use Rattle.varisat_solver.specs.promises.ClauseCalls.{AddsFormula}
+use Rattle.varisat_solver.specs.promises.Refusals.{refusal_number}
+use Rattle.varisat_solver.specs.promises.Summaries.{LeadsRepresented}
 use Rattle.varisat_solver.specs.declared.solver.SolverError.{SolverError}
 use Rattle.varisat_calls.specs.Callers.{Answer, Caller}
 

@@ -1,7 +1,7 @@
 //! A solver, and what is kept for its caller between calls.
 ghost use Rattle.std.specs.Prelude.{◌≡◌, pos, ◌≤ℤ◌, ◌-◌, ◌^◌, [], None, true, false};
-ghost use Rattle.varisat_literals.specs.Numbers.{variable_numbered};
-ghost use Rattle.varisat_solver.specs.Refusals.{refusal_number};
+ghost use Rattle.varisat_literals.specs.promises.Numbers.{variable_numbered};
+ghost use Rattle.varisat_solver.specs.promises.Refusals.{refusal_number};
 ghost use Rattle.varisat_calls.specs.Codes.{answer_number};
 
 use crate::codes::{DONE, NOTHING, WRONG, field_of, format_of, mode_of};
@@ -66,12 +66,12 @@ impl<A: Allocator + Copy> Model for Caller<A> {
 
 impl<A: Allocator + Copy> Caller<A> {
     ghost use Rattle.std.specs.Prelude.{Ok, Err};
-    ghost use Rattle.varisat_solver.specs.States.{State};
-    ghost use Rattle.varisat_solver.specs.Summaries.{Represents, LeadsRepresented};
-    ghost use Rattle.varisat_solver.specs.Calls.{AddsClause, Assumes, ReturnsList, ReturnsSteps, ReturnsValid, by_state};
-    ghost use Rattle.varisat_solver.specs.ProofCalls.{EnablesChecking};
-    ghost use Rattle.varisat_solver.specs.Usage.{ChangesMode};
-    ghost use Rattle.varisat_theory.specs.Literals.{IsSatisfiableWith};
+    ghost use Rattle.varisat_solver.specs.promises.States.{State};
+    ghost use Rattle.varisat_solver.specs.promises.Summaries.{Represents, LeadsRepresented};
+    ghost use Rattle.varisat_solver.specs.promises.Calls.{AddsClause, Assumes, ReturnsList, ReturnsSteps, ReturnsValid, by_state};
+    ghost use Rattle.varisat_solver.specs.promises.ProofCalls.{EnablesChecking};
+    ghost use Rattle.varisat_solver.specs.promises.Usage.{ChangesMode};
+    ghost use Rattle.varisat_theory.specs.promises.Literals.{IsSatisfiableWith};
     ghost use Rattle.varisat_calls.specs.Codes.{field_numbered, format_numbered, mode_numbered};
     ghost use Rattle.varisat_calls.specs.Callers.{IsNew, Makes, MakesNumbered, MakesOver, AddsNumber, LimitsSteps, Searches, NamesNew, SetsField, SetsMode, ReturnsListOf, Shows, Opens, Closes};
     ghost use Rattle.varisat_calls.specs.Lookups.{ReturnsValue, ReturnsFailed};

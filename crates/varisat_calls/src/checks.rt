@@ -1,8 +1,8 @@
 //! The check of a proof in memory against a DIMACS text in memory.
 ghost use Rattle.std.specs.Prelude.{◌≡◌, ◌≢◌, ◌↔◌, [], false, None, IsTrue, OnOk};
-ghost use Rattle.varisat_theory.specs.Literals.{IsSatisfiable};
-ghost use Rattle.varisat_formula.specs.Dimacs.{dimacs};
-ghost use Rattle.varisat_proof.specs.Verified.{AreGiven};
+ghost use Rattle.varisat_theory.specs.promises.Literals.{IsSatisfiable};
+ghost use Rattle.varisat_formula.specs.promises.Dimacs.{dimacs};
+ghost use Rattle.varisat_proof.specs.promises.Verified.{AreGiven};
 ghost use Rattle.varisat_proof.specs.declared.checker.error.CheckVerdict.TheVariants.{Refutation};
 ghost use Rattle.varisat_calls.specs.Texts.{IsRefutedText};
 

@@ -1,8 +1,8 @@
 //! The literals of a model or a core, kept so that each is looked up in one step.
 ghost use Rattle.std.specs.Prelude.{◌≡◌, ◌↔◌, IsTrue, true, false, OnOk, OnErr, Ok, List};
-ghost use Rattle.varisat_theory.specs.Literals.{Literal};
-ghost use Rattle.varisat_client.specs.LiteralSets.{Has, IsSetOf};
-ghost use Rattle.varisat_solver.specs.Summaries.{Summary};
+ghost use Rattle.varisat_theory.specs.promises.Literals.{Literal};
+ghost use Rattle.varisat_client.specs.inside.LiteralSets.{Has, IsSetOf};
+ghost use Rattle.varisat_solver.specs.promises.Summaries.{Summary};
 ghost use Rattle.varisat_calls.specs.Lookups.{IsValidSolver, IsValueIn, IsMember, IsModel, IsCore, HasNoModel, HasNoCore};
 ghost use Rattle.varisat_calls.specs.declared.lookups.Kept.TheVariants.{Nothing};
 

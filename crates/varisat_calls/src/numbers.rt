@@ -1,7 +1,7 @@
 //! Lists of DIMACS numbers, by which callers give literals and are told them.
 ghost use Rattle.std.specs.Prelude.{◌≡◌, ◌≢◌, ◌∷◌, ◌++◌, [], pos, map, true, false, Ok, OnOk};
-ghost use Rattle.varisat_theory.specs.Membership.{◌∈◌};
-ghost use Rattle.varisat_literals.specs.Numbers.{literal_numbered};
+ghost use Rattle.varisat_theory.specs.promises.Membership.{◌∈◌};
+ghost use Rattle.varisat_literals.specs.promises.Numbers.{literal_numbered};
 ghost use Rattle.varisat_calls.specs.Numbers.{returned_number, returned_numbers, returned_names};
 
 use std::alloc::{AllocError, Allocator};

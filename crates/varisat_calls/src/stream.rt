@@ -1,6 +1,6 @@
 //! A target of a proof whose bytes are taken out while the proof is open.
 ghost use Rattle.std.specs.Prelude.{◌≡◌, ◌++◌, ◌+◌, ◌-◌, ◌<◌, ◌^◌, [], OnOk, OnErr, IfOk};
-ghost use Rattle.varisat_formula.specs.Streams.{Taken};
+ghost use Rattle.varisat_formula.specs.promises.Streams.{Taken};
 
 use std::alloc::{AllocError, Allocator};
 use std::cell::RefCell;

@@ -1,6 +1,6 @@
 -- The clauses after a collection, one by one.
 use Rattle.std.proofs.Common.{◌≡◌, ℕ, zero, suc, ◌+◌, ◌<◌, List, [], ◌∷◌, ◌++◌, length, map, take, take_all, get_or, true, false, cond, refl, sym, ap, ◌∙◌, subst, inl, inr, ⊎_elim, arith, add-one}
-use Rattle.varisat_theory.specs.Membership.{◌∈◌}
+use Rattle.varisat_theory.specs.promises.Membership.{◌∈◌}
 use Rattle.varisat_clause.specs.Headers.{Header}
 use Rattle.varisat_clause.specs.Stored.{StoredClause, IsClauseRef, no_clause, stored_at, header_at, literals_at}
 use Rattle.varisat_clause.specs.Stores.{Store, clause_in, stored_clauses, IsSound, AddsStored, no_store}

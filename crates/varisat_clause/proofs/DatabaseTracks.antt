@@ -1,7 +1,7 @@
 -- The database fits the store: what each change of the clauses does to the counts, the garbage and the lists.
 use Rattle.std.proofs.Common.{◌≡◌, ℕ, ◌+◌, ◌<◌, ◌≤◌, ◌^◌, List, [], ◌∷◌, ◌++◌, length, map, take, Bool, true, false, cond, refl, sym, ap, ◌∙◌, subst, ◌⊎◌, inl, inr, ⊎_elim, arith}
-use Rattle.varisat_theory.specs.Membership.{◌∈◌}
-use Rattle.varisat_theory.proofs.Members.{equal_or_not, ∈-append_left, ∈-append_right, ∈-append_cases}
+use Rattle.varisat_theory.specs.promises.Membership.{◌∈◌}
+use Rattle.varisat_theory.proofs.clauses.Members.{equal_or_not, ∈-append_left, ∈-append_right, ∈-append_cases}
 use Rattle.varisat_clause.specs.declared.header.Tier.{Tier}
 use Rattle.varisat_clause.specs.declared.header.Tier.TheVariants.{Irred, Core, Mid, Local}
 use Rattle.varisat_clause.specs.declared.db.TierCounts.{TierCounts}

@@ -1,7 +1,7 @@
 -- Clauses that a filter goes over, one after another.
 use Rattle.std.proofs.Common.{◌≡◌, ℕ, suc, ◌+◌, ◌<◌, ◌≤◌, List, [], ◌∷◌, ◌++◌, length, get_or, Bool, true, false, refl, sym, ap, ◌∙◌, subst, inl, inr, ⊎_elim, arith}
-use Rattle.varisat_theory.specs.Membership.{◌∈◌}
-use Rattle.varisat_theory.proofs.Members.{equal_or_not, ∈-append_right}
+use Rattle.varisat_theory.specs.promises.Membership.{◌∈◌}
+use Rattle.varisat_theory.proofs.clauses.Members.{equal_or_not, ∈-append_right}
 use Rattle.varisat_clause.specs.Stored.{StoredClause, IsClauseRef, AreRising, no_clause, stored_at, header_at, with_stored, with_header}
 use Rattle.varisat_clause.specs.Stores.{Store, stored_clauses, IsSound, HoldsClauses}
 use Rattle.varisat_clause.specs.Databases.{Database, is_live, Tracks}

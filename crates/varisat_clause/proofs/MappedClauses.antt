@@ -1,6 +1,6 @@
 -- Clauses that are changed one after another, each by its place.
 use Rattle.std.proofs.Common.{◌≡◌, ℕ, zero, suc, ◌+◌, ◌<◌, ◌≤◌, List, [], ◌∷◌, length, map, get_or, refl, sym, ap, ◌∙◌, inl, inr, arith, add-one}
-use Rattle.varisat_theory.specs.Membership.{◌∈◌}
+use Rattle.varisat_theory.specs.promises.Membership.{◌∈◌}
 use Rattle.varisat_clause.specs.Stored.{StoredClause, IsClauseRef, AreRising, no_clause, stored_at, with_stored}
 use Rattle.varisat_clause.specs.Stores.{Store, stored_clauses, IsSound, HoldsClauses}
 use Rattle.varisat_clause.specs.Reductions.{mapped_up_to}

@@ -4,9 +4,9 @@ use Rattle.std.specs.List.{sum_by}
 use Rattle.std.specs.List.Sorted.{IsPermutation, IsNonDecreasingBy}
 use Rattle.std.proofs.lemmas.List.Sums.{sum_by-cons}
 use Rattle.std.proofs.lemmas.List.Sorted.{Contains-permutation, IsPermutation-sym, sum_by-IsPermutation}
-use Rattle.varisat_theory.specs.Membership.{◌∈◌, IsDistinct}
-use Rattle.varisat_theory.proofs.Members.{equal_or_not}
-use Rattle.varisat_theory.proofs.Places.{∈-contains, contains-∈, place_in}
+use Rattle.varisat_theory.specs.promises.Membership.{◌∈◌, IsDistinct}
+use Rattle.varisat_theory.proofs.clauses.Members.{equal_or_not}
+use Rattle.varisat_theory.proofs.clauses.Places.{∈-contains, contains-∈, place_in}
 use Rattle.varisat_clause.specs.declared.header.Tier.{Tier}
 use Rattle.varisat_clause.specs.Stored.{StoredClause, IsClauseRef, AreRising, no_clause, stored_at}
 use Rattle.varisat_clause.specs.Stores.{Store, stored_clauses, IsSound}

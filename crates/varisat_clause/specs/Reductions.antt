@@ -1,6 +1,6 @@
 -- What the reductions leave of the clauses, and the list of a tier.
 use Rattle.std.specs.Prelude.{◌≡◌, ℕ, zero, suc, ◌+◌, ◌*◌, ◌/◌, ◌^◌, slice_index, ◌<◌, ◌⊎◌, Bool, true, false, not, ◌&&◌, if◌then◌else◌, List, [], ◌∷◌, length, map}
-use Rattle.varisat_theory.specs.Membership.{◌∈◌, IsDistinct}
+use Rattle.varisat_theory.specs.promises.Membership.{◌∈◌, IsDistinct}
 use Rattle.varisat_clause.specs.declared.header.Tier.{Tier}
 use Rattle.varisat_clause.specs.declared.header.Tier.TheVariants.{Mid, Local}
 use Rattle.varisat_clause.specs.Stored.{StoredClause, IsClauseRef, stored_at, header_at, with_stored}

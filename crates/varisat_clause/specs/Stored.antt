@@ -1,7 +1,7 @@
 -- The stored clauses, each at its place.
 use Rattle.std.specs.Prelude.{◌≡◌, ℕ, ◌<◌, ◌≤◌, nat_eq, if◌then◌else◌, List, [], ◌∷◌, ◌++◌, length, map, take}
-use Rattle.varisat_theory.specs.Membership.{◌∈◌, SameSet}
-use Rattle.varisat_theory.specs.Literals.{Clause}
+use Rattle.varisat_theory.specs.promises.Membership.{◌∈◌, SameSet}
+use Rattle.varisat_theory.specs.promises.Literals.{Clause}
 use Rattle.varisat_clause.specs.Headers.{Header, no_header}
 
 -- a stored clause, at the place by which reasons and conflicts name it

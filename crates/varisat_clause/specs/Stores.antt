@@ -1,7 +1,7 @@
 -- A store of clauses: one list of words, and the places at which clauses begin in it.
 use Rattle.std.specs.Prelude.{◌≡◌, ℕ, ◌+◌, ◌^◌, ◌≤◌, ◌<◌, nat_le, nat_lt, List, [], ◌∷◌, ◌++◌, length, map, take, drop, Bool, ◌&&◌, slice_index, slice_set}
 use Rattle.varisat_clause.specs.Headers.{Header, header_of_words, flags_of}
-use Rattle.varisat_theory.specs.Literals.{Clause}
+use Rattle.varisat_theory.specs.promises.Literals.{Clause}
 use Rattle.varisat_clause.specs.Stored.{StoredClause, stored_at, header_at, literals_at, with_stored, with_literals, with_header, AppendsClause}
 
 -- A clause is three words for its header, and then its literals. A clause that was shortened leaves a gap behind it.

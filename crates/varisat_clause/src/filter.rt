@@ -1,6 +1,6 @@
 //! Passes over the clauses that are not deleted, in which a filter changes or deletes them.
 ghost use Rattle.std.specs.Prelude.{◌≡◌, true, false, length, IfOk, OnOk, OnErr};
-ghost use Rattle.varisat_theory.specs.Membership.{◌∈◌};
+ghost use Rattle.varisat_theory.specs.promises.Membership.{◌∈◌};
 ghost use Rattle.varisat_clause.specs.Stored.{StoredClause, IsClauseRef};
 ghost use Rattle.varisat_clause.specs.Stores.{stored_clauses, clause_of, IsSound};
 ghost use Rattle.varisat_clause.specs.Databases.{is_live, Tracks};

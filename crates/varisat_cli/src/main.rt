@@ -3,9 +3,9 @@
 
 ghost use Rattle.std.specs.Prelude.{◌≡◌, ◌≢◌, ◌↔◌, ◌⊎◌, ◌-◌, ◌^◌, ◌<◌, IsErr, IfOk, MatchBool, MatchOption};
 ghost use Rattle.std.specs.Fs.{file_type, IsDir};
-ghost use Rattle.varisat.specs.Decided.{StatusIsTrue};
-ghost use Rattle.varisat.specs.Proven.{CanCountFault, DecidesWithStatus, taken_by_writer};
-ghost use Rattle.varisat_proof.specs.Verified.{GivesUnsatisfiable, EndsDrat, EndsCheck, sources_of, fault_status};
+ghost use Rattle.varisat.specs.promises.Decided.{StatusIsTrue};
+ghost use Rattle.varisat.specs.promises.Proven.{CanCountFault, DecidesWithStatus, taken_by_writer};
+ghost use Rattle.varisat_proof.specs.promises.Verified.{GivesUnsatisfiable, EndsDrat, EndsCheck, sources_of, fault_status};
 
 mod help;
 

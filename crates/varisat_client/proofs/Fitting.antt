@@ -2,27 +2,27 @@
 use Rattle.std.proofs.Common.{◌≡◌, ◌⊎◌, ℕ, ◌+◌, ◌-◌, ◌*◌, ◌^◌, ◌<◌, ◌≤◌, Bool, true, length, Result, List, [], ◌∷◌, ◌++◌, inl, inr, ⊎_elim, sym, ap, ◌∙◌, subst, refl, Ok, Err, Option, Some, unwrap_or, map, arith}
 use Rattle.std.proofs.lemmas.Bool.{cases_lt}
 use Rattle.std.proofs.Math.Pow.{pow_mono}
-use Rattle.varisat_theory.specs.Membership.{◌∈◌, ◌⊆◌, IsDistinct}
-use Rattle.varisat_theory.specs.Literals.{Literal, Clause, Assignment, variable_of, opposite, value, SatisfiesAll, MakesTrue, IsSatisfiable, IsFailedCore}
-use Rattle.varisat_theory.proofs.Count.{length-distinct}
-use Rattle.varisat_theory.proofs.Members.{∈-append_left, ∈-append_right, ∈-append_cases}
-use Rattle.varisat_theory.proofs.Values.{parity, not_both, true_or_opposite}
-use Rattle.varisat_literals.specs.Numbers.{variable_limit}
-use Rattle.varisat_solver.specs.States.{State, join_counted, Verdict, Unsat, IsRight}
-use Rattle.varisat_solver.specs.Names.{Naming, name_all, through_names, AreInOrder}
-use Rattle.varisat_solver.specs.Models.{IsCompletable, AreNamesInUse}
-use Rattle.varisat.specs.Counts.{count_with}
-use Rattle.varisat_solver.specs.Calls.{IsPastLimit, IsCrowded, AddsClause, Ignored, Accepted, VerdictAfter, Refuted, Reopened, Assumes, Solves, Configures, CountsIf, Decided, Searched, once_searched, by_state}
+use Rattle.varisat_theory.specs.promises.Membership.{◌∈◌, ◌⊆◌, IsDistinct}
+use Rattle.varisat_theory.specs.promises.Literals.{Literal, Clause, Assignment, variable_of, opposite, value, SatisfiesAll, MakesTrue, IsSatisfiable, IsFailedCore}
+use Rattle.varisat_theory.proofs.bounds.Count.{length-distinct}
+use Rattle.varisat_theory.proofs.clauses.Members.{∈-append_left, ∈-append_right, ∈-append_cases}
+use Rattle.varisat_theory.proofs.clauses.Values.{parity, not_both, true_or_opposite}
+use Rattle.varisat_literals.specs.promises.Numbers.{variable_limit}
+use Rattle.varisat_solver.specs.promises.States.{State, join_counted, Verdict, Unsat, IsRight}
+use Rattle.varisat_solver.specs.promises.Names.{Naming, name_all, through_names, AreInOrder}
+use Rattle.varisat_solver.specs.promises.Models.{IsCompletable, AreNamesInUse}
+use Rattle.varisat.specs.inside.Counts.{count_with}
+use Rattle.varisat_solver.specs.promises.Calls.{IsPastLimit, IsCrowded, AddsClause, Ignored, Accepted, VerdictAfter, Refuted, Reopened, Assumes, Solves, Configures, CountsIf, Decided, Searched, once_searched, by_state}
 use Rattle.varisat_names.specs.declared.config.SolverConfigUpdate.{SolverConfigUpdate}
 use Rattle.varisat_solver.specs.declared.solver.SolverError.TheVariants.{Interrupted}
-use Rattle.varisat_solver.specs.Budgets.{CountsSteps}
+use Rattle.varisat_solver.specs.promises.Budgets.{CountsSteps}
 use Rattle.varisat_solver.specs.declared.solver.SolverError.{SolverError}
-use Rattle.varisat_solver.proofs.CallStates.{same-assumptions, same-clauses, same-counted, same-ledger, same-naming, same-verdict}
+use Rattle.varisat_solver.proofs.calls.CallStates.{same-assumptions, same-clauses, same-counted, same-ledger, same-naming, same-verdict}
 use Rattle.varisat.proofs.NameLaws.{stay-in-order, count-above, count-within, names-are-identities, crowded-is-past-limit}
-use Rattle.varisat_solver.proofs.Counted.{join-more, join-has, join-only, join-once}
-use Rattle.varisat_solver.proofs.SearchVerdicts.{reopened-not-unsat, assumed-unsat}
-use Rattle.varisat_client.specs.Pasts.{IsFoundModel}
-use Rattle.varisat_client.specs.Clients.{WasGiven, CountsAmong}
+use Rattle.varisat_solver.proofs.calls.Counted.{join-more, join-has, join-only, join-once}
+use Rattle.varisat_solver.proofs.steps.SearchVerdicts.{reopened-not-unsat, assumed-unsat}
+use Rattle.varisat_client.specs.promises.Pasts.{IsFoundModel}
+use Rattle.varisat_client.specs.inside.Clients.{WasGiven, CountsAmong}
 
 -- 1. Names are in range.
 

@@ -1,11 +1,11 @@
 -- What a run of a client says of how its searches end, by the calls alone.
 use Rattle.std.proofs.Common.{◌≡◌, ◌≢◌, ℕ, zero, suc, ℤ, pos, negsuc, Bool, true, false, Some, None, List, [], ◌∷◌, ◌++◌, if◌then◌else◌, refl, sym, ap, ◌∙◌, subst}
-use Rattle.varisat_theory.specs.Literals.{Literal, IsSatisfiableWith}
-use Rattle.varisat_literals.specs.Numbers.{literal_numbered}
-use Rattle.varisat_client.specs.Pasts.{Past, refuse, count, Refuses, AddsNumber, AssumesNumber, Begins, LimitsSteps, IsSearchEnd}
-use Rattle.varisat_client.specs.Pasts as past
-use Rattle.varisat_client.specs.Runs.{Makes, MakeInTurn}
-use Rattle.varisat_client.specs.Given.{Given, is_zero, give, IsRightAnswer, AreDecided}
+use Rattle.varisat_theory.specs.promises.Literals.{Literal, IsSatisfiableWith}
+use Rattle.varisat_literals.specs.promises.Numbers.{literal_numbered}
+use Rattle.varisat_client.specs.promises.Pasts.{Past, refuse, count, Refuses, AddsNumber, AssumesNumber, Begins, LimitsSteps, IsSearchEnd}
+use Rattle.varisat_client.specs.promises.Pasts as past
+use Rattle.varisat_client.specs.promises.Runs.{Makes, MakeInTurn}
+use Rattle.varisat_client.specs.promises.Given.{Given, is_zero, give, IsRightAnswer, AreDecided}
 use Rattle.varisat_client.specs.declared.client.SearchEnd.{SearchEnd}
 use Rattle.varisat_client.specs.declared.refusal.Refusal.{Refusal}
 use Rattle.varisat_client.specs.declared.refusal.Refusal.TheVariants as refusal

@@ -2,31 +2,31 @@
 use Rattle.std.proofs.Common.{◌≡◌, ◌≢◌, ◌↔◌, ℕ, zero, suc, ℤ, pos, negsuc, Bool, true, false, IsTrue, Option, Some, None, List, [], ◌∷◌, ◌++◌, sym, ap, ◌∙◌, subst, refl, Ok, Err, arith}
 use Rattle.std.specs.Prelude.{is_some}
 use Rattle.std.specs.Option.{unwrap_or}
-use Rattle.varisat_theory.specs.Membership.{◌∈◌}
-use Rattle.varisat_theory.specs.Literals.{Literal}
-use Rattle.varisat_literals.specs.Numbers.{literal_numbered}
-use Rattle.varisat_names.specs.Settings.{update_of, first_bad}
+use Rattle.varisat_theory.specs.promises.Membership.{◌∈◌}
+use Rattle.varisat_theory.specs.promises.Literals.{Literal}
+use Rattle.varisat_literals.specs.promises.Numbers.{literal_numbered}
+use Rattle.varisat_names.specs.promises.Settings.{update_of, first_bad}
 use Rattle.varisat_names.proofs.Maps.{is_none-none}
 use Rattle.varisat_names.specs.declared.config.SolverConfigUpdate.{SolverConfigUpdate}
 use Rattle.varisat_names.specs.declared.config.ConfigField.TheVariants.{MaxSteps}
-use Rattle.varisat_solver.specs.States.{State}
-use Rattle.varisat_solver.proofs.CallStates.{same-counted}
-use Rattle.varisat.specs.Proven.{configured}
+use Rattle.varisat_solver.specs.promises.States.{State}
+use Rattle.varisat_solver.proofs.calls.CallStates.{same-counted}
+use Rattle.varisat.specs.promises.Proven.{configured}
 use Rattle.varisat.proofs.NameLaws.{none-in-order}
-use Rattle.varisat_solver.specs.Calls.{AddsClause, Assumes, Solves, Configures, by_state}
+use Rattle.varisat_solver.specs.promises.Calls.{AddsClause, Assumes, Solves, Configures, by_state}
 use Rattle.varisat_solver.specs.declared.solver.SolverError.{SolverError}
 use Rattle.varisat_solver.specs.declared.solver.SolverError.TheVariants as error
-use Rattle.varisat_solver.specs.Summaries.{Summary, Represents, HasFullStore}
+use Rattle.varisat_solver.specs.promises.Summaries.{Summary, Represents, HasFullStore}
 use Rattle.varisat_client.specs.declared.client.SearchEnd.{SearchEnd}
 use Rattle.varisat_client.specs.declared.client.SearchEnd.TheVariants as end
 use Rattle.varisat_client.specs.declared.refusal.Refusal.{Refusal}
 use Rattle.varisat_client.specs.declared.refusal.Refusal.TheVariants.{OutOfMemory, ClauseStoreFull}
-use Rattle.varisat_client.specs.Refusals.{refusal_for}
-use Rattle.varisat_client.specs.LiteralSets.{Has, IsSetOf}
-use Rattle.varisat_client.specs.Pasts.{Past, empty_past, refuse, count, Again, Memory, AddsNumber, AssumesNumber, Begins, LimitsSteps, IsSearchEnd, ReturnsFailed}
-use Rattle.varisat_client.specs.Pasts as past
-use Rattle.varisat_client.specs.Clients.{Client, HoldsPast, RepresentsPast, Moves, KeepsModel, KeepsCore}
-use Rattle.varisat_client.specs.Clients as client
+use Rattle.varisat_client.specs.inside.Refusals.{refusal_for}
+use Rattle.varisat_client.specs.inside.LiteralSets.{Has, IsSetOf}
+use Rattle.varisat_client.specs.promises.Pasts.{Past, empty_past, refuse, count, Again, Memory, AddsNumber, AssumesNumber, Begins, LimitsSteps, IsSearchEnd, ReturnsFailed}
+use Rattle.varisat_client.specs.promises.Pasts as past
+use Rattle.varisat_client.specs.inside.Clients.{Client, HoldsPast, RepresentsPast, Moves, KeepsModel, KeepsCore}
+use Rattle.varisat_client.specs.inside.Clients as client
 use Rattle.varisat_client.proofs.Fitting as fitting
 use Rattle.varisat_client.proofs.Refusing.{is-full, clause-refused, list-refused, list-stored, search-refused, never-refused}
 

@@ -1,16 +1,16 @@
 -- Why calls of a client are refused.
 use Rattle.std.proofs.Common.{◌≡◌, ◌⊎◌, inl, inr, ⊎_elim, ℕ, Bool, true, false, Some, None, List, [], refl, ap, sym, ◌∙◌, subst, Err}
-use Rattle.varisat_theory.specs.Literals.{Literal, Clause}
-use Rattle.varisat_names.specs.Settings.{first_bad}
+use Rattle.varisat_theory.specs.promises.Literals.{Literal, Clause}
+use Rattle.varisat_names.specs.promises.Settings.{first_bad}
 use Rattle.varisat_names.specs.declared.config.SolverConfigUpdate.{SolverConfigUpdate}
-use Rattle.varisat_solver.specs.States.{State}
-use Rattle.varisat_solver.specs.Calls.{IsPastLimit, AddsClause, Assumes, Solves, Configures, by_state}
+use Rattle.varisat_solver.specs.promises.States.{State}
+use Rattle.varisat_solver.specs.promises.Calls.{IsPastLimit, AddsClause, Assumes, Solves, Configures, by_state}
 use Rattle.varisat_solver.specs.declared.solver.SolverError.{SolverError}
 use Rattle.varisat_solver.specs.declared.solver.SolverError.TheVariants as error
 use Rattle.varisat_client.specs.declared.refusal.Refusal.TheVariants.{OutOfMemory, VariableLimit, ClauseStoreFull}
-use Rattle.varisat_client.specs.Refusals.{refusal_for}
-use Rattle.varisat_client.specs.Pasts.{Past, refuse, Refuses, Memory, Limit, Full}
-use Rattle.varisat_client.specs.Clients.{WasGiven}
+use Rattle.varisat_client.specs.inside.Refusals.{refusal_for}
+use Rattle.varisat_client.specs.promises.Pasts.{Past, refuse, Refuses, Memory, Limit, Full}
+use Rattle.varisat_client.specs.inside.Clients.{WasGiven}
 use Rattle.varisat_client.proofs.Fitting.{past-limit}
 
 -- what errors are told as

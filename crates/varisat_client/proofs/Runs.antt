@@ -1,7 +1,7 @@
 -- Runs of a client that go on.
 use Rattle.std.proofs.Common.{List, [], ◌∷◌, ◌++◌, refl, subst}
-use Rattle.varisat_client.specs.Pasts.{Past}
-use Rattle.varisat_client.specs.Runs.{Makes, MakeInTurn}
+use Rattle.varisat_client.specs.promises.Pasts.{Past}
+use Rattle.varisat_client.specs.promises.Runs.{Makes, MakeInTurn}
 use Rattle.varisat_client.specs.declared.session.Call.{Call}
 use Rattle.varisat_client.specs.declared.session.Answer.{Answer}
 

@@ -1,8 +1,8 @@
 -- Flags of literals that are set one after another.
 use Rattle.std.proofs.Common.{◌≡◌, ℕ, zero, suc, ◌<◌, ◌≤◌, Bool, true, false, List, [], ◌∷◌, ◌++◌, ◌-◌, length, get_or, set, take, replicate, inl, ⊎_elim, refl, sym, ap, ◌∙◌, subst, arith, get_or-set_same, get_or-set_other}
-use Rattle.varisat_theory.specs.Literals.{Literal}
-use Rattle.varisat_theory.proofs.Members.{equal_or_not, ∈-append_left, ∈-append_right, ∈-append_cases}
-use Rattle.varisat_client.specs.LiteralSets.{IsSetOf, HaveFlags}
+use Rattle.varisat_theory.specs.promises.Literals.{Literal}
+use Rattle.varisat_theory.proofs.clauses.Members.{equal_or_not, ∈-append_left, ∈-append_right, ∈-append_cases}
+use Rattle.varisat_client.specs.inside.LiteralSets.{IsSetOf, HaveFlags}
 
 -- one more literal joins the set
 pub set-push : (ls : List Literal) (l : Literal) (flags : List Bool) (i : ℕ) → i ≡ l → i < length flags → IsSetOf ls flags →

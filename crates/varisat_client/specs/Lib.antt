@@ -1,6 +1,2 @@
-pub mod LiteralSets
-pub mod Refusals
-pub mod Pasts
-pub mod Clients
-pub mod Runs
-pub mod Given
+pub mod inside
+pub mod promises

@@ -1,8 +1,8 @@
 //! A client of the solver that takes clauses and assumptions a literal at a time, and tells values one at a time.
 ghost use Rattle.std.specs.Prelude.{◌≡◌, ◌≢◌, ◌∷◌, [], ◌++◌, pos, OnOk, false, None};
-ghost use Rattle.varisat_literals.specs.Numbers.{literal_numbered};
-ghost use Rattle.varisat_solver.specs.Summaries.{Represents};
-ghost use Rattle.varisat.specs.Proven.{configured};
+ghost use Rattle.varisat_literals.specs.promises.Numbers.{literal_numbered};
+ghost use Rattle.varisat_solver.specs.promises.Summaries.{Represents};
+ghost use Rattle.varisat.specs.promises.Proven.{configured};
 
 use crate::literal_set::LitSet;
 use crate::refusal::{Refusal, refusal_for};
@@ -75,7 +75,7 @@ pub struct Client<A: Allocator + Copy> {
 }
 
 impl<A: Allocator + Copy> Model for Client<A> {
-    ghost use Rattle.varisat_client.specs.Clients as clients;
+    ghost use Rattle.varisat_client.specs.inside.Clients as clients;
 
     ghost Value = { clients.Client };
 
@@ -90,8 +90,8 @@ impl<A: Allocator + Copy> Model for Client<A> {
 }
 
 impl<A: Allocator + Copy> Client<A> {
-    ghost use Rattle.varisat_client.specs.Pasts.{Past, empty_past, AddsNumber, AssumesNumber, Begins, LimitsSteps, IsSearchEnd, ReturnsValue, ReturnsFailed};
-    ghost use Rattle.varisat_client.specs.Clients.{RepresentsPast, Moves, RunsOutOfMemory, KeepsModel, KeepsCore};
+    ghost use Rattle.varisat_client.specs.promises.Pasts.{Past, empty_past, AddsNumber, AssumesNumber, Begins, LimitsSteps, IsSearchEnd, ReturnsValue, ReturnsFailed};
+    ghost use Rattle.varisat_client.specs.inside.Clients.{RepresentsPast, Moves, RunsOutOfMemory, KeepsModel, KeepsCore};
 
     /// A client with a new solver. It takes no memory.
     pub fn new_in(alloc: A) -> Client<A>

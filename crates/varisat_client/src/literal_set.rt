@@ -1,6 +1,6 @@
 //! Sets of literals that are asked for in one step each.
 ghost use Rattle.std.specs.Prelude.{◌≡◌, [], length, ◌↔◌, IsTrue, OnOk, ◌^◌, ◌≤◌};
-ghost use Rattle.varisat_client.specs.LiteralSets.{Has, IsSetOf, HaveFlags};
+ghost use Rattle.varisat_client.specs.inside.LiteralSets.{Has, IsSetOf, HaveFlags};
 
 use std::alloc::{AllocError, Allocator};
 use std::marker::Model;

@@ -1,6 +1,6 @@
 //! Why a client refuses calls.
 ghost use Rattle.std.specs.Prelude.{◌≡◌};
-ghost use Rattle.varisat_client.specs.Refusals.{refusal_for};
+ghost use Rattle.varisat_client.specs.inside.Refusals.{refusal_for};
 
 use varisat::solver::SolverError;
 

@@ -1,9 +1,9 @@
 //! Any list of calls of a client.
 ghost use Rattle.std.specs.Prelude.{◌≡◌, IfOk, OnErr};
-ghost use Rattle.varisat_client.specs.Pasts.{Past, empty_past};
-ghost use Rattle.varisat_client.specs.Clients.{Moves, RepresentsPast};
-ghost use Rattle.varisat_client.specs.Runs.{Makes, MakeInTurn};
-ghost use Rattle.varisat_client.specs.Given.{none_given, AreDecided};
+ghost use Rattle.varisat_client.specs.promises.Pasts.{Past, empty_past};
+ghost use Rattle.varisat_client.specs.inside.Clients.{Moves, RepresentsPast};
+ghost use Rattle.varisat_client.specs.promises.Runs.{Makes, MakeInTurn};
+ghost use Rattle.varisat_client.specs.promises.Given.{none_given, AreDecided};
 
 use crate::client::{Client, SearchEnd};
 use crate::refusal::Refusal;

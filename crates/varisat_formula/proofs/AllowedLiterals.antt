@@ -1,13 +1,13 @@
 -- Literals that are no fault.
 use Rattle.std.proofs.Common.{◌≡◌, ℕ, zero, suc, ◌+◌, ◌-◌, ◌/◌, ◌<◌, ◌≤◌, max, List, [], ◌∷◌, ◌++◌, Bool, true, false, ◌&&◌, not, nat_lt, nat_le, if◌then◌else◌, refl, sym, ap, ◌∙◌, arith, rules, Option, Some, None}
-use Rattle.varisat_theory.specs.Literals.{literal_of}
-use Rattle.varisat_literals.specs.Numbers.{variable_limit}
+use Rattle.varisat_theory.specs.promises.Literals.{literal_of}
+use Rattle.varisat_literals.specs.promises.Numbers.{variable_limit}
 use Rattle.varisat_formula.specs.declared.dimacs.error.DimacsErrorKind.TheVariants.{VarCount, ClauseCount}
 use Rattle.varisat_formula.specs.declared.dimacs.header.Sizes.{Sizes}
 use Rattle.varisat_formula.specs.declared.dimacs.token.Meaning.TheVariants.{TooLarge, Literal}
-use Rattle.varisat_formula.specs.Dimacs.{Reading, is_none_open, is_one_too_many, is_above, in_range, after_token, failed, Item, Token, read, step_by}
-use Rattle.varisat_formula.specs.Machine.{word_says, a_number, is_none}
-use Rattle.varisat_formula.specs.Rest.{Allows, word_items}
+use Rattle.varisat_formula.specs.promises.Dimacs.{Reading, is_none_open, is_one_too_many, is_above, in_range, after_token, failed, Item, Token, read, step_by}
+use Rattle.varisat_formula.specs.inside.Machine.{word_says, a_number, is_none}
+use Rattle.varisat_formula.specs.promises.Rest.{Allows, word_items}
 
 in_limit : (b : Bool) (n : ℕ) → n ≤ variable_limit → in_range b n ≡ Literal (literal_of (n - 1) b)
 in_limit b n h =

@@ -1,7 +1,7 @@
 -- A text of which pieces are given.
 use Rattle.std.proofs.Common.{◌≡◌, ℕ, zero, suc, ◌+◌, ◌<◌, ◌≤◌, ◌⊎◌, inl, inr, append-nil, List, [], ◌∷◌, ◌++◌, take, drop, length, min, refl, sym, ap, ◌∙◌, arith}
 use Rattle.std.proofs.lemmas.List.{take-append-drop}
-use Rattle.varisat_formula.specs.Streams.{piece_size}
+use Rattle.varisat_formula.specs.promises.Streams.{piece_size}
 
 -- a copied front is the front of what it was copied from
 pub copied_front : (n : ℕ) (front rest text behind : List ℕ) → rest ≡ text → front ≡ take n rest → n ≤ length rest → take n (front ++ behind) ≡ take n text

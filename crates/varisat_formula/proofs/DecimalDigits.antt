@@ -2,8 +2,8 @@
 use Rattle.std.proofs.Common.{◌≡◌, ℕ, zero, suc, ◌+◌, ◌-◌, ◌*◌, ◌/◌, ◌%◌, ◌^◌, ◌<◌, List, [], ◌∷◌, ◌++◌, Bool, true, false, ◌==◌, if◌then◌else◌, refl, ap, ◌∙◌, Option, Some, None, get_or, arith, rules, decimal, pos, negsuc}
 use Rattle.std.proofs.lemmas.Fmt.{decimal_by_steps, first_decimal, decimal_digit}
 use Rattle.std.specs.Fmt.{signed_decimal}
-use Rattle.varisat_formula.specs.Dimacs.{is_digit, digits_after, number}
-use Rattle.varisat_literals.specs.Numbers.{literal_text}
+use Rattle.varisat_formula.specs.promises.Dimacs.{is_digit, digits_after, number}
+use Rattle.varisat_literals.specs.promises.Numbers.{literal_text}
 
 is_digit_of : (n : ℕ) → n < 10 → is_digit (48 + n) ≡ true
 is_digit_of n h = search (rules, h)

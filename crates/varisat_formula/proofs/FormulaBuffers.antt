@@ -5,8 +5,8 @@ use Rattle.std.proofs.lemmas.Bool.Decides.{same_from_decides, Decides-eqb}
 use Rattle.std.proofs.lemmas.Slice.Eq.{slice_eq-Decides}
 use Rattle.std.specs.Bool.{Decides}
 use Rattle.std.specs.Cmp.Lexicographic.{pointwise}
-use Rattle.varisat_formula.specs.Formulas.{Formula, cut, UseUp, BuffersFit, AllBelow, AreBelow, variables_of, with_one_more, with_more}
-use Rattle.varisat_formula.specs.Equality.{same_formula}
+use Rattle.varisat_formula.specs.promises.Formulas.{Formula, cut, UseUp, BuffersFit, AllBelow, AreBelow, variables_of, with_one_more, with_more}
+use Rattle.varisat_formula.specs.inside.Equality.{same_formula}
 
 pub length-cut : (ns ls : List ℕ) → length ns ≡ length (cut ns ls)
 length-cut [] ls = refl

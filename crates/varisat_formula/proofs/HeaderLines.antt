@@ -1,15 +1,15 @@
 -- Header lines, a byte at a time.
 use Rattle.std.proofs.Common.{◌≡◌, ℕ, zero, suc, ◌+◌, ◌-◌, ◌*◌, ◌^◌, ◌<◌, ◌≤◌, List, [], ◌∷◌, ◌++◌, Bool, true, false, ◌&&◌, ◌==◌, nat_lt, if◌then◌else◌, refl, sym, ap, ◌∙◌, append_assoc, Option, Some, None, option_map, min, arith, rules, codes, bytes_eq}
 use Rattle.std.proofs.lemmas.Slice.Eq.{bytes_eq-Decides}
-use Rattle.varisat_literals.specs.Numbers.{variable_limit}
+use Rattle.varisat_literals.specs.promises.Numbers.{variable_limit}
 use Rattle.varisat_formula.specs.declared.dimacs.token.Digits.{Digits}
 use Rattle.varisat_formula.specs.declared.dimacs.token.Digits.TheVariants.{Empty, Number, Large, NoNumber}
 use Rattle.varisat_formula.specs.declared.dimacs.header.Heading.{Heading}
 use Rattle.varisat_formula.specs.declared.dimacs.header.Heading.TheVariants.{Malformed, Oversized, Sized}
 use Rattle.varisat_formula.specs.declared.dimacs.header.HeaderPart.{HeaderPart}
 use Rattle.varisat_formula.specs.declared.dimacs.header.HeaderPart.TheVariants.{Name, Gap, C, Cn, Cnf, Vars, Clauses, Last, Bad}
-use Rattle.varisat_formula.specs.Dimacs.{is_blank, is_digit, tokens, number, sized, sizes, header_of}
-use Rattle.varisat_formula.specs.Machine.{after_digit, grown, digits_from, says, is_empty, header_from, header_says, header_blank, header_more, vars_ended, clauses_ended, clauses_says}
+use Rattle.varisat_formula.specs.promises.Dimacs.{is_blank, is_digit, tokens, number, sized, sizes, header_of}
+use Rattle.varisat_formula.specs.inside.Machine.{after_digit, grown, digits_from, says, is_empty, header_from, header_says, header_blank, header_more, vars_ended, clauses_ended, clauses_says}
 use Rattle.varisat_formula.proofs.TokenBytes.{capped, number_agrees, one_token, tokens_behind, tokens_end, tokens_blank, tokens_more, tokens_all, not_empty, digits_not_empty}
 
 -- the tokens of the rest of a line, the first of which goes on

@@ -1,16 +1,16 @@
 -- Texts that are read from sources, piece by piece.
 use Rattle.std.proofs.Common.{◌≡◌, ℕ, ◌+◌, ◌≤◌, List, [], ◌++◌, ◌⊎◌, inl, inr, Bool, false, Option, Some, None, Result, Ok, Err, take, drop, refl, sym, ap, subst, ◌∙◌, append_assoc, append-nil, take-append-drop, zero, suc, get_or, true, ◌∷◌, arith}
 use Rattle.std.specs.Io.KnownBytes.{Consumes, Keeps}
-use Rattle.varisat_theory.specs.Literals.{Clause}
+use Rattle.varisat_theory.specs.promises.Literals.{Clause}
 use Rattle.varisat_formula.specs.declared.dimacs.error.DimacsError.{DimacsError}
 use Rattle.varisat_formula.specs.declared.dimacs.error.DimacsErrorKind.{DimacsErrorKind}
 use Rattle.varisat_formula.specs.declared.dimacs.error.DimacsErrorKind.TheVariants.{Io, OutOfMemory}
-use Rattle.varisat_formula.specs.Formulas.{Formula}
-use Rattle.varisat_formula.specs.Streams.{Input, Reads, HasEnded}
-use Rattle.varisat_formula.specs.Dimacs.{Reading, nothing, items, read, lines, last_line, is_blank, Ending, Ends, GoesOn, BreaksOff, close_by, gives, dimacs, so_far, broken}
-use Rattle.varisat_formula.specs.Rest.{Progress, begin, gives_from, so_far_from, AdvancesBy, KeepsToken, IsEnding, RunsOutIn, failing, failing_by, with_front}
-use Rattle.varisat_formula.specs.Parsed.{EndsInFault, PieceHasFault, PieceWantsRoom, SourceFailed, TakesPiece, EndsToken, GivesReading, Whole, FaultInText, TextFailed, ReaderRanOut}
-use Rattle.varisat_formula.specs.TakenTexts.{GivesFirst}
+use Rattle.varisat_formula.specs.promises.Formulas.{Formula}
+use Rattle.varisat_formula.specs.promises.Streams.{Input, Reads, HasEnded}
+use Rattle.varisat_formula.specs.promises.Dimacs.{Reading, nothing, items, read, lines, last_line, is_blank, Ending, Ends, GoesOn, BreaksOff, close_by, gives, dimacs, so_far, broken}
+use Rattle.varisat_formula.specs.promises.Rest.{Progress, begin, gives_from, so_far_from, AdvancesBy, KeepsToken, IsEnding, RunsOutIn, failing, failing_by, with_front}
+use Rattle.varisat_formula.specs.promises.Parsed.{EndsInFault, PieceHasFault, PieceWantsRoom, SourceFailed, TakesPiece, EndsToken, GivesReading, Whole, FaultInText, TextFailed, ReaderRanOut}
+use Rattle.varisat_formula.specs.promises.TakenTexts.{GivesFirst}
 use Rattle.varisat_formula.proofs.ParserMemory.{kept_by}
 use Rattle.varisat_formula.proofs.TargetParts.{put_part}
 use Rattle.varisat_formula.proofs.ParserProgress.{gives_failed, over_gives, begin_gives, breaks_off}

@@ -4,8 +4,8 @@ use Rattle.varisat_formula.specs.declared.dimacs.token.Word.{Word}
 use Rattle.varisat_formula.specs.declared.dimacs.parser.ParserState.TheVariants.{Plain}
 use Rattle.varisat_formula.specs.declared.dimacs.error.DimacsError.{DimacsError}
 use Rattle.varisat_formula.specs.declared.dimacs.error.DimacsErrorKind.TheVariants.{OutOfMemory}
-use Rattle.varisat_formula.specs.Dimacs.{Reading, read, failed, is_blank, GoesOn, BreaksOff, close, close_by}
-use Rattle.varisat_formula.specs.Rest.{Progress, word_items, line_rest, gives_from, so_far_from, AdvancesBy, KeepsToken, WantsRoom, RunsOut, RunsOutIn}
+use Rattle.varisat_formula.specs.promises.Dimacs.{Reading, read, failed, is_blank, GoesOn, BreaksOff, close, close_by}
+use Rattle.varisat_formula.specs.promises.Rest.{Progress, word_items, line_rest, gives_from, so_far_from, AdvancesBy, KeepsToken, WantsRoom, RunsOut, RunsOutIn}
 use Rattle.varisat_formula.proofs.ParserProgress.{open_gives, goes_on, breaks_off}
 
 longer : {X : Type 0} (xs : List X) (x : X) → xs ++ x ∷ [] ≡ xs → ⊥

@@ -7,9 +7,9 @@ use Rattle.varisat_formula.specs.declared.dimacs.parser.ParserState.{ParserState
 use Rattle.varisat_formula.specs.declared.dimacs.parser.ParserState.TheVariants.{Start, Comment, Header, Plain}
 use Rattle.varisat_formula.specs.declared.dimacs.error.DimacsError.{DimacsError}
 use Rattle.varisat_formula.specs.declared.dimacs.error.DimacsErrorKind.{DimacsErrorKind}
-use Rattle.varisat_formula.specs.Dimacs.{Item, Reading, nothing, put, is_blank, is_line_feed, tokens, header_items, line_items, token_items, items, next, lines, last_line, read, step, step_by, Ending, GoesOn, BreaksOff, is_whole, close, close_by, gives, failed, header_of}
-use Rattle.varisat_formula.specs.Machine.{no_word, after_byte, after_header_byte}
-use Rattle.varisat_formula.specs.Rest.{Progress, begin, word_items, plain_rest, line_rest, rest_items, start_place, gives_from, AdvancesBy}
+use Rattle.varisat_formula.specs.promises.Dimacs.{Item, Reading, nothing, put, is_blank, is_line_feed, tokens, header_items, line_items, token_items, items, next, lines, last_line, read, step, step_by, Ending, GoesOn, BreaksOff, is_whole, close, close_by, gives, failed, header_of}
+use Rattle.varisat_formula.specs.inside.Machine.{no_word, after_byte, after_header_byte}
+use Rattle.varisat_formula.specs.promises.Rest.{Progress, begin, word_items, plain_rest, line_rest, rest_items, start_place, gives_from, AdvancesBy}
 use Rattle.varisat_formula.proofs.TokenBytes.{split_pieces, plain_agrees}
 use Rattle.varisat_formula.proofs.HeaderLines.{header_agrees}
 

@@ -6,8 +6,8 @@ use Rattle.varisat_formula.specs.declared.dimacs.token.Meaning.{Meaning}
 use Rattle.varisat_formula.specs.declared.dimacs.token.Meaning.TheVariants.{End, Literal, TooLarge, Wrong}
 use Rattle.varisat_formula.specs.declared.dimacs.error.DimacsError.{DimacsError}
 use Rattle.varisat_formula.specs.declared.dimacs.error.DimacsErrorKind.TheVariants.{LiteralTooLarge, InvalidHeader, VarCount, ClauseCount, UnterminatedClause}
-use Rattle.varisat_formula.specs.Dimacs.{Item, Header, Token, Reading, after_token, after_header, after, step, step_by, read, at_end, failed, is_one_too_many, is_above, is_started, is_short, is_none_open, next, Ending, Ends, GoesOn, BreaksOff, is_whole, close, close_by, last_line, lines}
-use Rattle.varisat_formula.specs.Rest.{Progress, gives_from, rest_items, with_front}
+use Rattle.varisat_formula.specs.promises.Dimacs.{Item, Header, Token, Reading, after_token, after_header, after, step, step_by, read, at_end, failed, is_one_too_many, is_above, is_started, is_short, is_none_open, next, Ending, Ends, GoesOn, BreaksOff, is_whole, close, close_by, last_line, lines}
+use Rattle.varisat_formula.specs.promises.Rest.{Progress, gives_from, rest_items, with_front}
 
 front_if : (front : List (List ℕ)) (t : Bool) (a b : Reading) → (if t then with_front front a else with_front front b) ≡ with_front front (if t then a else b)
 front_if front true a b = refl

@@ -4,12 +4,12 @@ use Rattle.std.specs.List.{FoldsTo}
 use Rattle.std.proofs.lemmas.Fn.{FoldsTo-push}
 use Rattle.varisat_formula.specs.declared.dimacs.error.DimacsError.{DimacsError}
 use Rattle.varisat_formula.specs.declared.dimacs.error.DimacsErrorKind.TheVariants.{OutOfMemory}
-use Rattle.varisat_formula.specs.Dimacs.{Reading, Ends, GoesOn, BreaksOff}
-use Rattle.varisat_formula.specs.Rest.{Progress, begin, dimacs_from, AdvancesBy, IsEnding, fault_of}
+use Rattle.varisat_formula.specs.promises.Dimacs.{Reading, Ends, GoesOn, BreaksOff}
+use Rattle.varisat_formula.specs.promises.Rest.{Progress, begin, dimacs_from, AdvancesBy, IsEnding, fault_of}
 use Rattle.varisat_formula.proofs.ParserMemory.{kept_by}
 use Rattle.varisat_formula.proofs.ParserProgress.{over_gives, breaks_off}
-use Rattle.varisat_formula.specs.Streams.{Input}
-use Rattle.varisat_formula.specs.Parsed.{ParseState, Calling, TakesPiece, GivesReading, Turn, Turns, TakesEnd, Finishes, Takes, HasFault, IsRefused, Refuses}
+use Rattle.varisat_formula.specs.promises.Streams.{Input}
+use Rattle.varisat_formula.specs.promises.Parsed.{ParseState, Calling, TakesPiece, GivesReading, Turn, Turns, TakesEnd, Finishes, Takes, HasFault, IsRefused, Refuses}
 use Rattle.varisat_formula.proofs.ParsedSources.{ReadSo, read_nothing, read_more, piece_told, text_broken, text_ended}
 
 -- the end of a text that was read, without a fault

@@ -3,7 +3,7 @@ use Rattle.std.specs.Prelude.{◌≡◌, ℕ, List, [], ◌∷◌, Option, Some,
 use Rattle.varisat_formula.specs.declared.dimacs.error.DimacsErrorKind.{DimacsErrorKind}
 use Rattle.varisat_formula.specs.declared.dimacs.error.DimacsErrorKind.TheVariants.{UnexpectedInput, LiteralTooLarge, InvalidHeader, ClauseCount, Io}
 use Rattle.varisat_formula.specs.declared.dimacs.error.DimacsError.{DimacsError}
-use Rattle.varisat_formula.specs.Dimacs.{Reading, dimacs, broken}
+use Rattle.varisat_formula.specs.promises.Dimacs.{Reading, dimacs, broken}
 
 -- the clauses that ended, and the first fault
 abbrev pub Tells : Reading → List (List ℕ) → Option DimacsError → Type 0

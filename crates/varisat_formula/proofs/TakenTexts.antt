@@ -1,13 +1,13 @@
 -- Texts whose clauses a sink takes.
 use Rattle.std.proofs.Common.{◌≡◌, List, ◌++◌, inl, Option, Result, Ok, Err, refl, sym, subst, append_assoc}
 use Rattle.std.specs.Result.{result_err}
-use Rattle.varisat_theory.specs.Literals.{Clause}
+use Rattle.varisat_theory.specs.promises.Literals.{Clause}
 use Rattle.varisat_formula.specs.declared.dimacs.error.DimacsError.{DimacsError}
-use Rattle.varisat_formula.specs.Dimacs.{Reading}
-use Rattle.varisat_formula.specs.Rest.{fault_of, with_front}
-use Rattle.varisat_formula.specs.Streams.{Input}
-use Rattle.varisat_formula.specs.Parsed.{GivesReading}
-use Rattle.varisat_formula.specs.TakenTexts.{TakesInTurn, InOne, InMore, TakesText, RefusesClause}
+use Rattle.varisat_formula.specs.promises.Dimacs.{Reading}
+use Rattle.varisat_formula.specs.promises.Rest.{fault_of, with_front}
+use Rattle.varisat_formula.specs.promises.Streams.{Input}
+use Rattle.varisat_formula.specs.promises.Parsed.{GivesReading}
+use Rattle.varisat_formula.specs.promises.TakenTexts.{TakesInTurn, InOne, InMore, TakesText, RefusesClause}
 
 pub err_told : (r : Result (Unit {0}) DimacsError) → result_err r ≡ fault_of r
 err_told (Ok u) = refl

@@ -1,9 +1,9 @@
 -- Text that is written in parts.
 use Rattle.std.proofs.Common.{◌≡◌, ℕ, zero, suc, ◌+◌, ◌<◌, ◌≤◌, List, [], ◌∷◌, ◌++◌, take, drop, get_or, length, flat_map, refl, sym, ap, ◌∙◌, append_assoc, append-nil, arith, Result, Ok, Err}
-use Rattle.varisat_formula.specs.Formulas.{Formula}
-use Rattle.varisat_formula.specs.Streams.{Taken}
-use Rattle.varisat_literals.specs.Numbers.{literal_text}
-use Rattle.varisat_formula.specs.Written.{Puts, spaced_literals, clauses_text, header_text, formula_text}
+use Rattle.varisat_formula.specs.promises.Formulas.{Formula}
+use Rattle.varisat_formula.specs.promises.Streams.{Taken}
+use Rattle.varisat_literals.specs.promises.Numbers.{literal_text}
+use Rattle.varisat_formula.specs.promises.Written.{Puts, spaced_literals, clauses_text, header_text, formula_text}
 
 -- a beginning of one part is a beginning of the whole
 begin_part : (n : ℕ) (part rest : List ℕ) → (m : ℕ) × (take n part ≡ take m (part ++ rest))

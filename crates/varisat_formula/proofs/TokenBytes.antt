@@ -1,15 +1,15 @@
 -- Tokens, a byte at a time.
 use Rattle.std.proofs.Common.{◌≡◌, ℕ, zero, suc, ◌+◌, ◌-◌, ◌*◌, ◌^◌, ◌<◌, ◌≤◌, List, [], ◌∷◌, ◌++◌, Bool, true, false, ◌&&◌, ◌==◌, nat_lt, if◌then◌else◌, refl, sym, ap, ◌∙◌, append_assoc, append-nil, Option, Some, None, option_map, min, arith, rules}
 use Rattle.std.proofs.lemmas.Bool.{lt-ltb}
-use Rattle.varisat_theory.specs.Literals.{literal_of}
-use Rattle.varisat_literals.specs.Numbers.{variable_limit}
+use Rattle.varisat_theory.specs.promises.Literals.{literal_of}
+use Rattle.varisat_literals.specs.promises.Numbers.{variable_limit}
 use Rattle.varisat_formula.specs.declared.dimacs.token.Digits.{Digits}
 use Rattle.varisat_formula.specs.declared.dimacs.token.Digits.TheVariants.{Empty, Number, Large, NoNumber}
 use Rattle.varisat_formula.specs.declared.dimacs.token.Word.{Word}
 use Rattle.varisat_formula.specs.declared.dimacs.token.Meaning.TheVariants.{TooLarge, Literal}
-use Rattle.varisat_formula.specs.Dimacs.{put, split, is_blank, nonempty, ended_pieces, tokens, is_digit, digits_after, number, in_range, positive, negative, meaning, Token, token_items}
-use Rattle.varisat_formula.specs.Machine.{after_digit, grown, digits_from, says, is_empty, no_word, is_none, after_byte, word_from, word_says}
-use Rattle.varisat_formula.specs.Rest.{word_items, plain_rest}
+use Rattle.varisat_formula.specs.promises.Dimacs.{put, split, is_blank, nonempty, ended_pieces, tokens, is_digit, digits_after, number, in_range, positive, negative, meaning, Token, token_items}
+use Rattle.varisat_formula.specs.inside.Machine.{after_digit, grown, digits_from, says, is_empty, no_word, is_none, after_byte, word_from, word_says}
+use Rattle.varisat_formula.specs.promises.Rest.{word_items, plain_rest}
 
 -- 1. Digits.
 -- one digit more, below 2^64

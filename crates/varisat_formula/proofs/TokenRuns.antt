@@ -2,7 +2,7 @@
 use Rattle.std.proofs.Common.{◌≡◌, ℕ, ◌+◌, ◌-◌, ◌*◌, ◌^◌, ◌<◌, ◌≤◌, List, [], ◌∷◌, ◌++◌, ◌⊎◌, Bool, true, false, ◌==◌, nat_lt, zero, suc, inl, inr, if◌then◌else◌, refl, sym, ap, subst, ◌∙◌, length, take, drop, get_or, arith, rules, None}
 use Rattle.std.proofs.Math.Nat.{pow-le-pow_right, pow-succ'}
 use Rattle.std.proofs.Math.Seq.{take-add}
-use Rattle.varisat_literals.specs.Numbers.{variable_limit}
+use Rattle.varisat_literals.specs.promises.Numbers.{variable_limit}
 use Rattle.std.proofs.lemmas.List.{get_or-drop, length-drop, take_all, take_more}
 use Rattle.varisat_formula.specs.declared.dimacs.token.Digits.TheVariants.{Number, NoNumber}
 use Rattle.varisat_formula.specs.declared.dimacs.token.Word.{Word}
@@ -10,9 +10,9 @@ use Rattle.varisat_formula.specs.declared.dimacs.header.HeaderPart.TheVariants.{
 use Rattle.varisat_formula.specs.declared.dimacs.parser.ParserState.{ParserState}
 use Rattle.varisat_formula.specs.declared.dimacs.parser.ParserState.TheVariants.{Start, Comment, Header, Plain}
 use Rattle.varisat_formula.specs.declared.dimacs.token.Meaning.TheVariants.{End}
-use Rattle.varisat_formula.specs.Dimacs.{Reading, Token, after_token, step_by, next, is_blank, is_digit, is_line_feed, read}
-use Rattle.varisat_formula.specs.Machine.{after_byte, after_digit, grown, no_word, a_number, GoesOnTo}
-use Rattle.varisat_formula.specs.Rest.{Progress, AdvancesBy, IsBetween, ReadsOn, start_place, word_items}
+use Rattle.varisat_formula.specs.promises.Dimacs.{Reading, Token, after_token, step_by, next, is_blank, is_digit, is_line_feed, read}
+use Rattle.varisat_formula.specs.inside.Machine.{after_byte, after_digit, grown, no_word, a_number, GoesOnTo}
+use Rattle.varisat_formula.specs.promises.Rest.{Progress, AdvancesBy, IsBetween, ReadsOn, start_place, word_items}
 use Rattle.varisat_formula.proofs.TokenBytes.{grown_below, digit_bound}
 use Rattle.varisat_formula.proofs.ParserProgress.{LineStep, advances_none, advances_more, reads_byte, reads_line_feed, start_more, plain_more, plain_blank}
 

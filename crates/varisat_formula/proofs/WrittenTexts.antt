@@ -1,7 +1,7 @@
 -- What is written is read back.
 use Rattle.std.proofs.Common.{◌≡◌, ℕ, zero, suc, ◌+◌, ◌-◌, ◌/◌, ◌%◌, ◌^◌, ◌<◌, ◌≤◌, List, [], ◌∷◌, ◌++◌, Bool, true, false, ◌||◌, ◌==◌, nat_lt, if◌then◌else◌, refl, sym, ap, subst, ◌∙◌, append_assoc, append-nil, Option, Some, None, max, length, get_or, arith, rules, decimal, codes}
 use Rattle.std.proofs.lemmas.Fmt.{decimal_by_steps, first_decimal, decimal_nonempty}
-use Rattle.varisat_theory.specs.Literals.{literal_of}
+use Rattle.varisat_theory.specs.promises.Literals.{literal_of}
 use Rattle.varisat_formula.specs.declared.dimacs.parser.ParserState.TheVariants.{Start, Comment, Header, Plain}
 use Rattle.varisat_formula.specs.declared.dimacs.token.Word.{Word}
 use Rattle.varisat_formula.specs.declared.dimacs.token.Meaning.{Meaning}
@@ -11,12 +11,12 @@ use Rattle.varisat_formula.specs.declared.dimacs.header.HeaderPart.TheVariants.{
 use Rattle.varisat_formula.specs.declared.dimacs.header.Heading.TheVariants.{Malformed, Oversized, Sized}
 use Rattle.varisat_formula.specs.declared.dimacs.error.DimacsErrorKind.TheVariants.{ClauseCount, VarCount}
 use Rattle.varisat_formula.specs.declared.dimacs.error.DimacsError.{DimacsError}
-use Rattle.varisat_formula.specs.Formulas.{Formula, AllBelow, AreBelow}
-use Rattle.varisat_formula.specs.Dimacs.{Token, Reading, nothing, step_by, is_blank, is_line_feed, next, number, in_range, meaning, positive, negative, after_token, after_header, is_one_too_many, read, failed, put, split, nonempty, tokens, header_of, sized, sizes, at_end, Ends}
-use Rattle.varisat_formula.specs.Machine.{no_word, after_byte, word_from, after_header_byte, header_from}
-use Rattle.varisat_formula.specs.Rest.{Progress, AdvancesBy, begin, word_items, start_place, gives_from}
-use Rattle.varisat_literals.specs.Numbers.{variable_limit, literal_text}
-use Rattle.varisat_formula.specs.Written.{spaced_literals, clauses_text, formula_text, ReadsBack}
+use Rattle.varisat_formula.specs.promises.Formulas.{Formula, AllBelow, AreBelow}
+use Rattle.varisat_formula.specs.promises.Dimacs.{Token, Reading, nothing, step_by, is_blank, is_line_feed, next, number, in_range, meaning, positive, negative, after_token, after_header, is_one_too_many, read, failed, put, split, nonempty, tokens, header_of, sized, sizes, at_end, Ends}
+use Rattle.varisat_formula.specs.inside.Machine.{no_word, after_byte, word_from, after_header_byte, header_from}
+use Rattle.varisat_formula.specs.promises.Rest.{Progress, AdvancesBy, begin, word_items, start_place, gives_from}
+use Rattle.varisat_literals.specs.promises.Numbers.{variable_limit, literal_text}
+use Rattle.varisat_formula.specs.promises.Written.{spaced_literals, clauses_text, formula_text, ReadsBack}
 use Rattle.varisat_formula.proofs.TokenBytes.{one_items, join, split_pieces}
 use Rattle.varisat_formula.proofs.HeaderLines.{below_test, header_agrees}
 use Rattle.varisat_formula.proofs.ParserProgress.{standing, advances_none, advances_more, advances_byte, advances_line_feed, plain_blank, plain_more, header_more, start_more, begin_gives}

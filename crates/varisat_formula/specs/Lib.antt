@@ -1,10 +1,3 @@
-pub mod Dimacs
-pub mod Equality
-pub mod Formulas
-pub mod Machine
-pub mod Parsed
-pub mod Rest
-pub mod Streams
-pub mod TakenTexts
-pub mod Written
-pub use Rattle.varisat_literals.specs.Numbers
+pub mod promises
+pub mod inside
+pub use Rattle.varisat_literals.specs.promises.Numbers

@@ -1,6 +1,6 @@
 //! Where bytes are read from, and where proof lines go.
 ghost use Rattle.std.specs.Prelude.{◌≡◌, ℕ, ◌+◌, ◌-◌, ◌<◌, ◌≤◌, ◌^◌, List, [], ◌++◌, OnOk, OnErr, take};
-ghost use Rattle.varisat_formula.specs.Streams.{Taken};
+ghost use Rattle.varisat_formula.specs.promises.Streams.{Taken};
 
 pub mod cut;
 pub mod history;

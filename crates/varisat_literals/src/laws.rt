@@ -3,14 +3,14 @@
 ghost use Rattle.std.specs.Prelude.{◌≡◌, ◌↔◌, IsTrue, fold, pos, ◌≤ℤ◌};
 ghost use Rattle.std.specs.Ordering.{nat_cmp};
 ghost use Rattle.std.specs.Hash as fed;
-ghost use Rattle.varisat_literals.specs.Numbers.{IsLiteralNumber};
+ghost use Rattle.varisat_literals.specs.promises.Numbers.{IsLiteralNumber};
 
 use crate::lit::{Lit, Var};
 use std::cmp::Ordering;
 use std::hash::{Hash, Hasher};
 
 /// The opposite of the opposite is the literal itself.
-#[tactic(auto, unfolding(varisat_theory::specs::Literals::opposite))]
+#[tactic(auto, unfolding(varisat_theory::specs::promises::Literals::opposite))]
 pub fn opposite_twice(literal: Lit) -> Lit
     ensures { result ≡ literal }
 {

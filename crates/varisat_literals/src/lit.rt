@@ -1,7 +1,7 @@
 //! Variables and literals. A contract sees a variable as its index and a literal as its code.
 ghost use Rattle.std.specs.Prelude.{◌≡◌, ℕ, ◌+◌, ◌*◌, ◌/◌, ◌%◌, ◌<◌, ◌≤◌, ◌^◌, ◌↔◌, ◌-◌, IsTrue, pos, ◌≤ℤ◌, if◌then◌else◌, Some, true, false};
-ghost use Rattle.varisat_theory.specs.Literals.{variable_of, literal_of, opposite};
-ghost use Rattle.varisat_literals.specs.Numbers.{variable_limit, variable_number, variable_numbered, literal_number, literal_numbered, IsLiteralNumber, polarity_of, number_text};
+ghost use Rattle.varisat_theory.specs.promises.Literals.{variable_of, literal_of, opposite};
+ghost use Rattle.varisat_literals.specs.promises.Numbers.{variable_limit, variable_number, variable_numbered, literal_number, literal_numbered, IsLiteralNumber, polarity_of, number_text};
 
 use std::fmt;
 use std::marker::Model;
@@ -239,7 +239,7 @@ impl Not for Lit {
     ghost not_gives = { λ l r. r ≡ opposite l };
 
     /// The opposite literal.
-    #[tactic(auto, unfolding(varisat_theory::specs::Literals::opposite))]
+    #[tactic(auto, unfolding(varisat_theory::specs::promises::Literals::opposite))]
     fn not(self) -> Lit
         ensures { result ≡ opposite self }
     {

@@ -1,11 +1,11 @@
 -- A problem that is brought down takes one more clause.
 use Rattle.std.proofs.Common.{◌≡◌, ℕ, ◌+◌, ◌*◌, ◌<◌, ◌≤◌, Bool, true, false, not, ◌||◌, if◌then◌else◌, List, [], ◌∷◌, ◌++◌, ◌⊎◌, inl, inr, ⊎_elim, refl, sym, ap, ◌∙◌, subst, arith}
-use Rattle.varisat_theory.specs.Literals.{Literal, Clause, Assignment, variable_of, opposite, value, Satisfies, SatisfiesAll}
-use Rattle.varisat_theory.proofs.Members.{∈-append_left, ∈-append_right, ∈-append_cases}
-use Rattle.varisat_theory.proofs.Values.{value-opposite}
-use Rattle.varisat_theory.proofs.Assigned.{satisfies_more, satisfies_fewer}
-use Rattle.varisat_maxsat.specs.Problems.{Soft, is_satisfied, cost}
-use Rattle.varisat_maxsat.specs.Charges.{charged, AgreeBelow, AreBelow, ChargesAreBelow, ClausesAreBelow, Reduces}
+use Rattle.varisat_theory.specs.promises.Literals.{Literal, Clause, Assignment, variable_of, opposite, value, Satisfies, SatisfiesAll}
+use Rattle.varisat_theory.proofs.clauses.Members.{∈-append_left, ∈-append_right, ∈-append_cases}
+use Rattle.varisat_theory.proofs.clauses.Values.{value-opposite}
+use Rattle.varisat_theory.proofs.clauses.Assigned.{satisfies_more, satisfies_fewer}
+use Rattle.varisat_maxsat.specs.promises.Problems.{Soft, is_satisfied, cost}
+use Rattle.varisat_maxsat.specs.inside.Charges.{charged, AgreeBelow, AreBelow, ChargesAreBelow, ClausesAreBelow, Reduces}
 use Rattle.varisat_maxsat.specs.declared.charge.Charge.{Charge}
 use Rattle.varisat_maxsat.proofs.Agreeing.{satisfied-agree, charged-agree, satisfies-agree, all-agree, charged-append, cost-append, below-append, below-more, is-satisfied, satisfied-is, put, put-there, put-agrees, agree-less, agree-then, value-positive, positive-below, opposite-variable}
 

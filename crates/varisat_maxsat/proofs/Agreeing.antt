@@ -1,10 +1,10 @@
 -- Assignments that agree below a count, and sums of lists that are appended.
 use Rattle.std.proofs.Common.{◌≡◌, ◌≢◌, ℕ, ◌+◌, ◌*◌, ◌/◌, ◌%◌, ◌<◌, ◌≤◌, Bool, true, false, not, ◌||◌, nat_eq, if◌then◌else◌, List, [], ◌∷◌, ◌++◌, inl, inr, ⊎_elim, refl, sym, ap, ◌∙◌, subst, eq-eqb, ne_eqb, zero-add, arith}
-use Rattle.varisat_theory.specs.Membership.{◌∈◌}
-use Rattle.varisat_theory.specs.Literals.{Literal, Clause, Assignment, variable_of, opposite, value, Satisfies, SatisfiesAll}
-use Rattle.varisat_theory.proofs.Members.{∈-append_cases}
-use Rattle.varisat_maxsat.specs.Problems.{Soft, is_satisfied, cost}
-use Rattle.varisat_maxsat.specs.Charges.{charged, weighed, AgreeBelow, AreBelow, ChargesAreBelow, ClausesAreBelow, SoftAreBelow}
+use Rattle.varisat_theory.specs.promises.Membership.{◌∈◌}
+use Rattle.varisat_theory.specs.promises.Literals.{Literal, Clause, Assignment, variable_of, opposite, value, Satisfies, SatisfiesAll}
+use Rattle.varisat_theory.proofs.clauses.Members.{∈-append_cases}
+use Rattle.varisat_maxsat.specs.promises.Problems.{Soft, is_satisfied, cost}
+use Rattle.varisat_maxsat.specs.inside.Charges.{charged, weighed, AgreeBelow, AreBelow, ChargesAreBelow, ClausesAreBelow, SoftAreBelow}
 use Rattle.varisat_maxsat.specs.declared.charge.Charge.{Charge}
 
 pub value-agree : (n : ℕ) (a b : Assignment) (l : Literal) → AgreeBelow n a b → variable_of l < n → value b l ≡ value a l

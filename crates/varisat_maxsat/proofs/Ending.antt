@@ -1,11 +1,11 @@
 -- Where nothing is charged in a model the bound is the least cost, and where a core names no charge nothing satisfies the problem.
 use Rattle.std.proofs.Common.{◌≡◌, ℕ, ◌*◌, ◌/◌, ◌%◌, ◌<◌, ◌≤◌, Bool, true, false, not, if◌then◌else◌, List, [], ◌∷◌, ◌⊎◌, inl, inr, ⊎_elim, take, refl, sym, ap, ◌∙◌, subst, arith}
 use Rattle.std.proofs.lemmas.List.{get_or-take, length-take-le}
-use Rattle.varisat_theory.specs.Membership.{◌∈◌, ◌⊆◌}
-use Rattle.varisat_theory.specs.Literals.{Literal, Clause, Assignment, variable_of, opposite, value, SatisfiesAll, MakesTrue, IsSatisfiable}
-use Rattle.varisat_theory.proofs.Values.{value-opposite, not_both, parity}
-use Rattle.varisat_maxsat.specs.Problems.{Soft, cost, assignment_of, IsOptimum}
-use Rattle.varisat_maxsat.specs.Charges.{charged, AgreeBelow, Reduces, AreAssumed, AreValues}
+use Rattle.varisat_theory.specs.promises.Membership.{◌∈◌, ◌⊆◌}
+use Rattle.varisat_theory.specs.promises.Literals.{Literal, Clause, Assignment, variable_of, opposite, value, SatisfiesAll, MakesTrue, IsSatisfiable}
+use Rattle.varisat_theory.proofs.clauses.Values.{value-opposite, not_both, parity}
+use Rattle.varisat_maxsat.specs.promises.Problems.{Soft, cost, assignment_of, IsOptimum}
+use Rattle.varisat_maxsat.specs.inside.Charges.{charged, AgreeBelow, Reduces, AreAssumed, AreValues}
 use Rattle.varisat_maxsat.specs.declared.charge.Charge.{Charge}
 use Rattle.varisat_maxsat.proofs.Agreeing.{cost-agree, all-agree, value-positive, opposite-variable}
 

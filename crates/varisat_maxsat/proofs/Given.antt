@@ -2,17 +2,17 @@
 use Rattle.std.proofs.Common.{◌≡◌, ◌≢◌, ℕ, ◌+◌, ◌-◌, ◌*◌, ◌^◌, ◌<◌, ◌↔◌, ℤ, pos, negsuc, ◌-ℤ◌, Bool, true, false, None, List, [], ◌∷◌, ◌++◌, ◌⊎◌, inl, inr, ⊎_elim, take, length, get_or, refl, sym, ap, ◌∙◌, subst, arith}
 use Rattle.std.proofs.lemmas.List.{get_or_append_left, get_or_push, length-append}
 use Rattle.std.proofs.lemmas.Int.{ints}
-use Rattle.varisat_theory.specs.Membership.{◌∈◌}
-use Rattle.varisat_theory.specs.Literals.{Literal, Assignment, opposite, MakesTrue, IsFailedCore}
-use Rattle.varisat_theory.proofs.Values.{not_both}
-use Rattle.varisat_literals.specs.Numbers.{literal_numbered}
-use Rattle.varisat_client.specs.Pasts.{Past, refuse, Refuses, count, AddsNumber, AssumesNumber, Begins, IsSearchEnd, IsFoundModel, ReturnsFailed, ReturnsValue}
-use Rattle.varisat_client.specs.Pasts as past
-use Rattle.varisat_client.specs.Clients.{Client, RepresentsPast}
+use Rattle.varisat_theory.specs.promises.Membership.{◌∈◌}
+use Rattle.varisat_theory.specs.promises.Literals.{Literal, Assignment, opposite, MakesTrue, IsFailedCore}
+use Rattle.varisat_theory.proofs.clauses.Values.{not_both}
+use Rattle.varisat_literals.specs.promises.Numbers.{literal_numbered}
+use Rattle.varisat_client.specs.promises.Pasts.{Past, refuse, Refuses, count, AddsNumber, AssumesNumber, Begins, IsSearchEnd, IsFoundModel, ReturnsFailed, ReturnsValue}
+use Rattle.varisat_client.specs.promises.Pasts as past
+use Rattle.varisat_client.specs.inside.Clients.{Client, RepresentsPast}
 use Rattle.varisat_client.specs.declared.client.SearchEnd.{SearchEnd}
 use Rattle.varisat_client.specs.declared.client.SearchEnd.TheVariants as end
-use Rattle.varisat_maxsat.specs.Charges.{AreAssumed, IsSplit, AreValues}
-use Rattle.varisat_maxsat.specs.Reductions.{IsReady, HasBegun, FindsModel, FindsCore, GivesSoFar, AssumesSoFar}
+use Rattle.varisat_maxsat.specs.inside.Charges.{AreAssumed, IsSplit, AreValues}
+use Rattle.varisat_maxsat.specs.inside.Reductions.{IsReady, HasBegun, FindsModel, FindsCore, GivesSoFar, AssumesSoFar}
 use Rattle.varisat_maxsat.specs.declared.charge.Charge.{Charge}
 use Rattle.varisat_maxsat.proofs.Taking.{take-item, assumes-none, assumes-one, assumes-not, splits-failed, splits-kept}
 

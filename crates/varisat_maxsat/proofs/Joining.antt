@@ -1,11 +1,11 @@
 -- Two pending literals are joined: one new literal is true where either is, and one where both are.
 use Rattle.std.proofs.Common.{◌≡◌, ℕ, ◌+◌, ◌*◌, ◌<◌, ◌≤◌, Bool, true, false, not, ◌||◌, ◌&&◌, if◌then◌else◌, List, [], ◌∷◌, ◌++◌, inl, inr, ⊎_elim, refl, sym, ap, ◌∙◌, subst, arith}
-use Rattle.varisat_theory.specs.Literals.{Literal, Clause, Assignment, variable_of, opposite, value, Satisfies, SatisfiesAll}
-use Rattle.varisat_theory.proofs.Members.{∈-append_left, ∈-append_right, ∈-append_cases}
-use Rattle.varisat_theory.proofs.Values.{value-opposite, not_both}
-use Rattle.varisat_theory.proofs.Assigned.{satisfies_more, satisfies_fewer}
-use Rattle.varisat_maxsat.specs.Problems.{Soft}
-use Rattle.varisat_maxsat.specs.Charges.{charged, weighed, AgreeBelow, AreBelow, Reduces, IsPending}
+use Rattle.varisat_theory.specs.promises.Literals.{Literal, Clause, Assignment, variable_of, opposite, value, Satisfies, SatisfiesAll}
+use Rattle.varisat_theory.proofs.clauses.Members.{∈-append_left, ∈-append_right, ∈-append_cases}
+use Rattle.varisat_theory.proofs.clauses.Values.{value-opposite, not_both}
+use Rattle.varisat_theory.proofs.clauses.Assigned.{satisfies_more, satisfies_fewer}
+use Rattle.varisat_maxsat.specs.promises.Problems.{Soft}
+use Rattle.varisat_maxsat.specs.inside.Charges.{charged, weighed, AgreeBelow, AreBelow, Reduces, IsPending}
 use Rattle.varisat_maxsat.specs.declared.charge.Charge.{Charge}
 use Rattle.varisat_maxsat.proofs.Agreeing.{value-agree, charged-agree, weighed-agree, all-agree, charged-append, weighed-append, below-append, put, put-there, put-agrees, agree-less, agree-then, value-positive, opposite-variable}
 use Rattle.varisat_maxsat.proofs.Adding.{last-satisfied, charge-below, charges-more, clauses-more}

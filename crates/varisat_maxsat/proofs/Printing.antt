@@ -1,6 +1,6 @@
 -- The digits of values in turn.
 use Rattle.std.proofs.Common.{◌≡◌, ℕ, zero, suc, ◌+◌, ◌<◌, Bool, if◌then◌else◌, List, [], ◌∷◌, ◌++◌, length, take, get_or, refl, sym, ap, ◌∙◌, append_assoc, arith}
-use Rattle.varisat_maxsat.specs.Printed.{value_digits}
+use Rattle.varisat_maxsat.specs.inside.Printed.{value_digits}
 
 digits-more : (vs : List Bool) (i : ℕ) (d : Bool) → i < length vs →
     value_digits (take (suc i) vs) ≡ value_digits (take i vs) ++ (if get_or vs i d then 49 else 48) ∷ []

@@ -5,17 +5,17 @@ use Rattle.std.proofs.lemmas.List.{get_or-take, take-append-drop, length-take, t
 use Rattle.std.proofs.lemmas.List.Splits.{slice_split_none, slice_split_at}
 use Rattle.std.proofs.Math.Seq.{drop-cons}
 use Rattle.std.proofs.lemmas.Bool.{lt-ltb}
-use Rattle.varisat_theory.specs.Literals.{Clause}
+use Rattle.varisat_theory.specs.promises.Literals.{Clause}
 use Rattle.varisat_formula.specs.declared.dimacs.token.Meaning.{Meaning}
-use Rattle.varisat_formula.specs.Dimacs.{is_blank, is_line_feed, nonempty, number, meaning}
+use Rattle.varisat_formula.specs.promises.Dimacs.{is_blank, is_line_feed, nonempty, number, meaning}
 use Rattle.varisat_formula.specs.declared.dimacs.token.Digits.{Digits}
 use Rattle.varisat_formula.specs.declared.dimacs.token.Digits.TheVariants.{Empty, Number, Large, NoNumber}
 use Rattle.varisat_formula.specs.declared.dimacs.token.Word.{Word}
-use Rattle.varisat_formula.specs.Machine.{after_digit, digits_from, says, no_word, after_byte, word_from, word_says}
+use Rattle.varisat_formula.specs.inside.Machine.{after_digit, digits_from, says, no_word, after_byte, word_from, word_says}
 use Rattle.varisat_formula.proofs.TokenBytes.{number_agrees, meaning_agrees, capped}
 use Rattle.varisat_maxsat.specs.declared.wcnf.WcnfFault.{WcnfFault}
 use Rattle.varisat_maxsat.specs.declared.wcnf.WcnfError.{WcnfError}
-use Rattle.varisat_maxsat.specs.Texts.{Reading, words, below_limit, clause_from, after_line, at_line, after_lines}
+use Rattle.varisat_maxsat.specs.inside.Texts.{Reading, words, below_limit, clause_from, after_line, at_line, after_lines}
 
 -- a text is cut at the first picked byte
 pub cut_at : (p : ℕ → Bool) (text : List ℕ) (i : ℕ) → i < length text → HoldsAt (λ b. p b ≡ true) text i → AllWithin (λ b. p b ≡ false) text 0 i →

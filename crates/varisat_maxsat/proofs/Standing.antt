@@ -2,14 +2,14 @@
 use Rattle.std.proofs.Common.{◌≡◌, ℕ, ◌+◌, ◌*◌, ◌<◌, ◌≤◌, max, Bool, true, false, not, List, [], ◌∷◌, ◌++◌, take, drop, length, get_or, append_assoc, refl, sym, ap, ◌∙◌, subst, arith}
 use Rattle.std.specs.Prelude.{Result, Ok, Err, IfOk}
 use Rattle.std.proofs.lemmas.List.{take_more, length-take-le, length-append}
-use Rattle.varisat_formula.specs.Formulas.{Formula, with_one_more, variables_of}
-use Rattle.varisat_theory.specs.Membership.{◌∈◌}
-use Rattle.varisat_theory.specs.Literals.{Literal, Clause, Assignment, opposite, MakesTrue, IsSatisfiable}
-use Rattle.varisat_client.specs.Pasts.{Past, empty_past, count}
-use Rattle.varisat_client.specs.Clients.{Client, RepresentsPast}
-use Rattle.varisat_maxsat.specs.Problems.{Soft, Problem, with_hard, with_soft, paired, IsOptimum}
-use Rattle.varisat_maxsat.specs.Charges.{AreBelow, Reduces, IsSplit, TakesWeight, AreValues, IsPending}
-use Rattle.varisat_maxsat.specs.Reductions.{IsReady, Finds, FindsModel, FindsCore, Reduction, ReducesTo, ReducesToWith, ReducesToAfter}
+use Rattle.varisat_formula.specs.promises.Formulas.{Formula, with_one_more, variables_of}
+use Rattle.varisat_theory.specs.promises.Membership.{◌∈◌}
+use Rattle.varisat_theory.specs.promises.Literals.{Literal, Clause, Assignment, opposite, MakesTrue, IsSatisfiable}
+use Rattle.varisat_client.specs.promises.Pasts.{Past, empty_past, count}
+use Rattle.varisat_client.specs.inside.Clients.{Client, RepresentsPast}
+use Rattle.varisat_maxsat.specs.promises.Problems.{Soft, Problem, with_hard, with_soft, paired, IsOptimum}
+use Rattle.varisat_maxsat.specs.inside.Charges.{AreBelow, Reduces, IsSplit, TakesWeight, AreValues, IsPending}
+use Rattle.varisat_maxsat.specs.inside.Reductions.{IsReady, Finds, FindsModel, FindsCore, Reduction, ReducesTo, ReducesToWith, ReducesToAfter}
 use Rattle.varisat_maxsat.specs.declared.charge.Charge.{Charge}
 use Rattle.varisat_maxsat.proofs.Adding.{nothing-added, hard-added, weightless-soft-added, soft-literal-added, soft-clause-added}
 use Rattle.varisat_maxsat.proofs.Taking.{core-charge, core-pending, core-taken}

@@ -1,13 +1,13 @@
 -- A weight is taken from charges, and a core divides them.
 use Rattle.std.proofs.Common.{◌≡◌, ℕ, ◌+◌, ◌-◌, ◌<◌, Bool, true, false, not, if◌then◌else◌, List, [], ◌∷◌, ◌++◌, ◌⊎◌, inl, inr, ⊎_elim, take, length, get_or, refl, sym, ap, ◌∙◌, subst, arith}
 use Rattle.std.proofs.lemmas.List.{take_more}
-use Rattle.varisat_theory.specs.Membership.{◌∈◌}
-use Rattle.varisat_theory.specs.Literals.{Literal, Clause, Assignment, variable_of, opposite, value, SatisfiesAll, IsFailedCore}
-use Rattle.varisat_theory.proofs.Members.{∈-append_left, ∈-append_right, ∈-append_cases}
-use Rattle.varisat_theory.proofs.Places.{∈-get_or}
-use Rattle.varisat_theory.proofs.Values.{value-opposite}
-use Rattle.varisat_maxsat.specs.Problems.{Soft}
-use Rattle.varisat_maxsat.specs.Charges.{AreBelow, ChargesAreBelow, TakesWeight, IsSplit, Reduces, AreAssumed, IsPending}
+use Rattle.varisat_theory.specs.promises.Membership.{◌∈◌}
+use Rattle.varisat_theory.specs.promises.Literals.{Literal, Clause, Assignment, variable_of, opposite, value, SatisfiesAll, IsFailedCore}
+use Rattle.varisat_theory.proofs.clauses.Members.{∈-append_left, ∈-append_right, ∈-append_cases}
+use Rattle.varisat_theory.proofs.clauses.Places.{∈-get_or}
+use Rattle.varisat_theory.proofs.clauses.Values.{value-opposite}
+use Rattle.varisat_maxsat.specs.promises.Problems.{Soft}
+use Rattle.varisat_maxsat.specs.inside.Charges.{AreBelow, ChargesAreBelow, TakesWeight, IsSplit, Reduces, AreAssumed, IsPending}
 use Rattle.varisat_maxsat.specs.declared.charge.Charge.{Charge}
 use Rattle.varisat_maxsat.proofs.Agreeing.{charged-append, weighed-append}
 use Rattle.varisat_maxsat.proofs.Adding.{charge-below}

@@ -1,5 +1,2 @@
-pub mod Problems
-pub mod Charges
-pub mod Reductions
-pub mod Texts
-pub mod Printed
+pub mod promises
+pub mod inside

@@ -1,8 +1,8 @@
 //! Literals that cost a weight.
 ghost use Rattle.std.specs.Prelude.{◌≤◌, OnOk, IfOk};
-ghost use Rattle.varisat_theory.specs.Membership.{◌∈◌};
+ghost use Rattle.varisat_theory.specs.promises.Membership.{◌∈◌};
 ghost use Rattle.varisat_maxsat.specs.declared.charge.Charge.{Charge};
-ghost use Rattle.varisat_maxsat.specs.Charges.{TakesWeight};
+ghost use Rattle.varisat_maxsat.specs.inside.Charges.{TakesWeight};
 
 use std::alloc::{AllocError, Allocator};
 use std::collections::VecDeque;

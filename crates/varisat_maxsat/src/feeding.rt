@@ -1,11 +1,11 @@
 //! What is given to a client, and what it is asked.
 ghost use Rattle.std.specs.Prelude.{◌≡◌, ◌≢◌, ◌++◌, ◌∷◌, [], pos, None, OnOk, IfOk};
-ghost use Rattle.varisat_theory.specs.Literals.{Assignment, MakesTrue};
-ghost use Rattle.varisat_literals.specs.Numbers.{literal_numbered};
-ghost use Rattle.varisat_client.specs.Pasts.{Past, count};
-ghost use Rattle.varisat_client.specs.Clients.{RepresentsPast};
-ghost use Rattle.varisat_maxsat.specs.Charges.{AreBelow, IsSplit, AreValues};
-ghost use Rattle.varisat_maxsat.specs.Reductions.{IsReady, HasBegun, Finds};
+ghost use Rattle.varisat_theory.specs.promises.Literals.{Assignment, MakesTrue};
+ghost use Rattle.varisat_literals.specs.promises.Numbers.{literal_numbered};
+ghost use Rattle.varisat_client.specs.promises.Pasts.{Past, count};
+ghost use Rattle.varisat_client.specs.inside.Clients.{RepresentsPast};
+ghost use Rattle.varisat_maxsat.specs.inside.Charges.{AreBelow, IsSplit, AreValues};
+ghost use Rattle.varisat_maxsat.specs.inside.Reductions.{IsReady, HasBegun, Finds};
 
 use crate::charge::Charge;
 use crate::refusal::MaxSatError;

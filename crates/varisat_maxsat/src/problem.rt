@@ -1,8 +1,8 @@
 //! Problems.
 ghost use Rattle.std.specs.Prelude.{◌≡◌, ◌++◌, ◌∷◌, [], ◌+◌, max, OnOk, OnErr, IfOk, ◌≤◌, ◌^◌, length};
-ghost use Rattle.varisat_formula.specs.Formulas.{variables_of};
-ghost use Rattle.varisat_maxsat.specs.Problems.{Problem as Asked, starting, paired, with_hard, with_soft};
-ghost use Rattle.varisat_maxsat.specs.Reductions.{ReducesTo};
+ghost use Rattle.varisat_formula.specs.promises.Formulas.{variables_of};
+ghost use Rattle.varisat_maxsat.specs.promises.Problems.{Problem as Asked, starting, paired, with_hard, with_soft};
+ghost use Rattle.varisat_maxsat.specs.inside.Reductions.{ReducesTo};
 
 use crate::reduction::Reduction;
 use crate::refusal::MaxSatError;
@@ -21,7 +21,7 @@ pub struct Problem<A: Allocator + Copy> {
 
 impl<A: Allocator + Copy> Model for Problem<A> {
     ghost use Rattle.std.specs.Prelude.{◌≡◌, max, length};
-    ghost use Rattle.varisat_maxsat.specs.Problems as problems;
+    ghost use Rattle.varisat_maxsat.specs.promises.Problems as problems;
 
     ghost Value = { problems.Problem };
 

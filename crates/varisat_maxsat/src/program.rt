@@ -1,7 +1,7 @@
 //! What the program prints, and its status.
 ghost use Rattle.std.specs.Prelude.{◌≡◌, ◌-◌, ◌^◌, ◌<◌, ◌++◌, OnOk, IfOk, codes, if◌then◌else◌};
-ghost use Rattle.varisat_maxsat.specs.Problems.{IsOptimum};
-ghost use Rattle.varisat_maxsat.specs.Printed.{value_digits, optimum_text, Prints, Answers, AnswersText};
+ghost use Rattle.varisat_maxsat.specs.promises.Problems.{IsOptimum};
+ghost use Rattle.varisat_maxsat.specs.inside.Printed.{value_digits, optimum_text, Prints, Answers, AnswersText};
 
 use crate::problem::Problem;
 use crate::solving::{Optimum, optimize};

@@ -1,7 +1,7 @@
 //! A problem that is reduced to hard clauses, and literals that cost a weight each.
 ghost use Rattle.std.specs.Prelude.{◌≡◌, ◌+◌, ◌*◌, ◌++◌, ◌∷◌, [], List, ℕ, OnOk, IfOk, true, false};
-ghost use Rattle.varisat_maxsat.specs.Problems.{Problem, with_hard, with_soft, IsOptimum};
-ghost use Rattle.varisat_maxsat.specs.Reductions.{ReducesTo, ReducesToWith, ReducesToAfter, IsRelaxed};
+ghost use Rattle.varisat_maxsat.specs.promises.Problems.{Problem, with_hard, with_soft, IsOptimum};
+ghost use Rattle.varisat_maxsat.specs.inside.Reductions.{ReducesTo, ReducesToWith, ReducesToAfter, IsRelaxed};
 
 use crate::charge::{Charge, least_weight, take_weight};
 use crate::feeding::{Split, divide, ensure_below, give, search, values};
@@ -24,7 +24,7 @@ pub(crate) struct Reduction<A: Allocator + Copy> {
 }
 
 impl<A: Allocator + Copy> Model for Reduction<A> {
-    ghost use Rattle.varisat_maxsat.specs.Reductions as reductions;
+    ghost use Rattle.varisat_maxsat.specs.inside.Reductions as reductions;
 
     ghost Value = { reductions.Reduction };
 

@@ -1,8 +1,8 @@
 //! Solving.
 ghost use Rattle.std.specs.Prelude.{IfOk, MatchOption, true};
-ghost use Rattle.varisat_theory.specs.Literals.{IsSatisfiable};
-ghost use Rattle.varisat_maxsat.specs.Problems.{Problem as Asked, IsOptimum, starting};
-ghost use Rattle.varisat_maxsat.specs.Reductions.{ReducesTo, ReducesToAfter, Ends};
+ghost use Rattle.varisat_theory.specs.promises.Literals.{IsSatisfiable};
+ghost use Rattle.varisat_maxsat.specs.promises.Problems.{Problem as Asked, IsOptimum, starting};
+ghost use Rattle.varisat_maxsat.specs.inside.Reductions.{ReducesTo, ReducesToAfter, Ends};
 
 use crate::charge::greatest_weight;
 use crate::problem::Problem;

@@ -1,9 +1,9 @@
 //! Problems as texts in the format WCNF, new and old.
 ghost use Rattle.std.specs.Prelude.{◌≡◌, ◌≤◌, ◌<◌, ◌^◌, ◌∷◌, [], ◌⊎◌, Ok, Err, List, ℕ, length, slice_index, false, OnOk, IfOk, IfErr, IfSome, IfNone};
 ghost use Rattle.std.specs.List.{slice_split};
-ghost use Rattle.varisat_formula.specs.Dimacs.{is_line_feed, is_blank, meaning, number};
-ghost use Rattle.varisat_maxsat.specs.Problems.{Problem as Asked};
-ghost use Rattle.varisat_maxsat.specs.Texts.{Reading, words, below_limit, clause_of, heading_by, top_of, heading_of, after_heading, after_hard, after_soft, after_weight, after_line, is_hard, wcnf};
+ghost use Rattle.varisat_formula.specs.promises.Dimacs.{is_line_feed, is_blank, meaning, number};
+ghost use Rattle.varisat_maxsat.specs.promises.Problems.{Problem as Asked};
+ghost use Rattle.varisat_maxsat.specs.inside.Texts.{Reading, words, below_limit, clause_of, heading_by, top_of, heading_of, after_heading, after_hard, after_soft, after_weight, after_line, is_hard, wcnf};
 ghost use Rattle.varisat_maxsat.specs.declared.wcnf.WcnfFault.TheVariants.{OutOfMemory, End};
 
 use crate::problem::Problem;
@@ -60,7 +60,7 @@ struct Reader<A: Allocator + Copy> {
 }
 
 impl<A: Allocator + Copy> Model for Reader<A> {
-    ghost use Rattle.varisat_maxsat.specs.Texts as texts;
+    ghost use Rattle.varisat_maxsat.specs.inside.Texts as texts;
 
     ghost Value = { texts.Reading };
 

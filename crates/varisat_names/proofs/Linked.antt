@@ -1,9 +1,9 @@
 -- Changes that keep the tables linked.
 use Rattle.std.proofs.Common.{◌≡◌, ◌<◌, ℕ, zero, suc, true, false, Option, Some, None, Result, Ok, Err, OnOk, OnErr, List, [], ◌∷◌, length, ◌⊎◌, ⊎_elim, sym, ap, ◌∙◌, subst, refl, arith}
-use Rattle.varisat_names.specs.VarMap.{at}
-use Rattle.varisat_names.specs.VarBiMap.{BiMap, turned, IsJoined, IsParted}
-use Rattle.varisat_names.specs.VarData.{dead, data_at, IsDataAt, AreDeleted}
-use Rattle.varisat_names.specs.Variables.{Tables, AreLinked, unused}
+use Rattle.varisat_names.specs.promises.VarMap.{at}
+use Rattle.varisat_names.specs.promises.VarBiMap.{BiMap, turned, IsJoined, IsParted}
+use Rattle.varisat_names.specs.promises.VarData.{dead, data_at, IsDataAt, AreDeleted}
+use Rattle.varisat_names.specs.promises.Variables.{Tables, AreLinked, unused}
 use Rattle.varisat_names.specs.declared.variables.data.VarData.{VarData}
 use Rattle.std.specs.BTreeSet.{BTreeSet}
 use Rattle.varisat_names.proofs.Maps.{updated-all, updated-at, updated-other, is-some}

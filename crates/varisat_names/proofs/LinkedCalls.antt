@@ -1,10 +1,10 @@
 -- What a call on linked variables begins with, and what it leaves. It reads the parts p, which are q; its caller sees the tables t.
 use Rattle.std.proofs.Common.{◌≡◌, ℕ, false, Option, Some, List, sym, ap, ◌∙◌, subst, refl}
 use Rattle.std.specs.BTreeSet.{BTreeSet}
-use Rattle.varisat_names.specs.VarMap.{at}
-use Rattle.varisat_names.specs.VarBiMap.{BiMap}
-use Rattle.varisat_names.specs.VarData.{data_at, IsDataAt, AreDeleted}
-use Rattle.varisat_names.specs.Variables.{Tables, VariableParts, AreLinked, AreListed, AreFree}
+use Rattle.varisat_names.specs.promises.VarMap.{at}
+use Rattle.varisat_names.specs.promises.VarBiMap.{BiMap}
+use Rattle.varisat_names.specs.promises.VarData.{data_at, IsDataAt, AreDeleted}
+use Rattle.varisat_names.specs.promises.Variables.{Tables, VariableParts, AreLinked, AreListed, AreFree}
 use Rattle.varisat_names.specs.declared.variables.data.VarData.{VarData}
 use Rattle.varisat_names.proofs.Linked.{keep-live, same-tables}
 

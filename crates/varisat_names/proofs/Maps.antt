@@ -1,7 +1,7 @@
 -- Maps that are changed at one place.
 use Rattle.std.proofs.Common.{◌≡◌, ℕ, true, false, is_some, Option, Some, None, ◌⊎◌, inl, inr, ⊎_elim, if◌then◌else◌, sym, ap, ◌∙◌, subst, refl, eq-eqb, ne_eqb}
-use Rattle.varisat_theory.proofs.Members.{equal_or_not}
-use Rattle.varisat_names.specs.Maps.{updated, IsInverse, onward, chain}
+use Rattle.varisat_theory.proofs.clauses.Members.{equal_or_not}
+use Rattle.varisat_names.specs.promises.Maps.{updated, IsInverse, onward, chain}
 
 pub updated-at : {X : Type 0} (f : ℕ → X) (k : ℕ) (v : X) → updated f k v k ≡ v
 updated-at f k v = ap (λ b. if b then v else f k) (eq-eqb k k refl)

@@ -1,16 +1,16 @@
 -- Names that come into use, and hidden variables that come back one after the other.
 use Rattle.std.proofs.Common.{◌≡◌, ℕ, ◌+◌, ◌-◌, ◌<◌, ◌≤◌, true, false, Option, Some, None, Result, Ok, Err, OnErr, List, [], ◌∷◌, ◌++◌, ⊎_elim, length, sym, ap, ◌∙◌, subst, refl, arith}
 use Rattle.std.proofs.lemmas.Bool.{cases_lt}
-use Rattle.varisat_theory.proofs.Members.{equal_or_not}
-use Rattle.varisat_names.specs.VarMap.{at, IsLeastUnmapped}
-use Rattle.varisat_names.specs.VarData.{data_at}
-use Rattle.varisat_names.specs.Variables.{Tables, IsNamed, InUse, Free, Above, IsShown}
+use Rattle.varisat_theory.proofs.clauses.Members.{equal_or_not}
+use Rattle.varisat_names.specs.promises.VarMap.{at, IsLeastUnmapped}
+use Rattle.varisat_names.specs.promises.VarData.{data_at}
+use Rattle.varisat_names.specs.promises.Variables.{Tables, IsNamed, InUse, Free, Above, IsShown}
 use Rattle.varisat_names.specs.declared.variables.data.VarData.{VarData}
 use Rattle.varisat_names.specs.declared.variables.data.SamplingMode.TheVariants as sampling
 use Rattle.varisat_names.proofs.Maps.{updated-at, updated-other}
 use Rattle.varisat_names.proofs.VarMap.{at-past}
 use Rattle.varisat_names.proofs.Tables.{live-inside, kept-past, named-in-use}
-use Rattle.varisat_names.specs.NamesAndModes.{AreShownInTurn, ShowsAllHidden, ShowsOne, Passed, Shown}
+use Rattle.varisat_names.specs.inside.NamesAndModes.{AreShownInTurn, ShowsAllHidden, ShowsOne, Passed, Shown}
 
 -- a name that was named is in use
 pub named-here : (u : ℕ) (old new : Tables) → IsNamed u old new → (x : ℕ) × (at new.users.forward u ≡ Some x)

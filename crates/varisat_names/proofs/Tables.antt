@@ -5,14 +5,14 @@ use Rattle.std.proofs.lemmas.List.{length-set, get_or-set_same, get_or-set_other
 use Rattle.std.proofs.lemmas.Bool.Decides.{nat_tests}
 use Rattle.std.specs.Ordering.{nat_cmp}
 use Rattle.std.specs.BTreeSet.{BTreeSet, contains}
-use Rattle.varisat_names.specs.VarMap.{at, IsPut, IsFull, IsLeastUnmapped}
-use Rattle.varisat_names.specs.VarData.{fresh, dead, data_at, IsDataAt, IsLeastRetired}
-use Rattle.varisat_names.specs.Variables.{Tables, AreLinked, IsGiven, AreNextGiven, IsTaken, IsNothingHidden, AreFree}
+use Rattle.varisat_names.specs.promises.VarMap.{at, IsPut, IsFull, IsLeastUnmapped}
+use Rattle.varisat_names.specs.promises.VarData.{fresh, dead, data_at, IsDataAt, IsLeastRetired}
+use Rattle.varisat_names.specs.promises.Variables.{Tables, AreLinked, IsGiven, AreNextGiven, IsTaken, IsNothingHidden, AreFree}
 use Rattle.varisat_names.specs.declared.variables.data.VarData.{VarData}
 use Rattle.varisat_names.specs.declared.variables.data.SamplingMode.TheVariants as sampling
 use Rattle.varisat_names.proofs.VarMap.{at-inside}
 use Rattle.varisat_names.proofs.Maps.{updated-all, updated-at, updated-other}
-use Rattle.varisat_names.specs.Maps.{updated}
+use Rattle.varisat_names.specs.promises.Maps.{updated}
 
 -- another entry
 pub set-kept : (xs : List VarData) (x i : ℕ) (d : VarData) → i ≡ x → x < length xs → IsDataAt xs x d (slice_set xs i d)

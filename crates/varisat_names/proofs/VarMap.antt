@@ -3,8 +3,8 @@ use Rattle.std.proofs.Common.{◌≡◌, ℕ, zero, suc, ◌+◌, ◌-◌, ◌^�
 use Rattle.std.proofs.lemmas.List.{length-append, length-replicate, length-map, map-append, take-map, take_all, length-set, map-set, get_or-set_same, get_or-set_other}
 use Rattle.std.proofs.Math.Seq.{take-append_seam}
 use Rattle.std.proofs.lemmas.Bool.{lt-ltb}
-use Rattle.varisat_names.specs.Maps.{updated, IsInverse}
-use Rattle.varisat_names.specs.VarMap.{at, mapped, IsPut}
+use Rattle.varisat_names.specs.promises.Maps.{updated, IsInverse}
+use Rattle.varisat_names.specs.promises.VarMap.{at, mapped, IsPut}
 use Rattle.varisat_names.proofs.Maps.{updated-all, joined, parted, inverse-same}
 
 pub at-inside : (xs : List (Option ℕ)) (i y : ℕ) → at xs i ≡ Some y → i < length xs

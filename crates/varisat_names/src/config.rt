@@ -1,6 +1,6 @@
 //! The settings of a solver, and updates of them.
 ghost use Rattle.std.specs.Prelude.{◌≡◌, ◌≢◌, ◌≤◌, ◌<◌, None, Some, true, false, MatchOption, MatchResult};
-ghost use Rattle.varisat_names.specs.Settings.{AreSettingsInRange, default_settings, may_take, first_bad, AppliesUpdate, least_value, greatest_value, field_text, no_update, update_of};
+ghost use Rattle.varisat_names.specs.promises.Settings.{AreSettingsInRange, default_settings, may_take, first_bad, AppliesUpdate, least_value, greatest_value, field_text, no_update, update_of};
 
 use std::fmt;
 use std::marker::Model;
@@ -27,7 +27,7 @@ pub struct SolverConfig {
 }
 
 impl Model for SolverConfig {
-    ghost use Rattle.varisat_names.specs.Settings.{Settings, AreSettingsInRange};
+    ghost use Rattle.varisat_names.specs.promises.Settings.{Settings, AreSettingsInRange};
 
     ghost Value = { Settings };
 
@@ -92,7 +92,7 @@ pub struct ConfigError {
 
 impl Default for SolverConfig {
     ghost use Rattle.std.specs.Prelude.{◌≡◌};
-    ghost use Rattle.varisat_names.specs.Settings.{default_settings};
+    ghost use Rattle.varisat_names.specs.promises.Settings.{default_settings};
 
     ghost is_default = { λ c. c ≡ default_settings };
 
@@ -245,7 +245,7 @@ impl fmt::Display for ConfigField {
 
 impl Default for SolverConfigUpdate {
     ghost use Rattle.std.specs.Prelude.{◌≡◌};
-    ghost use Rattle.varisat_names.specs.Settings.{no_update};
+    ghost use Rattle.varisat_names.specs.promises.Settings.{no_update};
 
     ghost is_default = { λ u. u ≡ no_update };
 

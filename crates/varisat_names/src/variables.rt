@@ -4,11 +4,11 @@
 //! variable.
 ghost use Rattle.std.specs.Prelude.{◌≡◌, ◌≤◌, ◌<◌, ◌^◌, false, length, Some, MatchOption, OnOk, OnErr, IsSome, IsTrue, ◌↔◌};
 ghost use Rattle.std.specs.Borrow.{sem};
-ghost use Rattle.varisat_names.specs.Maps.{chain};
-ghost use Rattle.varisat_names.specs.VarMap.{at, mapped_from, IsLeastUnmapped};
-ghost use Rattle.varisat_names.specs.VarBiMap.{turned};
-ghost use Rattle.varisat_names.specs.VarData.{data_at, reaching, live_from, IsLeastRetired, AreDeleted};
-ghost use Rattle.varisat_names.specs.Variables.{no_variables, AreFree, AreListed};
+ghost use Rattle.varisat_names.specs.promises.Maps.{chain};
+ghost use Rattle.varisat_names.specs.promises.VarMap.{at, mapped_from, IsLeastUnmapped};
+ghost use Rattle.varisat_names.specs.promises.VarBiMap.{turned};
+ghost use Rattle.varisat_names.specs.promises.VarData.{data_at, reaching, live_from, IsLeastRetired, AreDeleted};
+ghost use Rattle.varisat_names.specs.promises.Variables.{no_variables, AreFree, AreListed};
 
 pub mod data;
 mod globals;
@@ -38,8 +38,8 @@ pub struct Variables<A: Allocator + Copy> {
 }
 
 impl<A: Allocator + Copy> Model for Variables<A> {
-    ghost use Rattle.varisat_names.specs.VarBiMap.{turned};
-    ghost use Rattle.varisat_names.specs.Variables.{VariableParts};
+    ghost use Rattle.varisat_names.specs.promises.VarBiMap.{turned};
+    ghost use Rattle.varisat_names.specs.promises.Variables.{VariableParts};
 
     ghost Value = { VariableParts };
 
@@ -191,7 +191,7 @@ impl<A: Allocator + Copy> Variables<A> {
 
 /// Parts that are lent to be changed. The other parts stay, and so do the lists of what is free.
 impl<A: Allocator + Copy> Variables<A> {
-    ghost use Rattle.varisat_names.specs.Lending.{number_or_zero, lends_users, lends_solvers, lends_data, lends_data_of_solver};
+    ghost use Rattle.varisat_names.specs.inside.Lending.{number_or_zero, lends_users, lends_solvers, lends_data, lends_data_of_solver};
 
     /// The map from names to global variables, to be changed.
     pub fn global_from_user_mut(&mut self) -> VarBiMapMut<'_, A>

@@ -1,20 +1,20 @@
 -- What the checker keeps, and why its verdict is the only one.
 use Rattle.std.proofs.Common.{◌≡◌, ℕ, suc, ◌+◌, ◌<◌, ◌≤◌, List, [], ◌∷◌, ◌++◌, length, get_or, take, take_all, drop, map, Vec, Global, Bool, true, false, IsTrue, ◌⊎◌, ◌↔◌, inl, inr, ⊎_elim, sym, ap, ◌∙◌, subst, refl, arith}
 use Rattle.std.proofs.lemmas.List.{append-nil, take_more, take-append-drop, length-take, get_or-map, length-map}
-use Rattle.varisat_theory.specs.Literals.{Clause}
-use Rattle.varisat_theory.specs.Propagation.{Conflicts}
-use Rattle.varisat_theory.specs.Derivations.{Line, Add, Delete, TakesOut, IsPresentAfter, IsDerivation, Refutes, Derives}
-use Rattle.varisat_theory.specs.Held.{SameClauses}
-use Rattle.varisat_plain.specs.Checking.{IsAbsent, IsPlainLineStatus, IsWrong, IsFirstWrong, IsVerdict, clause_lists, line_of}
+use Rattle.varisat_theory.specs.promises.Literals.{Clause}
+use Rattle.varisat_theory.specs.promises.Propagation.{Conflicts}
+use Rattle.varisat_theory.specs.promises.Derivations.{Line, Add, Delete, TakesOut, IsPresentAfter, IsDerivation, Refutes, Derives}
+use Rattle.varisat_theory.specs.promises.Held.{SameClauses}
+use Rattle.varisat_plain.specs.promises.Checking.{IsAbsent, IsPlainLineStatus, IsWrong, IsFirstWrong, IsVerdict, clause_lists, line_of}
 use Rattle.varisat_plain.specs.declared.checker.PlainLine.{PlainLine}
 use Rattle.varisat_plain.specs.declared.checker.PlainLine.TheVariants.{Deletes}
 use Rattle.varisat_plain.specs.declared.checker.LineStatus.{LineStatus}
 use Rattle.varisat_plain.specs.declared.checker.LineStatus.TheVariants.{Taken, Unproved, Absent}
 use Rattle.varisat_plain.specs.declared.checker.PlainVerdict.{PlainVerdict}
 use Rattle.varisat_plain.specs.declared.checker.PlainVerdict.TheVariants.{Refutation, Derivation, DoesNotFollow, DeletesNothing}
-use Rattle.varisat_theory.proofs.Places.{cut_at}
-use Rattle.varisat_theory.proofs.Held.{same_set-self, same_set-through, takes_from, same_clauses_find, same_clauses-self, conflicts_same, follows_same}
-use Rattle.varisat_theory.proofs.Lines.{derives_append, derives_cut, derives_present, derives_derivation, derivation_derives, present_unique, RefutesAt, refutes_at, refutes_from}
+use Rattle.varisat_theory.proofs.clauses.Places.{cut_at}
+use Rattle.varisat_theory.proofs.clauses.Held.{same_set-self, same_set-through, takes_from, same_clauses_find, same_clauses-self, conflicts_same, follows_same}
+use Rattle.varisat_theory.proofs.clauses.Lines.{derives_append, derives_cut, derives_present, derives_derivation, derivation_derives, present_unique, RefutesAt, refutes_at, refutes_from}
 
 -- The lines so far are a derivation to what is present, and refute only if that conflicts.
 pub record Checked (P : List Clause) (lines : List Line) (Q : List Clause) : Type 0 where

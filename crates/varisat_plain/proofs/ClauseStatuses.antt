@@ -1,9 +1,9 @@
 -- The steps of the loop that looks at a clause's literals.
 use Rattle.std.proofs.Common.{◌≡◌, ℕ, ◌+◌, ◌<◌, ◌≤◌, List, take, length, get_or, MatchOption, Option, Some, None, ◌⊎◌, inl, inr, ⊎_elim, sym, ◌∙◌, subst}
-use Rattle.varisat_theory.specs.Membership.{◌∈◌}
-use Rattle.varisat_theory.specs.Literals.{Literal, Clause, opposite}
-use Rattle.varisat_theory.specs.Propagation.{IsFalse, LeavesOnly}
-use Rattle.varisat_theory.proofs.Places.{∈-get_or, ∈-take_more, ∈-take_all}
+use Rattle.varisat_theory.specs.promises.Membership.{◌∈◌}
+use Rattle.varisat_theory.specs.promises.Literals.{Literal, Clause, opposite}
+use Rattle.varisat_theory.specs.promises.Propagation.{IsFalse, LeavesOnly}
+use Rattle.varisat_theory.proofs.clauses.Places.{∈-get_or, ∈-take_more, ∈-take_all}
 
 -- of the first i literals all are false, or all but the one that is left
 abbrev pub Seen : List Literal → Clause → ℕ → Option Literal → Type 0

@@ -1,14 +1,14 @@
 -- The rounds of propagation over a list of known literals.
 use Rattle.std.proofs.Common.{◌≡◌, ◌≢◌, ℕ, ◌+◌, ◌<◌, ◌≤◌, List, [], ◌∷◌, ◌++◌, take, length, get_or, ◌⊎◌, inl, inr, ⊎_elim, sym, ap, ◌∙◌, subst, refl, arith, length-append}
-use Rattle.varisat_theory.specs.Membership.{◌∈◌, ◌⊆◌}
-use Rattle.varisat_theory.specs.Literals.{Literal, Clause, opposite}
-use Rattle.varisat_theory.specs.Propagation.{Conflicts, FalseClause, Propagate, IsFalse, LeavesOnly, HasClash, IsComplete}
-use Rattle.varisat_theory.proofs.Members.{∈-or_not, ∈-append_cases, ∈-append_left, ∈-append_right}
-use Rattle.varisat_theory.proofs.Values.{opposite_twice}
-use Rattle.varisat_theory.proofs.ConflictForms.{never_its_own}
-use Rattle.varisat_theory.proofs.Growth.{conflicts_known}
-use Rattle.varisat_theory.proofs.Places.{∈-take_more, ∈-take_all}
-use Rattle.varisat_theory.proofs.Saturated.{saturated_no_conflict}
+use Rattle.varisat_theory.specs.promises.Membership.{◌∈◌, ◌⊆◌}
+use Rattle.varisat_theory.specs.promises.Literals.{Literal, Clause, opposite}
+use Rattle.varisat_theory.specs.promises.Propagation.{Conflicts, FalseClause, Propagate, IsFalse, LeavesOnly, HasClash, IsComplete}
+use Rattle.varisat_theory.proofs.clauses.Members.{∈-or_not, ∈-append_cases, ∈-append_left, ∈-append_right}
+use Rattle.varisat_theory.proofs.clauses.Values.{opposite_twice}
+use Rattle.varisat_theory.proofs.clauses.ConflictForms.{never_its_own}
+use Rattle.varisat_theory.proofs.clauses.Growth.{conflicts_known}
+use Rattle.varisat_theory.proofs.clauses.Places.{∈-take_more, ∈-take_all}
+use Rattle.varisat_theory.proofs.clauses.Saturated.{saturated_no_conflict}
 
 -- what propagation over P from the base comes to
 pub record Reaches (P : List Clause) (base known : List Literal) : Type 0 where

@@ -2,14 +2,14 @@
 use Rattle.std.proofs.Common.{◌≡◌, ℕ, suc, ◌+◌, ◌<◌, ◌≤◌, Bool, true, false, ◌||◌, nat_eq, List, [], ◌∷◌, ◌++◌, IsTrue, ◌↔◌, inl, inr, ⊎_elim, sym, ap, ◌∙◌, subst, refl, length, get_or, take, drop, Vec, arith, eq-eqb, ne_eqb}
 use Rattle.std.specs.List.{list_any}
 use Rattle.std.proofs.lemmas.List.{take_more, take-map, drop-map, get_or-map, map-append, length-map}
-use Rattle.varisat_theory.specs.Membership.{◌∈◌, ◌⊆◌, SameSet}
-use Rattle.varisat_theory.specs.Literals.{Literal, Clause, opposite, opposites}
-use Rattle.varisat_theory.specs.Propagation.{HasClash}
-use Rattle.varisat_theory.specs.Derivations.{TakesOut}
-use Rattle.varisat_plain.specs.Checking.{clause_lists, IsAbsent}
-use Rattle.varisat_theory.proofs.Members.{equal_or_not}
-use Rattle.varisat_theory.proofs.Places.{cut_at, ∈-get_or, ∈-take_more, ∈-take_all}
-use Rattle.varisat_theory.proofs.Renaming.{∈-map}
+use Rattle.varisat_theory.specs.promises.Membership.{◌∈◌, ◌⊆◌, SameSet}
+use Rattle.varisat_theory.specs.promises.Literals.{Literal, Clause, opposite, opposites}
+use Rattle.varisat_theory.specs.promises.Propagation.{HasClash}
+use Rattle.varisat_theory.specs.promises.Derivations.{TakesOut}
+use Rattle.varisat_plain.specs.promises.Checking.{clause_lists, IsAbsent}
+use Rattle.varisat_theory.proofs.clauses.Members.{equal_or_not}
+use Rattle.varisat_theory.proofs.clauses.Places.{cut_at, ∈-get_or, ∈-take_more, ∈-take_all}
+use Rattle.varisat_theory.proofs.journals.Renaming.{∈-map}
 
 pub answers_true : (X : Type 0) → X → IsTrue true ↔ X
 answers_true X x = (λ t. x, λ y. refl)

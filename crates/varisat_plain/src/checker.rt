@@ -1,8 +1,8 @@
 //! A plain checker of proof lines: it keeps the present clauses in a list, and propagates anew for each line.
 ghost use Rattle.std.specs.Prelude.{◌≡◌, ◌↔◌, map, IfOk, IsTrue, MatchOption, true, false};
-ghost use Rattle.varisat_plain.specs.Checking.{IsAbsent, IsPlaceOf, IsPlainLineStatus, IsVerdict, clause_lists, line_of};
-ghost use Rattle.varisat_theory.specs.Derivations.{TakesOut};
-ghost use Rattle.varisat_theory.specs.Membership.{◌⊆◌, SameSet};
+ghost use Rattle.varisat_plain.specs.promises.Checking.{IsAbsent, IsPlaceOf, IsPlainLineStatus, IsVerdict, clause_lists, line_of};
+ghost use Rattle.varisat_theory.specs.promises.Derivations.{TakesOut};
+ghost use Rattle.varisat_theory.specs.promises.Membership.{◌⊆◌, SameSet};
 
 use crate::propagation::{conflicts, follows, holds};
 use std::alloc::{AllocError, Global};

@@ -1,9 +1,9 @@
 //! Unit propagation over plain lists: slow and easy to read.
 ghost use Rattle.std.specs.Prelude.{◌≡◌, ◌↔◌, IfOk, IsTrue};
-ghost use Rattle.varisat_plain.specs.Checking.{IsClauseStatus, clause_lists};
-ghost use Rattle.varisat_theory.specs.Literals.{opposite};
-ghost use Rattle.varisat_theory.specs.Membership.{◌∈◌};
-ghost use Rattle.varisat_theory.specs.Propagation.{Conflicts, Follows, HasClash};
+ghost use Rattle.varisat_plain.specs.promises.Checking.{IsClauseStatus, clause_lists};
+ghost use Rattle.varisat_theory.specs.promises.Literals.{opposite};
+ghost use Rattle.varisat_theory.specs.promises.Membership.{◌∈◌};
+ghost use Rattle.varisat_theory.specs.promises.Propagation.{Conflicts, Follows, HasClash};
 
 use std::alloc::{AllocError, Global};
 
@@ -19,7 +19,7 @@ pub enum ClauseStatus {
 }
 
 /// The literal's opposite.
-#[tactic(auto, unfolding(varisat_theory::specs::Literals::opposite))]
+#[tactic(auto, unfolding(varisat_theory::specs::promises::Literals::opposite))]
 pub fn opposite(literal: u32) -> u32
     ensures { result ≡ opposite literal }
 {

@@ -1,11 +1,11 @@
 -- Places before which no clause has a literal.
 use Rattle.std.proofs.Common.{◌≡◌, ℕ, zero, suc, ◌+◌, ◌<◌, ◌≤◌, List, [], ◌∷◌, ◌++◌, ◌⊎◌, Option, Some, None, Vec, set, take, take_all, replicate, length, get_or, refl, sym, ap, ◌∙◌, subst, inl, inr, ⊎_elim, arith}
-use Rattle.varisat_theory.specs.Membership.{◌∈◌}
-use Rattle.varisat_theory.specs.Literals.{Literal, Clause}
-use Rattle.varisat_theory.proofs.Places.{∈-take_more}
-use Rattle.varisat_present.specs.Places.{present, present_at, place_limit}
+use Rattle.varisat_theory.specs.promises.Membership.{◌∈◌}
+use Rattle.varisat_theory.specs.promises.Literals.{Literal, Clause}
+use Rattle.varisat_theory.proofs.clauses.Places.{∈-take_more}
+use Rattle.varisat_present.specs.inside.Places.{present, present_at, place_limit}
 use Rattle.varisat_present.proofs.PlacedClauses.{still_there}
-use Rattle.varisat_present.specs.Resolving.{unseen, AreFirst, AreLowered, AreNoted, AllConflict}
+use Rattle.varisat_present.specs.promises.Resolving.{unseen, AreFirst, AreLowered, AreNoted, AllConflict}
 
 -- 1. The list.
 lowered_set : (xs : List ℕ) (i v l d : ℕ) → v ≤ get_or xs i d → get_or (set xs i v) l d ≤ get_or xs l d

@@ -1,17 +1,17 @@
 -- What is kept of the known literals as clauses come and go, and what questions find.
 use Rattle.std.proofs.Common.{◌≡◌, ◌≢◌, ℕ, List, [], ◌∷◌, ◌++◌, ◌⊎◌, ◌↔◌, IsTrue, Bool, true, false, not, take, length, refl, sym, ap, ◌∙◌, subst, inl, inr, ⊎_elim}
 use Rattle.std.proofs.lemmas.List.{append_assoc}
-use Rattle.varisat_theory.specs.Membership.{◌∈◌, ◌⊆◌}
-use Rattle.varisat_theory.specs.Literals.{Literal, Clause, opposite, IsUnit}
-use Rattle.varisat_theory.specs.Propagation.{Conflicts, LeavesOnly, IsComplete, IsSaturated}
-use Rattle.varisat_theory.specs.Analysis.{Implied, Known, ByReason}
-use Rattle.varisat_theory.specs.Derivations.{TakesOut}
-use Rattle.varisat_theory.proofs.Members.{equal_or_not, ∈-append_cases, ∈-append_left, ∈-append_right}
-use Rattle.varisat_theory.proofs.Saturated.{saturated_no_conflict, complete_fewer}
-use Rattle.varisat_theory.proofs.Implication.{implied_known, implied_clash, implied_more, implied_alone}
-use Rattle.varisat_theory.proofs.Growth.{conflicts_known}
+use Rattle.varisat_theory.specs.promises.Membership.{◌∈◌, ◌⊆◌}
+use Rattle.varisat_theory.specs.promises.Literals.{Literal, Clause, opposite, IsUnit}
+use Rattle.varisat_theory.specs.promises.Propagation.{Conflicts, LeavesOnly, IsComplete, IsSaturated}
+use Rattle.varisat_theory.specs.promises.Analysis.{Implied, Known, ByReason}
+use Rattle.varisat_theory.specs.promises.Derivations.{TakesOut}
+use Rattle.varisat_theory.proofs.clauses.Members.{equal_or_not, ∈-append_cases, ∈-append_left, ∈-append_right}
+use Rattle.varisat_theory.proofs.clauses.Saturated.{saturated_no_conflict, complete_fewer}
+use Rattle.varisat_theory.proofs.clauses.Implication.{implied_known, implied_clash, implied_more, implied_alone}
+use Rattle.varisat_theory.proofs.clauses.Growth.{conflicts_known}
 use Rattle.varisat_plain.proofs.Scans.{answers_true, answers_false}
-use Rattle.varisat_present.specs.Knowing.{AreImplied, Keeps, IsPropagatedTo, Finds, Saturates, TakesBase, Asks, Sees, IsSpare}
+use Rattle.varisat_present.specs.inside.Knowing.{AreImplied, Keeps, IsPropagatedTo, Finds, Saturates, TakesBase, Asks, Sees, IsSpare}
 use Rattle.varisat_present.proofs.KnownGrowth.{complete_both, grows_part, cut_back}
 
 -- 1. A clause joins.

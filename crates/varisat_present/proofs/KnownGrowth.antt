@@ -1,16 +1,16 @@
 -- How the known literals grow.
 use Rattle.std.proofs.Common.{◌≡◌, ◌≢◌, ℕ, ◌+◌, ◌<◌, ◌≤◌, List, [], ◌∷◌, ◌++◌, ◌⊎◌, Bool, true, false, take, length, get_or, refl, sym, ap, ◌∙◌, subst, inl, inr, ⊎_elim, arith, length-append}
 use Rattle.std.proofs.lemmas.List.{append-nil, append_assoc, take_at}
-use Rattle.varisat_theory.specs.Membership.{◌∈◌, ◌⊆◌}
-use Rattle.varisat_theory.specs.Literals.{Literal, Clause, opposite}
-use Rattle.varisat_theory.specs.Propagation.{Conflicts, FalseClause, IsFalse, LeavesOnly, HasClash, IsComplete, IsSaturated}
-use Rattle.varisat_theory.specs.Analysis.{Implied, ByReason}
-use Rattle.varisat_theory.proofs.Members.{∈-append_cases, ∈-append_left, ∈-append_right}
-use Rattle.varisat_theory.proofs.Values.{opposite_twice}
-use Rattle.varisat_theory.proofs.ConflictForms.{never_its_own}
-use Rattle.varisat_theory.proofs.Places.{∈-take_more, ∈-take_all}
+use Rattle.varisat_theory.specs.promises.Membership.{◌∈◌, ◌⊆◌}
+use Rattle.varisat_theory.specs.promises.Literals.{Literal, Clause, opposite}
+use Rattle.varisat_theory.specs.promises.Propagation.{Conflicts, FalseClause, IsFalse, LeavesOnly, HasClash, IsComplete, IsSaturated}
+use Rattle.varisat_theory.specs.promises.Analysis.{Implied, ByReason}
+use Rattle.varisat_theory.proofs.clauses.Members.{∈-append_cases, ∈-append_left, ∈-append_right}
+use Rattle.varisat_theory.proofs.clauses.Values.{opposite_twice}
+use Rattle.varisat_theory.proofs.clauses.ConflictForms.{never_its_own}
+use Rattle.varisat_theory.proofs.clauses.Places.{∈-take_more, ∈-take_all}
 use Rattle.varisat_plain.proofs.PropagationRounds.{IsQuiet, quiet_known, quiet_open, unknown, unknown_fewer, unknown_less}
-use Rattle.varisat_present.specs.Knowing.{AreImplied, GrowsKnown, Finds, Saturates, TakesBase, IsPassed, Joins, Passes}
+use Rattle.varisat_present.specs.inside.Knowing.{AreImplied, GrowsKnown, Finds, Saturates, TakesBase, IsPassed, Joins, Passes}
 
 -- 1. One literal.
 no_clash_joined : (known : List Literal) (l : Literal) → (HasClash known → ⊥) → (opposite l ∈ known → ⊥) → HasClash (known ++ (l ∷ [])) → ⊥

@@ -1,7 +1,7 @@
 -- Literals that are marked in turn.
 use Rattle.std.proofs.Common.{◌≡◌, ℕ, ◌+◌, ◌≤◌, List, [], ◌∷◌, ◌++◌, take, length, get_or, inl, subst, sym, ⊎_elim}
-use Rattle.varisat_theory.specs.Membership.{◌∈◌, ◌⊆◌, SameSet}
-use Rattle.varisat_theory.proofs.Members.{∈-append_left, ∈-append_right, ∈-append_cases}
+use Rattle.varisat_theory.specs.promises.Membership.{◌∈◌, ◌⊆◌, SameSet}
+use Rattle.varisat_theory.proofs.clauses.Members.{∈-append_left, ∈-append_right, ∈-append_cases}
 use Rattle.varisat_plain.proofs.Scans.{part_more, part_all}
 
 -- the marks are of the list, and have its first literals

@@ -1,7 +1,7 @@
 -- Clauses that mention a variable.
 use Rattle.std.proofs.Common.{◌≡◌, ℕ, zero, suc, ◌+◌, ◌<◌, [], ◌∷◌, length, take, get_or, Bool, true, false, ◌||◌, nat_eq, refl, sym, ap, ◌∙◌, arith, rules}
-use Rattle.varisat_theory.specs.Literals.{Clause, variable_of}
-use Rattle.varisat_theory.specs.Held.{mentions}
+use Rattle.varisat_theory.specs.promises.Literals.{Clause, variable_of}
+use Rattle.varisat_theory.specs.promises.Held.{mentions}
 
 or_true : (a : Bool) (b : Bool) → b ≡ true → (a || b) ≡ true
 or_true true b e = refl

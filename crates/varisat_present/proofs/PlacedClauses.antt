@@ -1,13 +1,13 @@
 -- The clauses at places.
 use Rattle.std.proofs.Common.{◌≡◌, ℕ, zero, suc, ◌+◌, ◌<◌, ◌≤◌, List, [], ◌∷◌, ◌++◌, length, take, drop, get_or, set, Option, Some, None, Bool, true, false, Vec, refl, sym, ap, ◌∙◌, subst, inl, inr, ⊎_elim, arith, length-append, option_to_list, unwrap_or}
 use Rattle.std.proofs.lemmas.List.{take_all, take-set-le, drop-set-lt, drop-drop, length-set, append-nil}
-use Rattle.varisat_theory.specs.Membership.{◌∈◌, SameSet}
-use Rattle.varisat_theory.specs.Literals.{Clause, IsUnit}
-use Rattle.varisat_theory.specs.Derivations.{TakesOut}
-use Rattle.varisat_theory.specs.Held.{mentions, unless, without}
-use Rattle.varisat_plain.specs.Checking.{IsAbsent}
-use Rattle.varisat_theory.proofs.Members.{∈-append_cases}
-use Rattle.varisat_present.specs.Places.{present, present_at, literals_there}
+use Rattle.varisat_theory.specs.promises.Membership.{◌∈◌, SameSet}
+use Rattle.varisat_theory.specs.promises.Literals.{Clause, IsUnit}
+use Rattle.varisat_theory.specs.promises.Derivations.{TakesOut}
+use Rattle.varisat_theory.specs.promises.Held.{mentions, unless, without}
+use Rattle.varisat_plain.specs.promises.Checking.{IsAbsent}
+use Rattle.varisat_theory.proofs.clauses.Members.{∈-append_cases}
+use Rattle.varisat_present.specs.inside.Places.{present, present_at, literals_there}
 
 -- 1. A place.
 pub at_read : {A : Type 0} (cs : List (Option (Vec ℕ A))) (i : ℕ) (o : Option (Vec ℕ A)) → i < length cs → o ≡ get_or cs i o →

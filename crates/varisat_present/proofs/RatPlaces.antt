@@ -1,20 +1,20 @@
 -- Resolvents with the clauses at places.
 use Rattle.std.proofs.Common.{◌≡◌, ℕ, ◌+◌, ◌<◌, ◌≤◌, List, [], ◌∷◌, ◌++◌, ◌⊎◌, ◌↔◌, IsTrue, Bool, true, false, Option, Some, None, Vec, nat_eq, take, length, get_or, refl, sym, ap, ◌∙◌, subst, inl, inr, ⊎_elim, eq-eqb, ne_eqb}
 use Rattle.std.proofs.lemmas.List.{append_assoc, append-nil, take_more}
-use Rattle.varisat_theory.specs.Membership.{◌∈◌}
-use Rattle.varisat_theory.specs.Literals.{Literal, Clause, opposite, opposites}
-use Rattle.varisat_theory.specs.Propagation.{Conflicts, Follows, IsFalse, IsSaturated, LeavesOnly}
-use Rattle.varisat_theory.specs.Rat.{put_unless, but_for, ResolventsFollow}
-use Rattle.varisat_theory.specs.Derivations.{TakesOut}
-use Rattle.varisat_theory.proofs.Members.{∈-append_cases, ∈-append_right}
-use Rattle.varisat_theory.proofs.Places.{∈-take_more, ∈-take_all}
-use Rattle.varisat_plain.specs.Checking.{IsAbsent, IsClauseStatus}
+use Rattle.varisat_theory.specs.promises.Membership.{◌∈◌}
+use Rattle.varisat_theory.specs.promises.Literals.{Literal, Clause, opposite, opposites}
+use Rattle.varisat_theory.specs.promises.Propagation.{Conflicts, Follows, IsFalse, IsSaturated, LeavesOnly}
+use Rattle.varisat_theory.specs.promises.Rat.{put_unless, but_for, ResolventsFollow}
+use Rattle.varisat_theory.specs.promises.Derivations.{TakesOut}
+use Rattle.varisat_theory.proofs.clauses.Members.{∈-append_cases, ∈-append_right}
+use Rattle.varisat_theory.proofs.clauses.Places.{∈-take_more, ∈-take_all}
+use Rattle.varisat_plain.specs.promises.Checking.{IsAbsent, IsClauseStatus}
 use Rattle.varisat_plain.specs.declared.propagation.ClauseStatus.TheVariants.{Open}
-use Rattle.varisat_theory.proofs.Growth.{conflicts_known}
+use Rattle.varisat_theory.proofs.clauses.Growth.{conflicts_known}
 use Rattle.varisat_plain.proofs.Scans.{opposites_append, answers_true, answers_false}
-use Rattle.varisat_present.specs.Places.{present, present_at}
-use Rattle.varisat_present.specs.Knowing.{AreImplied, Asks, IsPropagatedTo}
-use Rattle.varisat_present.specs.Resolving.{IsForced, IsRatOnSome, IsDeletionOf, ConflictsBut, AllConflict, IsResolventFound}
+use Rattle.varisat_present.specs.inside.Places.{present, present_at}
+use Rattle.varisat_present.specs.inside.Knowing.{AreImplied, Asks, IsPropagatedTo}
+use Rattle.varisat_present.specs.promises.Resolving.{IsForced, IsRatOnSome, IsDeletionOf, ConflictsBut, AllConflict, IsResolventFound}
 use Rattle.varisat_present.specs.declared.present.Deletion.TheVariants.{Taken}
 use Rattle.varisat_present.proofs.KnownGrowth.{cut_back}
 use Rattle.varisat_present.proofs.KeptLiterals.{implied_is_known}

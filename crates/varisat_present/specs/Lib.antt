@@ -1,3 +1,2 @@
-pub mod Places
-pub mod Knowing
-pub mod Resolving
+pub mod inside
+pub mod promises

@@ -1,10 +1,10 @@
 //! One clause, under literals that are known to be true.
 ghost use Rattle.std.specs.Prelude.{◌≡◌, ◌≢◌, ◌↔◌, ◌⊎◌, IsTrue, true, false, MatchOption, [], ◌∷◌};
-ghost use Rattle.varisat_plain.specs.Checking.{IsClauseStatus};
-ghost use Rattle.varisat_theory.specs.Held.{mentions};
-ghost use Rattle.varisat_theory.specs.Literals.{opposite};
-ghost use Rattle.varisat_theory.specs.Membership.{◌∈◌, ◌⊆◌, SameSet};
-ghost use Rattle.varisat_theory.specs.Propagation.{LeavesOnly, IsComplete};
+ghost use Rattle.varisat_plain.specs.promises.Checking.{IsClauseStatus};
+ghost use Rattle.varisat_theory.specs.promises.Held.{mentions};
+ghost use Rattle.varisat_theory.specs.promises.Literals.{opposite};
+ghost use Rattle.varisat_theory.specs.promises.Membership.{◌∈◌, ◌⊆◌, SameSet};
+ghost use Rattle.varisat_theory.specs.promises.Propagation.{LeavesOnly, IsComplete};
 
 use crate::known::Known;
 use std::alloc::Allocator;

@@ -1,7 +1,7 @@
 //! For each literal a place before which no clause has it.
 ghost use Rattle.std.specs.Prelude.{◌≡◌, ◌<◌, ◌≤◌, ℕ, length, OnOk, slice_index_or};
-ghost use Rattle.varisat_present.specs.Places.{place_limit};
-ghost use Rattle.varisat_present.specs.Resolving.{unseen, AreLowered, AreNoted};
+ghost use Rattle.varisat_present.specs.inside.Places.{place_limit};
+ghost use Rattle.varisat_present.specs.promises.Resolving.{unseen, AreLowered, AreNoted};
 
 use crate::known::PLACE_LIMIT;
 use std::alloc::{AllocError, Allocator};

@@ -1,10 +1,10 @@
 //! Clauses at places. A place is empty once its clause is deleted, so that places stay as they are.
 ghost use Rattle.std.specs.Prelude.{◌≡◌, ℕ, length, MatchOption, Some, None, true, false};
-ghost use Rattle.varisat_plain.specs.Checking.{IsAbsent};
-ghost use Rattle.varisat_theory.specs.Held.{mentions, without};
-ghost use Rattle.varisat_theory.specs.Literals.{Clause};
-ghost use Rattle.varisat_theory.specs.Membership.{SameSet};
-ghost use Rattle.varisat_present.specs.Places.{present, present_at};
+ghost use Rattle.varisat_plain.specs.promises.Checking.{IsAbsent};
+ghost use Rattle.varisat_theory.specs.promises.Held.{mentions, without};
+ghost use Rattle.varisat_theory.specs.promises.Literals.{Clause};
+ghost use Rattle.varisat_theory.specs.promises.Membership.{SameSet};
+ghost use Rattle.varisat_present.specs.inside.Places.{present, present_at};
 
 use crate::clause::mentions;
 use crate::sets::is_equal_set;

@@ -1,16 +1,16 @@
 //! Present clauses, and what propagation over them came to.
 ghost use Rattle.std.specs.Prelude.{◌≡◌, ◌⊎◌, take, ◌↔◌, ◌++◌, ◌∷◌, ◌<◌, ℕ, [], length, slice_index_or, IfOk, OnOk, OnErr, IsTrue, true, false, MatchOption, Some, None};
-ghost use Rattle.varisat_plain.specs.Checking.{IsAbsent, IsClauseStatus};
+ghost use Rattle.varisat_plain.specs.promises.Checking.{IsAbsent, IsClauseStatus};
 ghost use Rattle.varisat_plain.specs.declared.propagation.ClauseStatus.TheVariants.{Open};
-ghost use Rattle.varisat_theory.specs.Derivations.{TakesOut};
-ghost use Rattle.varisat_theory.specs.Held.{without};
-ghost use Rattle.varisat_theory.specs.Literals.{Clause, opposites, IsUnit};
-ghost use Rattle.varisat_theory.specs.Rat.{ResolventsFollow};
-ghost use Rattle.varisat_theory.specs.Membership.{◌∈◌, SameSet};
-ghost use Rattle.varisat_theory.specs.Propagation.{Conflicts, Follows, HasClash, IsComplete, IsFalse, LeavesOnly};
-ghost use Rattle.varisat_present.specs.Places.{present, present_at};
-ghost use Rattle.varisat_present.specs.Knowing.{IsSpare, Asks, Sees, AreImplied, Keeps, IsPropagatedTo};
-ghost use Rattle.varisat_present.specs.Resolving.{AllConflict, IsForced, IsRatOnSome, IsDeletionOf, IsResolventFound};
+ghost use Rattle.varisat_theory.specs.promises.Derivations.{TakesOut};
+ghost use Rattle.varisat_theory.specs.promises.Held.{without};
+ghost use Rattle.varisat_theory.specs.promises.Literals.{Clause, opposites, IsUnit};
+ghost use Rattle.varisat_theory.specs.promises.Rat.{ResolventsFollow};
+ghost use Rattle.varisat_theory.specs.promises.Membership.{◌∈◌, SameSet};
+ghost use Rattle.varisat_theory.specs.promises.Propagation.{Conflicts, Follows, HasClash, IsComplete, IsFalse, LeavesOnly};
+ghost use Rattle.varisat_present.specs.inside.Places.{present, present_at};
+ghost use Rattle.varisat_present.specs.inside.Knowing.{IsSpare, Asks, Sees, AreImplied, Keeps, IsPropagatedTo};
+ghost use Rattle.varisat_present.specs.promises.Resolving.{AllConflict, IsForced, IsRatOnSome, IsDeletionOf, IsResolventFound};
 
 use crate::clause::{holds, is_quiet, status_of};
 use crate::firsts::{UNSEEN, first_of, note_all};
@@ -46,10 +46,10 @@ pub struct PresentClauses<A: Allocator + Copy> {
 
 impl<A: Allocator + Copy> Model for PresentClauses<A> {
     ghost use Rattle.std.specs.Prelude.{List};
-    ghost use Rattle.varisat_theory.specs.Literals.{Clause};
-    ghost use Rattle.varisat_present.specs.Places.{present};
-    ghost use Rattle.varisat_present.specs.Knowing.{Keeps};
-    ghost use Rattle.varisat_present.specs.Resolving.{AreFirst};
+    ghost use Rattle.varisat_theory.specs.promises.Literals.{Clause};
+    ghost use Rattle.varisat_present.specs.inside.Places.{present};
+    ghost use Rattle.varisat_present.specs.inside.Knowing.{Keeps};
+    ghost use Rattle.varisat_present.specs.promises.Resolving.{AreFirst};
 
     ghost Value = { List Clause };
 

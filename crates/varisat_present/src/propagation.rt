@@ -1,11 +1,11 @@
 //! Unit propagation over present clauses. A guide leads to the clauses to look at. Before it is said that nothing is left
 //! to propagate all clauses are passed.
 ghost use Rattle.std.specs.Prelude.{◌≡◌, ◌<◌, ℕ, length, IfOk, false};
-ghost use Rattle.varisat_theory.specs.Membership.{◌∈◌};
-ghost use Rattle.varisat_theory.specs.Literals.{opposite};
-ghost use Rattle.varisat_theory.specs.Propagation.{HasClash};
-ghost use Rattle.varisat_present.specs.Places.{present};
-ghost use Rattle.varisat_present.specs.Knowing.{Finds, Saturates, Passes, TakesBase, IsPassed};
+ghost use Rattle.varisat_theory.specs.promises.Membership.{◌∈◌};
+ghost use Rattle.varisat_theory.specs.promises.Literals.{opposite};
+ghost use Rattle.varisat_theory.specs.promises.Propagation.{HasClash};
+ghost use Rattle.varisat_present.specs.inside.Places.{present};
+ghost use Rattle.varisat_present.specs.inside.Knowing.{Finds, Saturates, Passes, TakesBase, IsPassed};
 
 use crate::clause::status_of;
 use crate::guide::Guide;

@@ -1,7 +1,7 @@
 //! The opposites of a clause's literals, and of those of a resolvent.
 ghost use Rattle.std.specs.Prelude.{◌≡◌, ◌++◌, IfOk, OnOk};
-ghost use Rattle.varisat_theory.specs.Literals.{opposites};
-ghost use Rattle.varisat_theory.specs.Rat.{but_for};
+ghost use Rattle.varisat_theory.specs.promises.Literals.{opposites};
+ghost use Rattle.varisat_theory.specs.promises.Rat.{but_for};
 
 use std::alloc::{AllocError, Allocator};
 use varisat_literals::Lit;

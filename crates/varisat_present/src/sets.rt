@@ -1,7 +1,7 @@
 //! Lists of literals as sets. Marks find a literal without a look at the whole list, so that long lists are compared in
 //! proportion to their lengths.
 ghost use Rattle.std.specs.Prelude.{◌≡◌, ◌↔◌, [], IsTrue, IfOk, OnOk};
-ghost use Rattle.varisat_theory.specs.Membership.{◌⊆◌, SameSet};
+ghost use Rattle.varisat_theory.specs.promises.Membership.{◌⊆◌, SameSet};
 
 use crate::clause::is_same_set;
 use crate::known::Known;

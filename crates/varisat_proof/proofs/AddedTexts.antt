@@ -1,16 +1,16 @@
 -- Texts whose clauses are added.
 use Rattle.std.proofs.Common.{◌≡◌, ◌≢◌, ℕ, List, ◌++◌, ◌⊎◌, true, false, Some, Result, Ok, Err, inl, inr, refl, sym, ap, subst, ◌∙◌, append_assoc}
-use Rattle.varisat_theory.specs.Literals.{Clause}
+use Rattle.varisat_theory.specs.promises.Literals.{Clause}
 use Rattle.varisat_formula.specs.declared.dimacs.error.DimacsError.{DimacsError}
 use Rattle.varisat_formula.specs.declared.dimacs.error.DimacsErrorKind.TheVariants as kind
-use Rattle.varisat_formula.specs.Dimacs.{Reading}
-use Rattle.varisat_formula.specs.Streams.{Reads}
-use Rattle.varisat_formula.specs.Parsed.{GivesReading, Whole, FaultInText, TextFailed, ReaderRanOut}
-use Rattle.varisat_formula.specs.TakenTexts.{GivesFirst, TakesInTurn, InOne, InMore, RefusesClause}
+use Rattle.varisat_formula.specs.promises.Dimacs.{Reading}
+use Rattle.varisat_formula.specs.promises.Streams.{Reads}
+use Rattle.varisat_formula.specs.promises.Parsed.{GivesReading, Whole, FaultInText, TextFailed, ReaderRanOut}
+use Rattle.varisat_formula.specs.promises.TakenTexts.{GivesFirst, TakesInTurn, InOne, InMore, RefusesClause}
 use Rattle.varisat_proof.specs.declared.checker.error.CheckerError.{CheckerError}
 use Rattle.varisat_proof.specs.declared.checker.error.CheckerError.TheVariants.{CheckFailed, NoSuchClause, CoreNotAssumed, Parse, Io, OutOfMemory, Dimacs, Spent}
-use Rattle.varisat_proof.specs.Calls.{CheckerState, CheckerAtInput, Becomes, BecomesOrRefuses, AddsRead, AddsText, ClauseRanOut}
-use Rattle.varisat_proof.specs.Checks.{RefusesText}
+use Rattle.varisat_proof.specs.promises.Calls.{CheckerState, CheckerAtInput, Becomes, BecomesOrRefuses, AddsRead, AddsText, ClauseRanOut}
+use Rattle.varisat_proof.specs.inside.Checks.{RefusesText}
 
 -- the clauses join those that are present, or the call is refused
 abbrev pub Joins : CheckerState → List Clause → Result (Unit {0}) CheckerError → CheckerState → Type 0

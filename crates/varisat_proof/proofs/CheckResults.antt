@@ -1,7 +1,7 @@
 -- What the calls that check proofs return, over what they read.
 use Rattle.std.proofs.Common.{◌≡◌, ℕ, List, true, sym, ap, subst, ◌∙◌, Some, Result, Ok, Err}
-use Rattle.varisat_theory.specs.Literals.{Clause, IsSatisfiable}
-use Rattle.varisat_formula.specs.Streams.{Input}
+use Rattle.varisat_theory.specs.promises.Literals.{Clause, IsSatisfiable}
+use Rattle.varisat_formula.specs.promises.Streams.{Input}
 use Rattle.varisat_proof.specs.declared.proof.format.ProofFormat.{ProofFormat}
 use Rattle.varisat_proof.specs.declared.proof.format.Encoding.{Encoding}
 use Rattle.varisat_proof.specs.declared.proof.format.Encoding.TheVariants.{Text}
@@ -9,10 +9,10 @@ use Rattle.varisat_proof.specs.declared.checker.error.CheckVerdict.{CheckVerdict
 use Rattle.varisat_proof.specs.declared.checker.error.CheckVerdict.TheVariants.{Refutation}
 use Rattle.varisat_proof.specs.declared.checker.error.CheckerError.{CheckerError}
 use Rattle.varisat_proof.specs.declared.checker.marked.MarkedReport.{MarkedReport}
-use Rattle.varisat_proof.specs.Lines.{plain_encoding}
-use Rattle.varisat_proof.specs.Marked.{MarkedLog, ProofState, nothing_logged, IsCheckOf, state_of}
-use Rattle.varisat_proof.specs.Results.{IsResult}
-use Rattle.varisat_proof.specs.Calls.{ChecksBytes, is_of_bytes, IsMarkedResult, IsTrueReport, core_lists}
+use Rattle.varisat_proof.specs.promises.Lines.{plain_encoding}
+use Rattle.varisat_proof.specs.promises.Marked.{MarkedLog, ProofState, nothing_logged, IsCheckOf, state_of}
+use Rattle.varisat_proof.specs.promises.Results.{IsResult}
+use Rattle.varisat_proof.specs.promises.Calls.{ChecksBytes, is_of_bytes, IsMarkedResult, IsTrueReport, core_lists}
 use Rattle.varisat_proof.proofs.CheckedSources.{checks_ok, checks_err, checks_exact, checks_right}
 use Rattle.varisat_proof.proofs.PlainResults.{plain_right, result_sound}
 use Rattle.varisat_proof.proofs.MarkedReports.{report_true}

@@ -1,9 +1,9 @@
 -- A check of a proof, a line and a byte at a time.
 use Rattle.std.proofs.Common.{◌≡◌, ℕ, suc, ◌+◌, ◌-◌, ◌^◌, ◌<◌, ◌≤◌, min, List, [], ◌∷◌, ◌++◌, length, take, drop, get_or, Bool, true, false, IsTrue, ◌↔◌, ◌==◌, if◌then◌else◌, refl, sym, ap, subst, ◌∙◌, append_assoc, append-nil, inl, inr, Option, Some, None, Result, Ok, Err, take_all, arith}
 use Rattle.std.proofs.lemmas.List.{take-append-drop, take_more}
-use Rattle.varisat_theory.specs.Literals.{Clause}
-use Rattle.varisat_theory.specs.Propagation.{Conflicts}
-use Rattle.varisat_plain.specs.Checking.{IsAbsent}
+use Rattle.varisat_theory.specs.promises.Literals.{Clause}
+use Rattle.varisat_theory.specs.promises.Propagation.{Conflicts}
+use Rattle.varisat_plain.specs.promises.Checking.{IsAbsent}
 use Rattle.varisat_proof.specs.declared.proof.format.Encoding.{Encoding}
 use Rattle.varisat_proof.specs.declared.proof.format.Encoding.TheVariants.{Text, Binary}
 use Rattle.varisat_proof.specs.declared.proof.format.LineKind.{LineKind}
@@ -19,12 +19,12 @@ use Rattle.varisat_proof.specs.declared.checker.error.CheckVerdict.TheVariants.{
 use Rattle.varisat_proof.specs.declared.checker.error.CheckerError.{CheckerError}
 use Rattle.varisat_proof.specs.declared.checker.error.CheckerError.TheVariants.{CheckFailed, NoSuchClause, CoreNotAssumed, Parse, OutOfMemory}
 use Rattle.varisat_proof.specs.declared.checker.check.Count.{Count}
-use Rattle.varisat_proof.specs.Lines.{ProofLine, line_of_kind, letter_kind, step_number}
-use Rattle.varisat_proof.specs.Grammar.{Accepted, Faulty, tag_kind}
-use Rattle.varisat_proof.specs.Machine.{ParserState, Parsed, ReaderState, line_at, number_event, begin_event, event, begin_line, after_number, moved, last_symbol, put, at_end, happens, after, parsed, parsed_from, begin, last_event, last_place, last_offset}
-use Rattle.varisat_proof.specs.Means.{BytesMean, Means}
-use Rattle.varisat_proof.specs.Marked.{MarkedLog, ProofState, Rules, strict_rules, GoesBy, IsCheckBy, state_of}
-use Rattle.varisat_proof.specs.Checks.{IsLineStatus, StopsBehind, IsAfterLines, LastIsWrong, IsWrongLast, with_lines, HasRead, CheckBreaksOff, EndsWith, result_at_end}
+use Rattle.varisat_proof.specs.promises.Lines.{ProofLine, line_of_kind, letter_kind, step_number}
+use Rattle.varisat_proof.specs.promises.Grammar.{Accepted, Faulty, tag_kind}
+use Rattle.varisat_proof.specs.inside.Machine.{ParserState, Parsed, ReaderState, line_at, number_event, begin_event, event, begin_line, after_number, moved, last_symbol, put, at_end, happens, after, parsed, parsed_from, begin, last_event, last_place, last_offset}
+use Rattle.varisat_proof.specs.promises.Means.{BytesMean, Means}
+use Rattle.varisat_proof.specs.promises.Marked.{MarkedLog, ProofState, Rules, strict_rules, GoesBy, IsCheckBy, state_of}
+use Rattle.varisat_proof.specs.inside.Checks.{IsLineStatus, StopsBehind, IsAfterLines, LastIsWrong, IsWrongLast, with_lines, HasRead, CheckBreaksOff, EndsWith, result_at_end}
 use Rattle.varisat_proof.proofs.TokenLines.{parsed_means}
 
 -- 1. Lines.

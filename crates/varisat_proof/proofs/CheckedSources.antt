@@ -1,20 +1,20 @@
 -- A check of all that a source gives.
 use Rattle.std.proofs.Common.{◌≡◌, ℕ, suc, ◌+◌, ◌<◌, ◌≤◌, List, [], ◌∷◌, ◌++◌, length, Bool, true, false, IsTrue, ◌↔◌, nat_lt, if◌then◌else◌, refl, sym, ap, subst, ◌∙◌, append-nil, Option, Some, None, Result, Ok, Err, arith, rules}
 use Rattle.std.specs.Io.KnownBytes.{Consumes, Keeps, IsAtEnd}
-use Rattle.varisat_theory.specs.Propagation.{Conflicts}
-use Rattle.varisat_formula.specs.Streams as streams
-use Rattle.varisat_formula.specs.Streams.{Input, HasEnded}
+use Rattle.varisat_theory.specs.promises.Propagation.{Conflicts}
+use Rattle.varisat_formula.specs.promises.Streams as streams
+use Rattle.varisat_formula.specs.promises.Streams.{Input, HasEnded}
 use Rattle.varisat_formula.proofs.ParsedSources.{reads_none, reads_more}
 use Rattle.varisat_proof.specs.declared.proof.format.Encoding.{Encoding}
 use Rattle.varisat_proof.specs.declared.checker.error.CheckVerdict.{CheckVerdict}
 use Rattle.varisat_proof.specs.declared.checker.error.CheckerError.{CheckerError}
 use Rattle.varisat_proof.specs.declared.checker.error.CheckerError.TheVariants.{CheckFailed, NoSuchClause, CoreNotAssumed, Parse, Io, OutOfMemory, Dimacs, Spent}
 use Rattle.varisat_proof.specs.declared.checker.check.Count.{Count}
-use Rattle.varisat_proof.specs.Lines.{ProofLine}
-use Rattle.varisat_proof.specs.Machine.{ReaderState, begin}
-use Rattle.varisat_proof.specs.Marked.{ProofState, Rules, IsCheckBy}
-use Rattle.varisat_proof.specs.Checks.{StopsBehind, IsAfterLines, HasRead, CheckBreaksOff, EndsWith}
-use Rattle.varisat_proof.specs.Calls.{ChecksBytes, AtEnd, InText, SourceFailed, RanOut, IsOfBytes, is_of_bytes, is_io}
+use Rattle.varisat_proof.specs.promises.Lines.{ProofLine}
+use Rattle.varisat_proof.specs.inside.Machine.{ReaderState, begin}
+use Rattle.varisat_proof.specs.promises.Marked.{ProofState, Rules, IsCheckBy}
+use Rattle.varisat_proof.specs.inside.Checks.{StopsBehind, IsAfterLines, HasRead, CheckBreaksOff, EndsWith}
+use Rattle.varisat_proof.specs.promises.Calls.{ChecksBytes, AtEnd, InText, SourceFailed, RanOut, IsOfBytes, is_of_bytes, is_io}
 use Rattle.varisat_proof.proofs.CheckedLines.{SoFar, reads_start}
 
 -- a source gave a piece more

@@ -1,16 +1,16 @@
 -- A check of a solver's step, line by line.
 use Rattle.std.proofs.Common.{◌≡◌, ℕ, zero, suc, ◌+◌, ◌<◌, ◌≤◌, List, [], ◌∷◌, ◌++◌, length, take, drop, get_or, false, refl, sym, ap, subst, ◌∙◌, take_all, Result, Ok, Err, arith}
-use Rattle.varisat_theory.specs.Literals.{Clause}
-use Rattle.varisat_theory.specs.Derivations.{Line, Add, Delete, Derives}
-use Rattle.varisat_plain.specs.Checking.{IsWrong}
-use Rattle.varisat_theory.proofs.Lines.{derives_append}
+use Rattle.varisat_theory.specs.promises.Literals.{Clause}
+use Rattle.varisat_theory.specs.promises.Derivations.{Line, Add, Delete, Derives}
+use Rattle.varisat_plain.specs.promises.Checking.{IsWrong}
+use Rattle.varisat_theory.proofs.clauses.Lines.{derives_append}
 use Rattle.varisat_proof.specs.declared.checker.error.CheckerError.{CheckerError}
 use Rattle.varisat_proof.specs.declared.checker.error.CheckerError.TheVariants.{CheckFailed, NoSuchClause, OutOfMemory}
 use Rattle.varisat_trace.specs.declared.step.ProofStep.{ProofStep}
 use Rattle.varisat_trace.specs.declared.step.ProofStep.TheVariants.{AtClause, UnitClauses, DeleteClause, DeleteVar, FailedAssumptions}
-use Rattle.varisat_theory.specs.StepLaws.{unit_lines}
-use Rattle.varisat_proof.specs.Calls.{CheckerState, IsStep, FailsAt}
-use Rattle.varisat_proof.specs.Checks.{ChecksLine, ChecksUnits, ChecksCore}
+use Rattle.varisat_theory.specs.inside.StepLaws.{unit_lines}
+use Rattle.varisat_proof.specs.promises.Calls.{CheckerState, IsStep, FailsAt}
+use Rattle.varisat_proof.specs.inside.Checks.{ChecksLine, ChecksUnits, ChecksCore}
 
 pub checker_is : (new old : CheckerState) → new.clauses ≡ old.clauses → new.spent ≡ old.spent → new ≡ old
 checker_is new old e f = ap (λ x. let s : CheckerState = record { clauses = x; spent = new.spent } in s) e ∙

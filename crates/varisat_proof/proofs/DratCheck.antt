@@ -1,12 +1,12 @@
 -- A check of DRAT lines.
 use Rattle.std.proofs.Common.{◌≡◌, ℕ, List, [], ◌∷◌, ◌++◌, inl, inr, refl, sym, ap, ◌∙◌, subst, Result, Ok, Err}
-use Rattle.varisat_theory.specs.Literals.{Clause, IsSatisfiable}
-use Rattle.varisat_theory.specs.Derivations.{Add, Delete}
-use Rattle.varisat_theory.proofs.RatLines.{rat_sound, drat_line_sound, drat_refutes}
-use Rattle.varisat_formula.specs.Streams.{Input}
+use Rattle.varisat_theory.specs.promises.Literals.{Clause, IsSatisfiable}
+use Rattle.varisat_theory.specs.promises.Derivations.{Add, Delete}
+use Rattle.varisat_theory.proofs.clauses.RatLines.{rat_sound, drat_line_sound, drat_refutes}
+use Rattle.varisat_formula.specs.promises.Streams.{Input}
 use Rattle.varisat_present.specs.declared.present.Deletion.{Deletion}
 use Rattle.varisat_present.specs.declared.present.Deletion.TheVariants as deletion
-use Rattle.varisat_present.specs.Resolving.{IsDeletionOf}
+use Rattle.varisat_present.specs.promises.Resolving.{IsDeletionOf}
 use Rattle.varisat_proof.specs.declared.proof.format.Encoding.{Encoding}
 use Rattle.varisat_proof.specs.declared.proof.format.LineKind.{LineKind}
 use Rattle.varisat_proof.specs.declared.proof.format.LineKind.TheVariants.{Adds, Deletes, Accepts, Assumes, Fails}
@@ -18,11 +18,11 @@ use Rattle.varisat_proof.specs.declared.checker.line.LineStatus.TheVariants.{Tak
 use Rattle.varisat_proof.specs.declared.checker.error.CheckVerdict.{CheckVerdict}
 use Rattle.varisat_proof.specs.declared.checker.error.CheckVerdict.TheVariants.{Refutation}
 use Rattle.varisat_proof.specs.declared.checker.error.CheckerError.{CheckerError}
-use Rattle.varisat_proof.specs.Lines.{ProofLine, line_of_kind, plain_encoding}
-use Rattle.varisat_proof.specs.Marked.{MarkedLog, ProofState, nothing_logged, state_of, GoesBy, IsCheckBy}
-use Rattle.varisat_proof.specs.Checks.{IsLineStatus}
-use Rattle.varisat_proof.specs.Calls.{ChecksBytes}
-use Rattle.varisat_proof.specs.DratChecks.{TakesDratKind, IsRedundancyOf, IsDratStatusOf, drat_rules, IsDratResult}
+use Rattle.varisat_proof.specs.promises.Lines.{ProofLine, line_of_kind, plain_encoding}
+use Rattle.varisat_proof.specs.promises.Marked.{MarkedLog, ProofState, nothing_logged, state_of, GoesBy, IsCheckBy}
+use Rattle.varisat_proof.specs.inside.Checks.{IsLineStatus}
+use Rattle.varisat_proof.specs.promises.Calls.{ChecksBytes}
+use Rattle.varisat_proof.specs.promises.DratChecks.{TakesDratKind, IsRedundancyOf, IsDratStatusOf, drat_rules, IsDratResult}
 use Rattle.varisat_proof.proofs.CheckedSources.{checks_ok, checks_err, checks_right}
 
 -- 1. One line.

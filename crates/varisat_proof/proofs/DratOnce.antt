@@ -1,23 +1,23 @@
 -- A check of DRAT lines has one result.
 use Rattle.std.proofs.Common.{◌≡◌, List, [], ◌∷◌, ◌++◌, ◌⊎◌, inl, inr, ⊎_elim, sym, ◌∙◌, subst, refl, eq-eqb, ne_eqb}
-use Rattle.varisat_theory.specs.Membership.{◌∈◌, ◌⊆◌}
-use Rattle.varisat_theory.specs.Literals.{Literal, Clause, opposite}
-use Rattle.varisat_theory.specs.Analysis.{Implied, Known, ByReason}
-use Rattle.varisat_theory.specs.Derivations.{TakesOut}
-use Rattle.varisat_theory.specs.Held.{SameClauses}
-use Rattle.varisat_theory.specs.Rat.{put_unless, but_for}
-use Rattle.varisat_theory.proofs.Members.{equal_or_not, ∈-append_cases, ∈-append_left, ∈-append_right}
-use Rattle.varisat_theory.proofs.RatLines.{but_for-∈}
-use Rattle.varisat_theory.proofs.Held.{same_set-self, same_set-through, takes_from, same_clauses_find, same_clauses-back, follows_same, same_add, takes_out_unique}
-use Rattle.varisat_plain.specs.Checking.{IsAbsent}
-use Rattle.varisat_present.specs.Resolving.{IsForced, IsRatOnSome}
+use Rattle.varisat_theory.specs.promises.Membership.{◌∈◌, ◌⊆◌}
+use Rattle.varisat_theory.specs.promises.Literals.{Literal, Clause, opposite}
+use Rattle.varisat_theory.specs.promises.Analysis.{Implied, Known, ByReason}
+use Rattle.varisat_theory.specs.promises.Derivations.{TakesOut}
+use Rattle.varisat_theory.specs.promises.Held.{SameClauses}
+use Rattle.varisat_theory.specs.promises.Rat.{put_unless, but_for}
+use Rattle.varisat_theory.proofs.clauses.Members.{equal_or_not, ∈-append_cases, ∈-append_left, ∈-append_right}
+use Rattle.varisat_theory.proofs.clauses.RatLines.{but_for-∈}
+use Rattle.varisat_theory.proofs.clauses.Held.{same_set-self, same_set-through, takes_from, same_clauses_find, same_clauses-back, follows_same, same_add, takes_out_unique}
+use Rattle.varisat_plain.specs.promises.Checking.{IsAbsent}
+use Rattle.varisat_present.specs.promises.Resolving.{IsForced, IsRatOnSome}
 use Rattle.varisat_proof.specs.declared.proof.format.Encoding.{Encoding}
 use Rattle.varisat_proof.specs.declared.proof.format.LineKind.{LineKind}
 use Rattle.varisat_proof.specs.declared.proof.format.LineKind.TheVariants.{Adds, Deletes, Accepts, Assumes, Fails}
 use Rattle.varisat_proof.specs.declared.checker.line.LineStatus.{LineStatus}
 use Rattle.varisat_proof.specs.declared.checker.line.LineStatus.TheVariants.{Unproved}
-use Rattle.varisat_proof.specs.Marked.{CheckOnceBy}
-use Rattle.varisat_proof.specs.DratChecks.{TakesDratKind, IsWrongDratKind, drat_rules}
+use Rattle.varisat_proof.specs.promises.Marked.{CheckOnceBy}
+use Rattle.varisat_proof.specs.promises.DratChecks.{TakesDratKind, IsWrongDratKind, drat_rules}
 use Rattle.varisat_proof.proofs.MarkedOnce.{AreDetermined, once}
 
 -- 1. The same clauses, in any order.

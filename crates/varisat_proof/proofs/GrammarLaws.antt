@@ -1,11 +1,11 @@
 -- The laws of the formats.
 use Rattle.std.proofs.Common.{◌≡◌, ℕ, List, sym, ap, ◌∙◌, ◌⊎◌, inl, inr, Option, Some, None}
 use Rattle.varisat_proof.specs.declared.proof.format.Encoding.{Encoding}
-use Rattle.varisat_proof.specs.Lines.{ProofLine}
-use Rattle.varisat_proof.specs.Grammar.{Accepted, FaultAt}
-use Rattle.varisat_proof.specs.Machine.{Parsed, parsed}
-use Rattle.varisat_proof.specs.Means.{BytesMean}
-use Rattle.varisat_proof.specs.Laws.{WrittenIsAccepted, AcceptedOnce, AcceptedOrFaulty, NotBoth, FaultyOnce}
+use Rattle.varisat_proof.specs.promises.Lines.{ProofLine}
+use Rattle.varisat_proof.specs.promises.Grammar.{Accepted, FaultAt}
+use Rattle.varisat_proof.specs.inside.Machine.{Parsed, parsed}
+use Rattle.varisat_proof.specs.promises.Means.{BytesMean}
+use Rattle.varisat_proof.specs.inside.Laws.{WrittenIsAccepted, AcceptedOnce, AcceptedOrFaulty, NotBoth, FaultyOnce}
 use Rattle.varisat_proof.proofs.TokenLines.{only_parsed, parsed_means}
 use Rattle.varisat_proof.proofs.WrittenLines.{written_accepted}
 

@@ -1,19 +1,19 @@
 -- The bytes that the writer puts together.
 use Rattle.std.proofs.Common.{◌≡◌, ℕ, zero, suc, ◌+◌, ◌-◌, ◌*◌, ◌/◌, ◌%◌, ◌<◌, ◌≤◌, List, [], ◌∷◌, ◌++◌, length, get_or, take, drop, flat_map, Err, true, false, nat_lt, if◌then◌else◌, refl, sym, ap, ◌∙◌, append_assoc, append-nil, ◌⊎◌, inl, inr, take_all, arith, rules}
-use Rattle.varisat_literals.specs.Numbers.{literal_text}
-use Rattle.varisat_formula.specs.Streams.{Taken}
-use Rattle.varisat_formula.specs.Written.{spaced_literals}
+use Rattle.varisat_literals.specs.promises.Numbers.{literal_text}
+use Rattle.varisat_formula.specs.promises.Streams.{Taken}
+use Rattle.varisat_formula.specs.promises.Written.{spaced_literals}
 use Rattle.varisat_formula.proofs.TargetParts.{literals_more, begun_part, parts_split}
 use Rattle.varisat_proof.specs.declared.proof.format.Encoding.{Encoding}
 use Rattle.varisat_proof.specs.declared.proof.format.LineKind.{LineKind}
 use Rattle.varisat_proof.specs.declared.proof.format.LineKind.TheVariants.{Adds}
 use Rattle.varisat_proof.specs.declared.proof.writer.WriteError.{WriteError}
 use Rattle.varisat_proof.specs.declared.proof.writer.WriteError.TheVariants.{Memory, Target}
-use Rattle.varisat_proof.specs.Lines.{ProofLine, line_of_kind, plain_lines, letter}
-use Rattle.varisat_proof.specs.Written.{leb128, leb128_by, codes_bytes, mark_text, line_text, line_bytes, line_written}
-use Rattle.varisat_proof.specs.Machine.{scale}
-use Rattle.varisat_theory.specs.StepLaws.{unit_lines}
-use Rattle.varisat_proof.specs.Steps.{lines_written, PutsLines}
+use Rattle.varisat_proof.specs.promises.Lines.{ProofLine, line_of_kind, plain_lines, letter}
+use Rattle.varisat_proof.specs.promises.Written.{leb128, leb128_by, codes_bytes, mark_text, line_text, line_bytes, line_written}
+use Rattle.varisat_proof.specs.inside.Machine.{scale}
+use Rattle.varisat_theory.specs.inside.StepLaws.{unit_lines}
+use Rattle.varisat_proof.specs.promises.Steps.{lines_written, PutsLines}
 
 pub room_less : (left rest : ℕ) → 0 < left → left ≤ 4 → rest < 128 * scale left → rest / 128 < 128 * scale (left - 1)
 room_less zero rest p h e = absurd (omega arith)

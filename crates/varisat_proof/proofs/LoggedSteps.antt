@@ -1,14 +1,14 @@
 -- What a checker that runs inside a solver makes of a step that is right, and how the written lines and the checker go together.
 use Rattle.std.proofs.Common.{◌≡◌, ℕ, Bool, false, List, [], ◌∷◌, ◌++◌, refl, sym, ap, ◌∙◌, subst, Option, None, Some, Result, Ok, Err, OnOk, IfErr, inr}
-use Rattle.varisat_theory.specs.Literals.{Literal, Clause}
-use Rattle.varisat_theory.specs.Propagation.{Conflicts}
-use Rattle.varisat_theory.specs.Derivations.{Line, Add, Delete, Derives, IsPresentAfter}
-use Rattle.varisat_theory.specs.Held.{SameClauses}
-use Rattle.varisat_plain.specs.Checking.{IsWrong}
-use Rattle.varisat_theory.specs.StepLaws.{unit_lines}
-use Rattle.varisat_theory.proofs.Held.{same_set-self, same_set-through, same_clauses-self, same_clauses_find, takes_from, follows_same, conflicts_same}
-use Rattle.varisat_theory.proofs.Lines.{derives_cut, derives_present, derives_same, same_lines-self, present_unique}
-use Rattle.varisat_theory.specs.Journals.{Entry, written}
+use Rattle.varisat_theory.specs.promises.Literals.{Literal, Clause}
+use Rattle.varisat_theory.specs.promises.Propagation.{Conflicts}
+use Rattle.varisat_theory.specs.promises.Derivations.{Line, Add, Delete, Derives, IsPresentAfter}
+use Rattle.varisat_theory.specs.promises.Held.{SameClauses}
+use Rattle.varisat_plain.specs.promises.Checking.{IsWrong}
+use Rattle.varisat_theory.specs.inside.StepLaws.{unit_lines}
+use Rattle.varisat_theory.proofs.clauses.Held.{same_set-self, same_set-through, same_clauses-self, same_clauses_find, takes_from, follows_same, conflicts_same}
+use Rattle.varisat_theory.proofs.clauses.Lines.{derives_cut, derives_present, derives_same, same_lines-self, present_unique}
+use Rattle.varisat_theory.specs.promises.Journals.{Entry, written}
 use Rattle.varisat_trace.specs.Traces.{CanTake, CanFail, CanTakeStep, entries_of}
 use Rattle.varisat_trace.specs.declared.step.ProofStep.{ProofStep}
 use Rattle.varisat_trace.specs.declared.step.ProofStep.TheVariants.{AtClause, UnitClauses, DeleteClause, DeleteVar, FailedAssumptions}
@@ -17,11 +17,11 @@ use Rattle.varisat_trace.specs.declared.tracer.TraceError.TheVariants.{Memory}
 use Rattle.varisat_proof.specs.declared.proof.format.Encoding.{Encoding}
 use Rattle.varisat_proof.specs.declared.checker.error.CheckerError.{CheckerError}
 use Rattle.varisat_proof.specs.declared.checker.error.CheckerError.TheVariants.{CheckFailed, NoSuchClause, CoreNotAssumed, Parse, Io, OutOfMemory, Dimacs, Spent}
-use Rattle.varisat_proof.specs.Lines.{ProofLine, encoding_of}
-use Rattle.varisat_proof.specs.Steps.{step_lines}
-use Rattle.varisat_proof.specs.Calls.{CheckerState, IsStepTaken, FailsAt, DoesNotFollow, IsStep}
-use Rattle.varisat_proof.specs.Present.{IsLeftAfter}
-use Rattle.varisat_proof.specs.Proving.{OpenState, ProofParts, IsWritten, IsWrittenIf, IsCheckedIf, IsLogged, Logs, logged, MayBePresent, IsUsable, IsSpent, RunsOutLogging}
+use Rattle.varisat_proof.specs.promises.Lines.{ProofLine, encoding_of}
+use Rattle.varisat_proof.specs.promises.Steps.{step_lines}
+use Rattle.varisat_proof.specs.promises.Calls.{CheckerState, IsStepTaken, FailsAt, DoesNotFollow, IsStep}
+use Rattle.varisat_proof.specs.inside.Present.{IsLeftAfter}
+use Rattle.varisat_proof.specs.promises.Proving.{OpenState, ProofParts, IsWritten, IsWrittenIf, IsCheckedIf, IsLogged, Logs, logged, MayBePresent, IsUsable, IsSpent, RunsOutLogging}
 
 -- 1. A step that is taken.
 lines_left : (P : List Clause) (lines : List Line) (Q : List Clause) → IsPresentAfter P lines Q → IsLeftAfter P (written lines) Q

@@ -3,8 +3,8 @@ use Rattle.std.proofs.Common.{◌≡◌, ℕ, suc, ◌+◌, ◌*◌, ◌%◌, �
 use Rattle.varisat_formula.specs.declared.dimacs.token.Word.{Word}
 use Rattle.varisat_formula.specs.declared.dimacs.token.Meaning.{Meaning}
 use Rattle.varisat_formula.specs.declared.dimacs.token.Meaning.TheVariants.{End, Literal, TooLarge, Wrong}
-use Rattle.varisat_formula.specs.Dimacs.{is_blank, meaning, next}
-use Rattle.varisat_formula.specs.Machine.{no_word, after_byte, word_from}
+use Rattle.varisat_formula.specs.promises.Dimacs.{is_blank, meaning, next}
+use Rattle.varisat_formula.specs.inside.Machine.{no_word, after_byte, word_from}
 use Rattle.varisat_formula.proofs.TokenBytes.{meaning_agrees}
 use Rattle.varisat_proof.specs.declared.proof.format.Encoding.{Encoding}
 use Rattle.varisat_proof.specs.declared.proof.format.Encoding.TheVariants.{Text, Binary}
@@ -12,9 +12,9 @@ use Rattle.varisat_proof.specs.declared.checker.token.Symbol.{Symbol}
 use Rattle.varisat_proof.specs.declared.checker.token.Symbol.TheVariants.{Mark, Number, Cut, Bad}
 use Rattle.varisat_proof.specs.declared.checker.token.Event.TheVariants.{More}
 use Rattle.varisat_proof.specs.declared.checker.token.Part.{Part}
-use Rattle.varisat_proof.specs.Lines.{letter_kind}
-use Rattle.varisat_proof.specs.Grammar.{is_kind, meant, text_symbol, value_of, is_none, binary_symbol, text_token, text_tokens, cut_token, ends_number, binary_tokens, tokens, end_of}
-use Rattle.varisat_proof.specs.Machine.{ParserState, Parsed, line_at, event, moved, put, at_end, fault_offset, read, between, no_part, after_text, part_symbol, scale, grown_value, after_binary, number_symbol, ReaderState, ended_token, parsed_from, parsed}
+use Rattle.varisat_proof.specs.promises.Lines.{letter_kind}
+use Rattle.varisat_proof.specs.promises.Grammar.{is_kind, meant, text_symbol, value_of, is_none, binary_symbol, text_token, text_tokens, cut_token, ends_number, binary_tokens, tokens, end_of}
+use Rattle.varisat_proof.specs.inside.Machine.{ParserState, Parsed, line_at, event, moved, put, at_end, fault_offset, read, between, no_part, after_text, part_symbol, scale, grown_value, after_binary, number_symbol, ReaderState, ended_token, parsed_from, parsed}
 
 -- 1. Tokens.
 pub part_from : Part → List ℕ → Part

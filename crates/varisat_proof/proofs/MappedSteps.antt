@@ -1,9 +1,9 @@
 -- Literals whose variables are renamed one by one.
 use Rattle.std.proofs.Common.{◌≡◌, ℕ, ◌+◌, ◌%◌, ◌<◌, ◌≤◌, Bool, true, false, IsTrue, ◌↔◌, nat_eq, rules, List, [], ◌∷◌, ◌++◌, length, take, get_or, refl, sym, ap, subst, ◌∙◌, take_all}
 use Rattle.std.proofs.lemmas.List.{take_more}
-use Rattle.varisat_theory.specs.Literals.{Literal, variable_of, literal_of}
-use Rattle.varisat_literals.specs.Numbers.{polarity_of}
-use Rattle.varisat_proof.specs.Mapping.{MapsLit, MapsLits}
+use Rattle.varisat_theory.specs.promises.Literals.{Literal, variable_of, literal_of}
+use Rattle.varisat_literals.specs.promises.Numbers.{polarity_of}
+use Rattle.varisat_proof.specs.inside.Mapping.{MapsLit, MapsLits}
 
 is_zero : (n : ℕ) → n ≡ 0 → nat_eq n 0 ≡ true
 is_zero n h = search (rules, h)

@@ -2,14 +2,14 @@
 -- after the other.
 use Rattle.std.proofs.Common.{◌≡◌, suc, true, List, [], ◌∷◌, ◌++◌, refl, sym, ap, ◌∙◌, append_assoc}
 use Rattle.std.proofs.lemmas.List.{append-nil}
-use Rattle.varisat_theory.specs.Literals.{Clause}
-use Rattle.varisat_theory.specs.Derivations.{Add, Delete}
-use Rattle.varisat_theory.specs.Journals.{Entry, Accepts, Writes, Assumes, Fails, Retires, Leads, NoneRetires, accepted_of}
-use Rattle.varisat_formula.specs.Formulas.{with_one_more}
+use Rattle.varisat_theory.specs.promises.Literals.{Clause}
+use Rattle.varisat_theory.specs.promises.Derivations.{Add, Delete}
+use Rattle.varisat_theory.specs.promises.Journals.{Entry, Accepts, Writes, Assumes, Fails, Retires, Leads, NoneRetires, accepted_of}
+use Rattle.varisat_formula.specs.promises.Formulas.{with_one_more}
 use Rattle.varisat_proof.specs.declared.proof.format.Encoding.TheVariants.{Text}
-use Rattle.varisat_proof.specs.Assumed.{assumed_behind, CoresAreAssumed, cores_of}
-use Rattle.varisat_proof.specs.Marked.{MarkedLog, state_of, TakesAll}
-use Rattle.varisat_proof.specs.Logging.{logged_lines}
+use Rattle.varisat_proof.specs.promises.Assumed.{assumed_behind, CoresAreAssumed, cores_of}
+use Rattle.varisat_proof.specs.promises.Marked.{MarkedLog, state_of, TakesAll}
+use Rattle.varisat_proof.specs.promises.Logging.{logged_lines}
 use Rattle.std.specs.Prelude.{length}
 
 -- what the lines lead to

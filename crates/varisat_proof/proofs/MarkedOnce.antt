@@ -1,12 +1,12 @@
 -- A check of lines has one result, and they told one thing.
 use Rattle.std.proofs.Common.{◌≡◌, ℕ, suc, List, [], ◌∷◌, ◌++◌, length, refl, sym, ap, subst, ◌∙◌, ⊎_elim, ◌⊎◌, inl, inr, Option, Some, None, Result, Ok, Err}
 use Rattle.std.proofs.lemmas.List.{append-nil}
-use Rattle.varisat_theory.specs.Membership.{◌⊆◌}
-use Rattle.varisat_theory.specs.Literals.{Clause}
-use Rattle.varisat_theory.specs.Propagation.{Conflicts}
-use Rattle.varisat_theory.specs.Held.{SameClauses}
-use Rattle.varisat_theory.proofs.Held.{same_set-self, same_set-through, takes_from, same_clauses_find, same_clauses-self, same_clauses-back, conflicts_same, follows_same, same_add, takes_out_unique}
-use Rattle.varisat_formula.specs.Formulas.{with_one_more}
+use Rattle.varisat_theory.specs.promises.Membership.{◌⊆◌}
+use Rattle.varisat_theory.specs.promises.Literals.{Clause}
+use Rattle.varisat_theory.specs.promises.Propagation.{Conflicts}
+use Rattle.varisat_theory.specs.promises.Held.{SameClauses}
+use Rattle.varisat_theory.proofs.clauses.Held.{same_set-self, same_set-through, takes_from, same_clauses_find, same_clauses-self, same_clauses-back, conflicts_same, follows_same, same_add, takes_out_unique}
+use Rattle.varisat_formula.specs.promises.Formulas.{with_one_more}
 use Rattle.varisat_proof.specs.declared.proof.format.Encoding.{Encoding}
 use Rattle.varisat_proof.specs.declared.proof.format.LineKind.{LineKind}
 use Rattle.varisat_proof.specs.declared.proof.format.LineKind.TheVariants.{Adds, Deletes, Accepts, Assumes, Fails}
@@ -16,9 +16,9 @@ use Rattle.varisat_proof.specs.declared.checker.error.CheckVerdict.{CheckVerdict
 use Rattle.varisat_proof.specs.declared.checker.error.CheckVerdict.TheVariants.{Refutation, Derivation}
 use Rattle.varisat_proof.specs.declared.checker.error.CheckerError.{CheckerError}
 use Rattle.varisat_proof.specs.declared.checker.error.CheckerError.TheVariants.{CheckFailed, NoSuchClause, CoreNotAssumed, Parse}
-use Rattle.varisat_proof.specs.Lines.{ProofLine, step_number}
-use Rattle.varisat_proof.specs.Machine.{Parsed, parsed}
-use Rattle.varisat_proof.specs.Marked.{MarkedLog, ProofState, Rules, strict_rules, TakesKind, IsWrongKind, GoesBy, Goes, TakesAll, GoesThrough, StopsBeforeBy, StopsCheckBy, StopsCheck, CheckOnceBy, CheckOnce, CheckGoesThrough}
+use Rattle.varisat_proof.specs.promises.Lines.{ProofLine, step_number}
+use Rattle.varisat_proof.specs.inside.Machine.{Parsed, parsed}
+use Rattle.varisat_proof.specs.promises.Marked.{MarkedLog, ProofState, Rules, strict_rules, TakesKind, IsWrongKind, GoesBy, Goes, TakesAll, GoesThrough, StopsBeforeBy, StopsCheckBy, StopsCheck, CheckOnceBy, CheckOnce, CheckGoesThrough}
 use Rattle.varisat_proof.proofs.CheckedLines.{error_of}
 use Rattle.varisat_proof.proofs.TokenLines.{only_parsed}
 

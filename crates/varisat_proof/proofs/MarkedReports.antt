@@ -1,19 +1,19 @@
 -- What a report says is true.
 use Rattle.std.proofs.Common.{◌≡◌, true, ℕ, zero, suc, ◌+◌, ◌≤◌, List, [], ◌∷◌, ◌++◌, length, take, refl, sym, ap, subst, ⊎_elim, inl, Ok, arith, take_all}
-use Rattle.varisat_theory.specs.Membership.{◌∈◌}
-use Rattle.varisat_theory.specs.Literals.{Literal, Clause, Assignment, SatisfiesAll, IsSatisfiable, IsSatisfiableWith}
-use Rattle.varisat_theory.proofs.Members.{∈-append_cases, ∈-append_left, ∈-append_right}
-use Rattle.varisat_theory.proofs.Assigned.{satisfies_more}
-use Rattle.varisat_theory.proofs.Sound.{conflicts_sound, follows_entails, takes_less}
+use Rattle.varisat_theory.specs.promises.Membership.{◌∈◌}
+use Rattle.varisat_theory.specs.promises.Literals.{Literal, Clause, Assignment, SatisfiesAll, IsSatisfiable, IsSatisfiableWith}
+use Rattle.varisat_theory.proofs.clauses.Members.{∈-append_cases, ∈-append_left, ∈-append_right}
+use Rattle.varisat_theory.proofs.clauses.Assigned.{satisfies_more}
+use Rattle.varisat_theory.proofs.clauses.Sound.{conflicts_sound, follows_entails, takes_less}
 use Rattle.varisat_proof.specs.declared.proof.format.LineKind.{LineKind}
 use Rattle.varisat_proof.specs.declared.proof.format.LineKind.TheVariants.{Adds, Deletes, Accepts, Assumes, Fails}
 use Rattle.varisat_proof.specs.declared.proof.format.Encoding.TheVariants.{Text}
 use Rattle.varisat_proof.specs.declared.checker.error.CheckVerdict.{CheckVerdict}
 use Rattle.varisat_proof.specs.declared.checker.error.CheckVerdict.TheVariants.{Refutation}
 use Rattle.varisat_proof.specs.declared.checker.marked.MarkedReport.{MarkedReport}
-use Rattle.varisat_proof.specs.Lines.{ProofLine}
-use Rattle.varisat_proof.specs.Marked.{MarkedLog, ProofState, nothing_logged, TakesKind, Goes, StopsCheck, IsCheckOf, state_of}
-use Rattle.varisat_proof.specs.Calls.{core_lists, IsMarkedResult, IsTrueReport}
+use Rattle.varisat_proof.specs.promises.Lines.{ProofLine}
+use Rattle.varisat_proof.specs.promises.Marked.{MarkedLog, ProofState, nothing_logged, TakesKind, Goes, StopsCheck, IsCheckOf, state_of}
+use Rattle.varisat_proof.specs.promises.Calls.{core_lists, IsMarkedResult, IsTrueReport}
 
 -- what satisfies all of both lists satisfies each
 satisfies_left : (a : Assignment) (P Q : List Clause) → SatisfiesAll a (P ++ Q) → SatisfiesAll a P

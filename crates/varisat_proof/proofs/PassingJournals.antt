@@ -1,27 +1,27 @@
 -- A check of the marked proof of a right journal.
 use Rattle.std.proofs.Common.{◌≡◌, true, List, [], ◌∷◌, ◌++◌, map, Result, Ok, Err, length, refl, sym, ap, ◌∙◌, subst, append_assoc}
 use Rattle.std.proofs.lemmas.List.{append-nil, map-append}
-use Rattle.varisat_theory.specs.Literals.{Clause}
-use Rattle.varisat_theory.specs.Propagation.{Conflicts}
-use Rattle.varisat_theory.specs.Derivations.{Add, Delete}
-use Rattle.varisat_theory.specs.Journals.{Entry, Accepts, Writes, Assumes, Fails, Retires, Leads, NoneRetires, accepted_of}
-use Rattle.varisat_theory.proofs.Held.{conflicts_same}
-use Rattle.varisat_theory.proofs.Journals.{leads_unique}
-use Rattle.varisat_formula.specs.Formulas.{with_one_more}
+use Rattle.varisat_theory.specs.promises.Literals.{Clause}
+use Rattle.varisat_theory.specs.promises.Propagation.{Conflicts}
+use Rattle.varisat_theory.specs.promises.Derivations.{Add, Delete}
+use Rattle.varisat_theory.specs.promises.Journals.{Entry, Accepts, Writes, Assumes, Fails, Retires, Leads, NoneRetires, accepted_of}
+use Rattle.varisat_theory.proofs.clauses.Held.{conflicts_same}
+use Rattle.varisat_theory.proofs.journals.Journals.{leads_unique}
+use Rattle.varisat_formula.specs.promises.Formulas.{with_one_more}
 use Rattle.varisat_proof.specs.declared.proof.format.Encoding.TheVariants.{Text}
 use Rattle.varisat_proof.specs.declared.proof.format.LineKind.{LineKind}
 use Rattle.varisat_proof.specs.declared.proof.format.LineKind.TheVariants as kind
 use Rattle.varisat_proof.specs.declared.checker.error.CheckVerdict.{CheckVerdict}
 use Rattle.varisat_proof.specs.declared.checker.error.CheckVerdict.TheVariants.{Refutation, Derivation}
 use Rattle.varisat_proof.specs.declared.checker.error.CheckerError.{CheckerError}
-use Rattle.varisat_proof.specs.Assumed.{cores_of}
-use Rattle.varisat_proof.specs.Lines.{ProofLine, line_of_kind, plain_line, has_kind, HasKinds}
-use Rattle.varisat_proof.specs.Marked.{MarkedLog, nothing_logged, ProofState, state_of, Goes, GoesThrough}
+use Rattle.varisat_proof.specs.promises.Assumed.{cores_of}
+use Rattle.varisat_proof.specs.promises.Lines.{ProofLine, line_of_kind, plain_line, has_kind, HasKinds}
+use Rattle.varisat_proof.specs.promises.Marked.{MarkedLog, nothing_logged, ProofState, state_of, Goes, GoesThrough}
 use Rattle.varisat_proof.specs.declared.proof.format.ProofFormat.TheVariants.{Marked}
-use Rattle.varisat_proof.specs.Grammar.{Accepted}
-use Rattle.varisat_proof.specs.Logging.{logged_lines, logged_bytes}
-use Rattle.varisat_proof.specs.Written.{AreInRange}
-use Rattle.varisat_proof.specs.Passing.{LogsConflict, LogsAllOf, PassesWith, JournalsPass}
+use Rattle.varisat_proof.specs.promises.Grammar.{Accepted}
+use Rattle.varisat_proof.specs.promises.Logging.{logged_lines, logged_bytes}
+use Rattle.varisat_proof.specs.promises.Written.{AreInRange}
+use Rattle.varisat_proof.specs.promises.Passing.{LogsConflict, LogsAllOf, PassesWith, JournalsPass}
 use Rattle.varisat_proof.proofs.MarkedJournals.{journal_taken, one_longer}
 use Rattle.varisat_proof.proofs.MarkedOnce.{check_through}
 use Rattle.varisat_proof.proofs.WrittenLines.{written_accepted}

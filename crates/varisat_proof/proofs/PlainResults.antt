@@ -1,13 +1,13 @@
 -- A check of lines that add and delete, in the words of derivations.
 use Rattle.std.proofs.Common.{◌≡◌, ℕ, suc, List, [], ◌∷◌, ◌++◌, length, true, refl, sym, ap, subst, ◌∙◌, append_assoc, append-nil, ⊎_elim, inl, inr, Option, Some, None, Result, Ok, Err}
-use Rattle.varisat_theory.specs.Literals.{Clause, IsSatisfiable}
-use Rattle.varisat_theory.specs.Propagation.{Conflicts}
-use Rattle.varisat_theory.specs.Derivations.{Line, Add, Delete, Derives, Refutes}
-use Rattle.varisat_plain.specs.Checking.{IsVerdict, IsWrong, IsFirstWrong}
+use Rattle.varisat_theory.specs.promises.Literals.{Clause, IsSatisfiable}
+use Rattle.varisat_theory.specs.promises.Propagation.{Conflicts}
+use Rattle.varisat_theory.specs.promises.Derivations.{Line, Add, Delete, Derives, Refutes}
+use Rattle.varisat_plain.specs.promises.Checking.{IsVerdict, IsWrong, IsFirstWrong}
 use Rattle.varisat_plain.specs.declared.checker.PlainVerdict.{PlainVerdict}
 use Rattle.varisat_plain.specs.declared.checker.PlainVerdict.TheVariants as plain
 use Rattle.varisat_plain.proofs.Checking.{Checked, checked_start, checked_more, refutation_found, derivation_found, wrong_found}
-use Rattle.varisat_theory.proofs.Lines.{refutes_sound}
+use Rattle.varisat_theory.proofs.clauses.Lines.{refutes_sound}
 use Rattle.varisat_proof.specs.declared.proof.format.ProofFormat.{ProofFormat}
 use Rattle.varisat_proof.specs.declared.proof.format.ProofFormat.TheVariants.{Drat, BinaryDrat, Marked}
 use Rattle.varisat_proof.specs.declared.proof.format.Encoding.{Encoding}
@@ -18,10 +18,10 @@ use Rattle.varisat_proof.specs.declared.checker.error.CheckVerdict.{CheckVerdict
 use Rattle.varisat_proof.specs.declared.checker.error.CheckVerdict.TheVariants.{Refutation, Derivation}
 use Rattle.varisat_proof.specs.declared.checker.error.CheckerError.{CheckerError}
 use Rattle.varisat_proof.specs.declared.checker.error.CheckerError.TheVariants.{CheckFailed, NoSuchClause, CoreNotAssumed, Parse}
-use Rattle.varisat_proof.specs.Lines.{ProofLine, line_of_kind, plain_line, plain_lines, plain_encoding, has_kind, HasKinds, step_number}
-use Rattle.varisat_proof.specs.Means.{BytesMean}
-use Rattle.varisat_proof.specs.Marked.{MarkedLog, ProofState, Takes, Goes, StopsBefore, StopsCheck, IsCheckOf, state_of}
-use Rattle.varisat_proof.specs.Results.{result_of, StopsAt, IsResult}
+use Rattle.varisat_proof.specs.promises.Lines.{ProofLine, line_of_kind, plain_line, plain_lines, plain_encoding, has_kind, HasKinds, step_number}
+use Rattle.varisat_proof.specs.promises.Means.{BytesMean}
+use Rattle.varisat_proof.specs.promises.Marked.{MarkedLog, ProofState, Takes, Goes, StopsBefore, StopsCheck, IsCheckOf, state_of}
+use Rattle.varisat_proof.specs.promises.Results.{result_of, StopsAt, IsResult}
 
 -- 1. Lines.
 plain_kind : (format : ProofFormat) (kind : LineKind) (c : Clause) → has_kind (plain_encoding format) kind ≡ true → (l : Line)

@@ -2,10 +2,10 @@
 use Rattle.std.specs.Result.{IsErr, OnOk, OnErr}
 use Rattle.std.proofs.Common.{◌≡◌, ℕ, ◌+◌, List, ◌++◌, take, length, Result, Ok, Err, inl, inr, sym, ap, ◌∙◌}
 use Rattle.std.proofs.Math.Seq.{take-length}
-use Rattle.varisat_formula.specs.Streams.{Taken}
-use Rattle.varisat_formula.specs.Written.{Puts}
+use Rattle.varisat_formula.specs.promises.Streams.{Taken}
+use Rattle.varisat_formula.specs.promises.Written.{Puts}
 use Rattle.varisat_formula.proofs.TargetParts.{begun_part}
-use Rattle.varisat_proof.specs.Verified.{EndsPrinting, fault_status}
+use Rattle.varisat_proof.specs.promises.Verified.{EndsPrinting, fault_status}
 
 -- one call took the text, or failed
 pub put-once : {E : Type 0} (old new : Taken) (r : Result (Unit {0}) E) (text : List ℕ) → OnOk r (new.bytes ≡ old.bytes ++ text) →

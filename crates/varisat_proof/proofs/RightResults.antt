@@ -1,8 +1,8 @@
 -- The result of a check is the one right one.
 use Rattle.std.proofs.Common.{◌≡◌, ℕ, List, [], ◌∷◌, inl, inr, refl, sym, ap, subst, ◌∙◌, Option, None, Result}
-use Rattle.varisat_theory.specs.Literals.{Clause}
-use Rattle.varisat_theory.specs.Derivations.{Line, Add, Delete, IsDerivation}
-use Rattle.varisat_plain.specs.Checking.{IsVerdict}
+use Rattle.varisat_theory.specs.promises.Literals.{Clause}
+use Rattle.varisat_theory.specs.promises.Derivations.{Line, Add, Delete, IsDerivation}
+use Rattle.varisat_plain.specs.promises.Checking.{IsVerdict}
 use Rattle.varisat_plain.specs.declared.checker.PlainVerdict.{PlainVerdict}
 use Rattle.varisat_plain.specs.declared.checker.PlainVerdict.TheVariants as plain
 use Rattle.varisat_plain.proofs.Checking.{exact, wrong_no_derivation}
@@ -10,9 +10,9 @@ use Rattle.varisat_proof.specs.declared.checker.error.CheckVerdict.{CheckVerdict
 use Rattle.varisat_proof.specs.declared.checker.error.CheckerError.{CheckerError}
 use Rattle.varisat_proof.specs.declared.proof.format.Encoding.{Encoding}
 use Rattle.varisat_proof.specs.declared.proof.format.ProofFormat.{ProofFormat}
-use Rattle.varisat_proof.specs.Lines.{ProofLine, plain_line, plain_lines, plain_encoding, HasKinds}
-use Rattle.varisat_proof.specs.Machine.{Parsed, parsed}
-use Rattle.varisat_proof.specs.Results.{result_of, IsAccepted, DerivationIsAccepted, ResultOnce}
+use Rattle.varisat_proof.specs.promises.Lines.{ProofLine, plain_line, plain_lines, plain_encoding, HasKinds}
+use Rattle.varisat_proof.specs.inside.Machine.{Parsed, parsed}
+use Rattle.varisat_proof.specs.promises.Results.{result_of, IsAccepted, DerivationIsAccepted, ResultOnce}
 use Rattle.varisat_proof.proofs.TokenLines.{only_parsed}
 use Rattle.varisat_proof.proofs.WrittenLines.{written_accepted}
 

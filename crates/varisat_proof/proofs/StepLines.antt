@@ -1,10 +1,10 @@
 -- The lines of a solver's steps, as entries and as lines of a proof.
 use Rattle.std.proofs.Common.{◌≡◌, true, false, List, [], ◌∷◌, ◌++◌, refl, sym, ap, subst, Result}
-use Rattle.varisat_theory.specs.Literals.{Literal}
-use Rattle.varisat_theory.specs.StepLaws.{unit_lines}
-use Rattle.varisat_theory.specs.Derivations.{Add}
-use Rattle.varisat_formula.specs.Streams.{Taken}
-use Rattle.varisat_theory.specs.Journals.{written}
+use Rattle.varisat_theory.specs.promises.Literals.{Literal}
+use Rattle.varisat_theory.specs.inside.StepLaws.{unit_lines}
+use Rattle.varisat_theory.specs.promises.Derivations.{Add}
+use Rattle.varisat_formula.specs.promises.Streams.{Taken}
+use Rattle.varisat_theory.specs.promises.Journals.{written}
 use Rattle.varisat_trace.specs.Traces.{entries_of}
 use Rattle.varisat_trace.specs.declared.step.ProofStep.{ProofStep}
 use Rattle.varisat_trace.specs.declared.step.ProofStep.TheVariants.{AtClause, UnitClauses, DeleteClause, DeleteVar, FailedAssumptions}
@@ -12,9 +12,9 @@ use Rattle.varisat_proof.specs.declared.proof.format.Encoding.{Encoding}
 use Rattle.varisat_proof.specs.declared.proof.format.Encoding.TheVariants.{Text, Binary}
 use Rattle.varisat_proof.specs.declared.proof.format.LineKind.TheVariants as kinds
 use Rattle.varisat_proof.specs.declared.proof.writer.WriteError.{WriteError}
-use Rattle.varisat_proof.specs.Lines.{ProofLine, line_of_kind, has_kind, plain_line, plain_lines}
-use Rattle.varisat_proof.specs.Steps.{step_lines, PutsLines}
-use Rattle.varisat_proof.specs.Logging.{marked_line, logged_lines}
+use Rattle.varisat_proof.specs.promises.Lines.{ProofLine, line_of_kind, has_kind, plain_line, plain_lines}
+use Rattle.varisat_proof.specs.promises.Steps.{step_lines, PutsLines}
+use Rattle.varisat_proof.specs.promises.Logging.{marked_line, logged_lines}
 
 units-logged : (e : Encoding) (ls : List Literal) → plain_lines (unit_lines ls) ≡ logged_lines e (written (unit_lines ls))
 units-logged e [] = refl

@@ -1,6 +1,6 @@
 -- Units that say the lines are read as them.
 use Rattle.std.proofs.Common.{◌≡◌, ℕ, ◌+◌, List, [], ◌∷◌, ◌++◌, Bool, true, false, not, ◌==◌, if◌then◌else◌, flat_map, refl, sym, ap, subst, ◌∙◌, append_assoc, append-nil, inl, inr, Option, Some, None, rules}
-use Rattle.varisat_theory.specs.Literals.{Clause}
+use Rattle.varisat_theory.specs.promises.Literals.{Clause}
 use Rattle.varisat_proof.specs.declared.proof.format.Encoding.{Encoding}
 use Rattle.varisat_proof.specs.declared.proof.format.LineKind.{LineKind}
 use Rattle.varisat_proof.specs.declared.proof.format.LineKind.TheVariants.{Adds, Deletes, Accepts, Assumes, Fails}
@@ -8,10 +8,10 @@ use Rattle.varisat_proof.specs.declared.proof.format.Encoding.TheVariants.{Text,
 use Rattle.varisat_proof.specs.declared.checker.token.Symbol.{Symbol}
 use Rattle.varisat_proof.specs.declared.checker.token.Symbol.TheVariants.{Mark, Number, Cut, Bad}
 use Rattle.varisat_proof.specs.declared.checker.token.Event.TheVariants.{Fault}
-use Rattle.varisat_proof.specs.Lines.{ProofLine, line_of_kind, has_kind, HasKinds, letter, letter_kind}
-use Rattle.varisat_proof.specs.Grammar.{Token, symbols, literal_symbols, begun_symbols, line_symbols, is_some, is_kind, tag_kind, fits, IsBegunLine, IsCutOff, WrongToken, EndsInside, tokens, end_of}
-use Rattle.varisat_proof.specs.Machine.{ParserState, Parsed, line_at, number_event, begin_event, begin_place, event, begin_line, after_number, moved, put, fault_offset, read, between, parsed}
-use Rattle.varisat_proof.specs.Means.{Means, BytesMean}
+use Rattle.varisat_proof.specs.promises.Lines.{ProofLine, line_of_kind, has_kind, HasKinds, letter, letter_kind}
+use Rattle.varisat_proof.specs.promises.Grammar.{Token, symbols, literal_symbols, begun_symbols, line_symbols, is_some, is_kind, tag_kind, fits, IsBegunLine, IsCutOff, WrongToken, EndsInside, tokens, end_of}
+use Rattle.varisat_proof.specs.inside.Machine.{ParserState, Parsed, line_at, number_event, begin_event, begin_place, event, begin_line, after_number, moved, put, fault_offset, read, between, parsed}
+use Rattle.varisat_proof.specs.promises.Means.{Means, BytesMean}
 use Rattle.varisat_proof.proofs.TokenSymbols.{code_event, code_place, at_place, Logs, sound_parsed}
 use Rattle.varisat_proof.proofs.MachineTokens.{parsed_is}
 

@@ -1,6 +1,6 @@
 -- Lines, a symbol at a time: what the machine parses stands in the tokens.
 use Rattle.std.proofs.Common.{◌≡◌, ℕ, zero, suc, ◌+◌, ◌-◌, List, [], ◌∷◌, ◌++◌, Bool, true, false, ◌==◌, if◌then◌else◌, flat_map, refl, sym, ap, subst, ◌∙◌, append_assoc, append-nil, ◌⊎◌, inl, inr, ⊎_elim, Option, Some, None, arith, rules}
-use Rattle.varisat_theory.specs.Literals.{Clause}
+use Rattle.varisat_theory.specs.promises.Literals.{Clause}
 use Rattle.varisat_proof.specs.declared.proof.format.Encoding.{Encoding}
 use Rattle.varisat_proof.specs.declared.proof.format.LineKind.{LineKind}
 use Rattle.varisat_proof.specs.declared.proof.format.LineKind.TheVariants.{Adds, Deletes, Accepts, Assumes, Fails}
@@ -9,9 +9,9 @@ use Rattle.varisat_proof.specs.declared.checker.token.Symbol.{Symbol}
 use Rattle.varisat_proof.specs.declared.checker.token.Symbol.TheVariants.{Mark, Number, Cut, Bad}
 use Rattle.varisat_proof.specs.declared.checker.token.Event.{Event}
 use Rattle.varisat_proof.specs.declared.checker.token.Event.TheVariants.{More, Ended, Fault}
-use Rattle.varisat_proof.specs.Grammar.{Token, symbols, literal_symbols, mark_symbols, begun_symbols, line_symbols, is_some, is_kind, tag_kind, fits, IsBegunLine, IsCutOff, WrongToken, EndsInside}
-use Rattle.varisat_proof.specs.Lines.{ProofLine, line_of_kind, has_kind, HasKinds, letter_kind}
-use Rattle.varisat_proof.specs.Machine.{ParserState, Parsed, line_at, number_event, begin_event, begin_place, event, begin_line, after_number, moved, put, at_end, fault_offset, read, between}
+use Rattle.varisat_proof.specs.promises.Grammar.{Token, symbols, literal_symbols, mark_symbols, begun_symbols, line_symbols, is_some, is_kind, tag_kind, fits, IsBegunLine, IsCutOff, WrongToken, EndsInside}
+use Rattle.varisat_proof.specs.promises.Lines.{ProofLine, line_of_kind, has_kind, HasKinds, letter_kind}
+use Rattle.varisat_proof.specs.inside.Machine.{ParserState, Parsed, line_at, number_event, begin_event, begin_place, event, begin_line, after_number, moved, put, at_end, fault_offset, read, between}
 
 -- 1. What a place has.
 abbrev pub place_symbols : Encoding → ParserState → List Symbol

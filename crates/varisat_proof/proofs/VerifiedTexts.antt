@@ -1,11 +1,11 @@
 -- A text whose clauses a proof is checked against.
 use Rattle.std.proofs.Common.{◌≡◌, ℕ, List, [], Bool, true, false, Option, Some, None, Result, Ok, Err, refl, sym, ap, subst, ◌∙◌, arith, ◌∷◌, ◌++◌, inl, inr, ⊎_elim}
-use Rattle.varisat_theory.specs.Membership.{◌∈◌, SameSet}
-use Rattle.varisat_theory.specs.Literals.{Clause, IsSatisfiable}
-use Rattle.varisat_theory.proofs.Members.{∈-append_right, ∈-append_cases}
-use Rattle.varisat_formula.specs.Dimacs.{Reading}
-use Rattle.varisat_formula.specs.Streams.{Input, Taken}
-use Rattle.varisat_formula.specs.Parsed.{GivesReading}
+use Rattle.varisat_theory.specs.promises.Membership.{◌∈◌, SameSet}
+use Rattle.varisat_theory.specs.promises.Literals.{Clause, IsSatisfiable}
+use Rattle.varisat_theory.proofs.clauses.Members.{∈-append_right, ∈-append_cases}
+use Rattle.varisat_formula.specs.promises.Dimacs.{Reading}
+use Rattle.varisat_formula.specs.promises.Streams.{Input, Taken}
+use Rattle.varisat_formula.specs.promises.Parsed.{GivesReading}
 use Rattle.varisat_formula.proofs.ParsedSources.{gives_whole}
 use Rattle.varisat_proof.specs.declared.proof.format.ProofFormat.{ProofFormat}
 use Rattle.varisat_proof.specs.declared.proof.format.ProofFormat.TheVariants.{Drat, BinaryDrat, Marked}
@@ -15,13 +15,13 @@ use Rattle.varisat_proof.specs.declared.checker.error.CheckVerdict.{CheckVerdict
 use Rattle.varisat_proof.specs.declared.checker.error.CheckVerdict.TheVariants.{Refutation, Derivation}
 use Rattle.varisat_proof.specs.declared.checker.error.CheckerError.{CheckerError}
 use Rattle.varisat_proof.specs.declared.checker.error.CheckerError.TheVariants.{CheckFailed, NoSuchClause, CoreNotAssumed, Parse, Io, OutOfMemory, Dimacs, Spent}
-use Rattle.varisat_proof.specs.Calls.{CheckerState, Checks, ChecksBytes, ChecksMarked, IsMarkedResult, core_lists, AddsText, Added, ClauseRanOut, Unread, AtEnd, InText, SourceFailed, RanOut, is_of_bytes, is_io}
-use Rattle.varisat_proof.specs.Marked.{MarkedLog, nothing_logged, IsCheckOf, state_of}
-use Rattle.varisat_proof.specs.Results.{IsResult, result_of}
+use Rattle.varisat_proof.specs.promises.Calls.{CheckerState, Checks, ChecksBytes, ChecksMarked, IsMarkedResult, core_lists, AddsText, Added, ClauseRanOut, Unread, AtEnd, InText, SourceFailed, RanOut, is_of_bytes, is_io}
+use Rattle.varisat_proof.specs.promises.Marked.{MarkedLog, nothing_logged, IsCheckOf, state_of}
+use Rattle.varisat_proof.specs.promises.Results.{IsResult, result_of}
 use Rattle.varisat_plain.specs.declared.checker.PlainVerdict.{PlainVerdict}
 use Rattle.varisat_plain.specs.declared.checker.PlainVerdict.TheVariants as plain
-use Rattle.varisat_proof.specs.Verified.{FailsToRead, FailsCheck, AsRead, AsChecked, AreGiven, IsMarkedCheck, IsMarkedVerdict, VerifiesMarked, VerifiesBy, EndsPrinting, GivesClauses, GivesUnsatisfiable, Sources, Verifies, VerifiesDrat, verdict_of, verdict_status}
-use Rattle.varisat_proof.specs.DratChecks.{ChecksDrat, IsDratResult}
+use Rattle.varisat_proof.specs.promises.Verified.{FailsToRead, FailsCheck, AsRead, AsChecked, AreGiven, IsMarkedCheck, IsMarkedVerdict, VerifiesMarked, VerifiesBy, EndsPrinting, GivesClauses, GivesUnsatisfiable, Sources, Verifies, VerifiesDrat, verdict_of, verdict_status}
+use Rattle.varisat_proof.specs.promises.DratChecks.{ChecksDrat, IsDratResult}
 use Rattle.varisat_proof.proofs.CheckResults.{checks_sound}
 use Rattle.varisat_proof.proofs.DratCheck.{drat_checks_sound}
 use Rattle.varisat_proof.proofs.CheckedSources.{checks_ok, checks_err, checks_right}

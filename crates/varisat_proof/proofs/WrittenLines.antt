@@ -1,11 +1,11 @@
 -- What is written for lines is accepted for them.
 use Rattle.std.proofs.Common.{Some, None, ◌≡◌, ℕ, zero, suc, ◌+◌, ◌*◌, ◌/◌, ◌%◌, ◌^◌, ◌<◌, ◌≤◌, List, [], ◌∷◌, ◌++◌, length, Bool, true, false, ◌&&◌, ◌||◌, ◌==◌, nat_lt, nat_le, if◌then◌else◌, flat_map, refl, sym, ap, subst, ◌∙◌, append_assoc, append-nil, ◌⊎◌, inl, inr, arith, rules}
-use Rattle.varisat_theory.specs.Membership.{◌∈◌}
-use Rattle.varisat_theory.specs.Literals.{Literal, Clause}
+use Rattle.varisat_theory.specs.promises.Membership.{◌∈◌}
+use Rattle.varisat_theory.specs.promises.Literals.{Literal, Clause}
 use Rattle.varisat_formula.specs.declared.dimacs.token.Meaning.TheVariants as meant_as
-use Rattle.varisat_formula.specs.Dimacs.{is_blank, meaning, next}
-use Rattle.varisat_literals.specs.Numbers.{literal_text, variable_limit}
-use Rattle.varisat_formula.specs.Written.{spaced_literals}
+use Rattle.varisat_formula.specs.promises.Dimacs.{is_blank, meaning, next}
+use Rattle.varisat_literals.specs.promises.Numbers.{literal_text, variable_limit}
+use Rattle.varisat_formula.specs.promises.Written.{spaced_literals}
 use Rattle.varisat_formula.proofs.DecimalDigits.{literal_text_is}
 use Rattle.varisat_formula.proofs.WrittenTexts.{Solid, Spells, literal_case}
 use Rattle.varisat_proof.specs.declared.proof.format.Encoding.{Encoding}
@@ -13,10 +13,10 @@ use Rattle.varisat_proof.specs.declared.proof.format.Encoding.TheVariants.{Text,
 use Rattle.varisat_proof.specs.declared.proof.format.LineKind.{LineKind}
 use Rattle.varisat_proof.specs.declared.proof.format.LineKind.TheVariants.{Adds, Deletes, Accepts, Assumes, Fails}
 use Rattle.varisat_proof.specs.declared.checker.token.Symbol.TheVariants.{Mark, Number, Bad}
-use Rattle.varisat_proof.specs.Written.{line_text, leb128_by, leb128, codes_bytes, line_bytes, Written, AreInRange}
-use Rattle.varisat_proof.specs.Lines.{ProofLine, line_of_kind, has_kind, HasKinds, letter, letter_kind}
-use Rattle.varisat_proof.specs.Grammar.{Token, is_kind, meant, text_symbol, value_of, is_none, binary_symbol, text_token, text_tokens, binary_tokens, symbols, literal_symbols, line_symbols, Accepted}
-use Rattle.varisat_proof.specs.Machine.{scale}
+use Rattle.varisat_proof.specs.promises.Written.{line_text, leb128_by, leb128, codes_bytes, line_bytes, Written, AreInRange}
+use Rattle.varisat_proof.specs.promises.Lines.{ProofLine, line_of_kind, has_kind, HasKinds, letter, letter_kind}
+use Rattle.varisat_proof.specs.promises.Grammar.{Token, is_kind, meant, text_symbol, value_of, is_none, binary_symbol, text_token, text_tokens, binary_tokens, symbols, literal_symbols, line_symbols, Accepted}
+use Rattle.varisat_proof.specs.inside.Machine.{scale}
 use Rattle.varisat_proof.proofs.MachineTokens.{value_more, length_more}
 
 -- 1. The bytes of a literal's text.

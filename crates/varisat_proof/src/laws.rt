@@ -1,10 +1,10 @@
 //! What the formats promise: each is the contract of a function with an empty body.
-ghost use Rattle.varisat_proof.specs.Laws.{WrittenIsAccepted, AcceptedOnce, AcceptedOrFaulty, NotBoth, FaultyOnce};
-ghost use Rattle.varisat_proof.specs.DratChecks.{drat_rules};
-ghost use Rattle.varisat_proof.specs.Lines.{encoding_of, plain_encoding};
-ghost use Rattle.varisat_proof.specs.Marked.{CheckOnce, CheckOnceBy, CheckGoesThrough};
-ghost use Rattle.varisat_proof.specs.Passing.{JournalsPass};
-ghost use Rattle.varisat_proof.specs.Results.{DerivationIsAccepted, ResultOnce};
+ghost use Rattle.varisat_proof.specs.inside.Laws.{WrittenIsAccepted, AcceptedOnce, AcceptedOrFaulty, NotBoth, FaultyOnce};
+ghost use Rattle.varisat_proof.specs.promises.DratChecks.{drat_rules};
+ghost use Rattle.varisat_proof.specs.promises.Lines.{encoding_of, plain_encoding};
+ghost use Rattle.varisat_proof.specs.promises.Marked.{CheckOnce, CheckOnceBy, CheckGoesThrough};
+ghost use Rattle.varisat_proof.specs.promises.Passing.{JournalsPass};
+ghost use Rattle.varisat_proof.specs.promises.Results.{DerivationIsAccepted, ResultOnce};
 
 use crate::proof::format::ProofFormat;
 

@@ -1,9 +1,9 @@
 //! The program's command that checks proofs, over readers and writers.
 ghost use Rattle.std.specs.Prelude.{◌≡◌, ◌⊎◌, ◌-◌, ◌^◌, ◌<◌, [], Bool, true, false, Some, Err, None, IfOk, IfErr, IsTrue, ◌↔◌};
-ghost use Rattle.varisat_formula.specs.Written.{Puts};
+ghost use Rattle.varisat_formula.specs.promises.Written.{Puts};
 ghost use Rattle.varisat_proof.specs.declared.checker.error.CheckVerdict.TheVariants.{Refutation};
-ghost use Rattle.varisat_proof.specs.Calls.{is_of_bytes};
-ghost use Rattle.varisat_proof.specs.Verified.{sources_of, Verifies, VerifiesMarked, VerifiesBy, FailsCheck, VerifiesDrat, AreGiven, EndsBy, EndsByDrat, PrintsVerdict, GivesUnsatisfiable, verdict_of, verdict_text, verdict_status, fault_status};
+ghost use Rattle.varisat_proof.specs.promises.Calls.{is_of_bytes};
+ghost use Rattle.varisat_proof.specs.promises.Verified.{sources_of, Verifies, VerifiesMarked, VerifiesBy, FailsCheck, VerifiesDrat, AreGiven, EndsBy, EndsByDrat, PrintsVerdict, GivesUnsatisfiable, verdict_of, verdict_text, verdict_status, fault_status};
 
 use crate::checker::{CheckVerdict, Checker, CheckerError, DratCounts, MarkedReport};
 use crate::proof::ProofFormat;

@@ -1,29 +1,4 @@
-pub mod ShortLists
-pub mod BinaryPropagated
-pub mod ClauseOrder
-mod CountedPairs
-pub mod DistinctPlaces
-pub mod EnqueueAssignment
-pub mod KeptPairs
-pub mod Leaving
-pub mod LiteralValues
-pub mod LongListed
-pub mod LongRearranged
-pub mod LongVisited
-pub mod PairAdded
-pub mod PropagateQueue
-pub mod PropagateSteps
-pub mod NextLiteral
-pub mod ReadElements
-pub mod SimplifiedClauses
-pub mod SimplifiedPairs
-pub mod SimplifiedView
-mod LiteralStates
-pub mod TrailExtend
-pub mod TrailValues
-pub mod ViewGrowth
-pub mod WatchKept
-pub mod WatchRebuilt
-pub mod WatchesHold
-pub mod WatchesOnce
-pub mod WellFormedChanges
+pub mod pairs
+pub mod views
+pub mod trails
+pub mod watching

@@ -1,7 +1,7 @@
 -- What a search does to its view.
 use Rattle.std.specs.Prelude.{◌≡◌, suc, ◌<◌, ◌≤◌, Bool, Option, Some, None, List, [], ◌∷◌, ◌++◌, length, slice_index_or, slice_set}
-use Rattle.varisat_theory.specs.Literals.{Literal, Clause, variable_of, opposite}
-use Rattle.varisat_literals.specs.Numbers.{polarity_of}
+use Rattle.varisat_theory.specs.promises.Literals.{Literal, Clause, variable_of, opposite}
+use Rattle.varisat_literals.specs.promises.Numbers.{polarity_of}
 use Rattle.varisat_prop.specs.declared.prop.graph.Reason.{Reason}
 use Rattle.varisat_prop.specs.declared.prop.graph.Reason.TheVariants as reason
 use Rattle.varisat_prop.specs.declared.prop.graph.ImplNode.{ImplNode}
@@ -10,8 +10,8 @@ use Rattle.varisat_prop.specs.declared.prop.graph.Conflict.{Conflict}
 use Rattle.varisat_prop.specs.declared.prop.graph.Conflict.TheVariants as conflict
 use Rattle.varisat_clause.specs.Stored.{StoredClause, IsClauseRef, literals_at}
 use Rattle.varisat_clause.specs.Stores.{Store}
-use Rattle.varisat_theory.specs.Membership.{◌∈◌}
-use Rattle.varisat_theory.specs.Propagation.{IsFalse}
+use Rattle.varisat_theory.specs.promises.Membership.{◌∈◌}
+use Rattle.varisat_theory.specs.promises.Propagation.{IsFalse}
 use Rattle.varisat_prop.specs.Parts.{Values, TrailParts}
 use Rattle.varisat_prop.specs.View.{View, view_of, implied_by}
 

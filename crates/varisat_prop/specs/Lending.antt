@@ -2,7 +2,7 @@
 use Rattle.std.specs.Prelude.{List, slice_set}
 use Rattle.std.specs.Borrow.{Lends, Fml, RattleType, MutBor}
 use Rattle.std.specs.declared.alloc.Allocator.{Ghosts}
-use Rattle.varisat_theory.specs.Literals.{Literal}
+use Rattle.varisat_theory.specs.promises.Literals.{Literal}
 use Rattle.varisat_prop.specs.contracts.binary.BinaryClauses.{the_row as binary_row}
 use Rattle.varisat_prop.specs.contracts.prop.watch_list.WatchList.{the_row as watch_list_row}
 use Rattle.varisat_prop.specs.contracts.short.ShortList.{the_row as short_row}

@@ -1,7 +1,7 @@
 -- Clauses of two literals, as what each literal implies by them.
 use Rattle.std.specs.Prelude.{◌≡◌, ℕ, ◌+◌, ◌-◌, ◌/◌, ◌^◌, min, List, [], ◌∷◌, ◌++◌, length, slice_set, slice_index_or, ◌⊎◌}
-use Rattle.varisat_theory.specs.Membership.{◌∈◌}
-use Rattle.varisat_theory.specs.Literals.{Literal, Clause, opposite}
+use Rattle.varisat_theory.specs.promises.Membership.{◌∈◌}
+use Rattle.varisat_theory.specs.promises.Literals.{Literal, Clause, opposite}
 
 -- one more literal that x implies
 abbrev pub with_implied : List (List Literal) → Literal → Literal → List (List Literal)

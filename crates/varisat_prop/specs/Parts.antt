@@ -1,8 +1,8 @@
 -- What contracts see of the parts.
 use Rattle.std.specs.Prelude.{◌≡◌, ℕ, Bool, true, false, Option, Some, None, List, [], length, take, option_map, slice_index, slice_index_or, slice_set}
 use Rattle.std.specs.Bool.{beq}
-use Rattle.varisat_theory.specs.Literals.{Literal, variable_of}
-use Rattle.varisat_literals.specs.Numbers.{polarity_of}
+use Rattle.varisat_theory.specs.promises.Literals.{Literal, variable_of}
+use Rattle.varisat_literals.specs.promises.Numbers.{polarity_of}
 use Rattle.varisat_prop.specs.declared.prop.lit_value.LitValue.{LitValue}
 use Rattle.varisat_prop.specs.declared.prop.lit_value.LitValue.TheVariants as lit_value
 

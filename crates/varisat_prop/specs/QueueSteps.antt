@@ -2,9 +2,9 @@
 use Rattle.std.specs.Prelude.{◌≡◌, ℕ, suc, ◌<◌, ◌*◌, List, length, Option, Bool, Result, IfOk}
 use Rattle.std.specs.Result.{MatchResult}
 use Rattle.std.specs.declared.alloc.AllocError.{AllocError}
-use Rattle.varisat_theory.specs.Membership.{◌∈◌}
-use Rattle.varisat_theory.specs.Literals.{Literal, opposite}
-use Rattle.varisat_theory.specs.Propagation.{IsComplete}
+use Rattle.varisat_theory.specs.promises.Membership.{◌∈◌}
+use Rattle.varisat_theory.specs.promises.Literals.{Literal, opposite}
+use Rattle.varisat_theory.specs.promises.Propagation.{IsComplete}
 use Rattle.varisat_clause.specs.Stored.{IsClauseRef, literals_at, with_literals}
 use Rattle.varisat_clause.specs.Stores.{Store, is_sound, IsSound}
 use Rattle.varisat_clause.specs.Collected.{live_clauses}

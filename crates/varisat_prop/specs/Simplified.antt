@@ -1,7 +1,7 @@
 -- What simplification leaves of clauses: what says nothing of variables that have a value.
 use Rattle.std.specs.Prelude.{Bool, is_none, Option, None, List, [], ◌∷◌, suc, if◌then◌else◌, slice_index_or}
 use Rattle.std.specs.List.{filter, list_all}
-use Rattle.varisat_theory.specs.Literals.{Literal, Clause, variable_of}
+use Rattle.varisat_theory.specs.promises.Literals.{Literal, Clause, variable_of}
 
 -- the literal's variable has no value
 abbrev pub is_unassigned : List (Option Bool) → Literal → Bool

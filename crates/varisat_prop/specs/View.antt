@@ -1,9 +1,9 @@
 -- The plain view of a search: what its parts hold, as lists, and what is kept of it.
 use Rattle.std.specs.Prelude.{◌≡◌, ◌≢◌, ℕ, suc, ◌<◌, ◌≤◌, Bool, true, false, ◌||◌, nat_eq, nat_lt, if◌then◌else◌, Option, List, [], ◌∷◌, ◌++◌, length, map, take, slice_index_or, ◌⊎◌}
-use Rattle.varisat_theory.specs.Membership.{◌∈◌, ◌⊆◌, SameSet, IsDistinct}
-use Rattle.varisat_theory.specs.Literals.{Literal, Clause, variable_of, opposite, IsUnit}
-use Rattle.varisat_theory.specs.Propagation.{IsComplete}
-use Rattle.varisat_theory.specs.Searches.{IsTautology}
+use Rattle.varisat_theory.specs.promises.Membership.{◌∈◌, ◌⊆◌, SameSet, IsDistinct}
+use Rattle.varisat_theory.specs.promises.Literals.{Literal, Clause, variable_of, opposite, IsUnit}
+use Rattle.varisat_theory.specs.promises.Propagation.{IsComplete}
+use Rattle.varisat_theory.specs.promises.Searches.{IsTautology}
 use Rattle.varisat_clause.specs.Stored.{StoredClause, literals_of, literals_at, IsClauseRef, AreRising, AreReordered}
 use Rattle.varisat_clause.specs.Stores.{Store, is_sound}
 use Rattle.varisat_clause.specs.Collected.{live_clauses}
@@ -12,7 +12,7 @@ use Rattle.varisat_prop.specs.declared.prop.graph.Reason.{Reason}
 use Rattle.varisat_prop.specs.declared.prop.graph.Reason.TheVariants as reason
 use Rattle.varisat_prop.specs.declared.prop.graph.ImplNode.{ImplNode}
 use Rattle.varisat_prop.specs.declared.prop.graph.ImplGraph.{ImplGraph}
-use Rattle.varisat_literals.specs.Numbers.{variable_limit}
+use Rattle.varisat_literals.specs.promises.Numbers.{variable_limit}
 
 -- What a search holds, without how it is found again.
 pub record View : Type 0 where

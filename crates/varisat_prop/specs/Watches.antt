@@ -1,7 +1,7 @@
 -- Which watches there are, and what they keep.
 use Rattle.std.specs.Prelude.{◌≡◌, ℕ, ◌<◌, ◌≤◌, ◌*◌, Bool, true, false, List, [], ◌∷◌, length, map, slice_index_or, slice_set}
-use Rattle.varisat_theory.specs.Membership.{◌∈◌, SameSet, IsDistinct}
-use Rattle.varisat_theory.specs.Literals.{Literal, Clause, opposite}
+use Rattle.varisat_theory.specs.promises.Membership.{◌∈◌, SameSet, IsDistinct}
+use Rattle.varisat_theory.specs.promises.Literals.{Literal, Clause, opposite}
 use Rattle.varisat_clause.specs.Stored.{StoredClause, IsClauseRef, literals_at}
 use Rattle.varisat_prop.specs.View.{View, clause_at, implied_by, literal_at, decision_at}
 use Rattle.varisat_prop.specs.declared.prop.watch_list.Watch.{Watch}

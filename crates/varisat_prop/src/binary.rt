@@ -1,7 +1,7 @@
 //! The kept clauses of two literals, as what each literal implies by them.
 ghost use Rattle.std.specs.Prelude.{◌≡◌, ◌<◌, ◌≤◌, ◌*◌, ◌-◌, ◌++◌, ◌∷◌, [], length, replicate, OnOk, slice_set, slice_index_or};
-ghost use Rattle.varisat_theory.specs.Literals.{opposite};
-ghost use Rattle.varisat_literals.specs.Numbers.{variable_limit};
+ghost use Rattle.varisat_theory.specs.promises.Literals.{opposite};
+ghost use Rattle.varisat_literals.specs.promises.Numbers.{variable_limit};
 ghost use Rattle.varisat_prop.specs.Simplified.{unassigned_implied, without_assigned};
 
 use crate::prop::assignment::Assignment;

@@ -1,11 +1,11 @@
 -- How the steps of a call by a schedule stand to the rank of the trail.
 use Rattle.std.proofs.Common.{◌≡◌, ℕ, suc, ◌+◌, ◌-◌, ◌*◌, ◌^◌, ◌<◌, ◌≤◌, Bool, List, length, ◌⊎◌, ⊎_elim, inl, inr, subst, ap, ◌∙◌, arith}
 use Rattle.std.proofs.lemmas.Bool.{cases_lt}
-use Rattle.varisat_theory.specs.Rank.{rank}
-use Rattle.varisat_theory.specs.CallBounds.{AreFew, CallSetting, CallProgress}
-use Rattle.varisat_theory.proofs.Ranks.{rank_bound}
-use Rattle.varisat_theory.proofs.IntervalBounds.{total_bound}
-use Rattle.varisat_theory.proofs.CallBounds.{progress_start, progress_rises, progress_restarts, progress_bound}
+use Rattle.varisat_theory.specs.inside.Rank.{rank}
+use Rattle.varisat_theory.specs.promises.CallBounds.{AreFew, CallSetting, CallProgress}
+use Rattle.varisat_theory.proofs.bounds.Ranks.{rank_bound}
+use Rattle.varisat_theory.proofs.bounds.IntervalBounds.{total_bound}
+use Rattle.varisat_theory.proofs.bounds.CallBounds.{progress_start, progress_rises, progress_restarts, progress_bound}
 use Rattle.varisat_schedule.specs.Plans.{Plan, IsPlan, IsDue, next_plan, plan_after, PlannedCall, setting_of}
 use Rattle.varisat_schedule.specs.CallSteps.{steps_since, IsPlannedStep, HasComeTo, AreSpent}
 use Rattle.varisat_schedule.proofs.RestartPlans.{due-point}

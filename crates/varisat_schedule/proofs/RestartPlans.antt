@@ -1,9 +1,9 @@
 -- Which steps of a schedule begin with a restart.
 use Rattle.std.proofs.Common.{◌≡◌, ℕ, zero, suc, pred, ◌+◌, ◌-◌, ◌*◌, ◌^◌, ◌<◌, ◌≤◌, ◌↔◌, ⊎_elim, subst, refl, sym, ap, ◌∙◌, arith, eq-eqb, ne_eqb, mul-le-mul_right}
 use Rattle.std.proofs.lemmas.Bool.{cases_lt}
-use Rattle.varisat_theory.specs.Luby.{luby, saturated, restart_point}
-use Rattle.varisat_theory.specs.CallBounds.{CallSetting, call_point}
-use Rattle.varisat_theory.proofs.RestartPoints.{luby_positive, call_point_zero, call_point_next, call_point_first}
+use Rattle.varisat_theory.specs.inside.Luby.{luby, saturated, restart_point}
+use Rattle.varisat_theory.specs.promises.CallBounds.{CallSetting, call_point}
+use Rattle.varisat_theory.proofs.bounds.RestartPoints.{luby_positive, call_point_zero, call_point_next, call_point_first}
 use Rattle.varisat_schedule.specs.Plans.{Plan, IsPlan, IsDue, first_plan, next_plan, plan_after, PlannedCall, setting_of}
 
 term_positive : (i : ℕ) → 0 < i → 0 < luby i

@@ -1,9 +1,9 @@
 -- Steps by a schedule where units leave the trail in between.
 use Rattle.std.proofs.Common.{◌≡◌, ℕ, zero, suc, pred, ◌+◌, ◌-◌, ◌^◌, ◌<◌, ◌≤◌, Bool, true, List, ◌∷◌, ◌++◌, length, replicate, sym, ap, ◌∙◌, subst, arith, append_assoc, pow_pos}
 use Rattle.std.proofs.lemmas.List.{length-append, length-replicate, replicate-append-replicate}
-use Rattle.varisat_theory.specs.Rank.{rank, with_units}
-use Rattle.varisat_theory.specs.CallBounds.{AreFew, CallSetting, CallProgress, HasRestarted, BeforeRestart, AfterRestart}
-use Rattle.varisat_theory.proofs.Ranks.{rank_grows}
+use Rattle.varisat_theory.specs.inside.Rank.{rank, with_units}
+use Rattle.varisat_theory.specs.promises.CallBounds.{AreFew, CallSetting, CallProgress, HasRestarted, BeforeRestart, AfterRestart}
+use Rattle.varisat_theory.proofs.bounds.Ranks.{rank_grows}
 use Rattle.varisat_schedule.specs.Plans.{Plan, IsPlan, next_plan, PlannedCall, setting_of}
 use Rattle.varisat_schedule.specs.CallSteps.{steps_since, IsPlannedStep, HasComeTo, HasComeWithout}
 use Rattle.varisat_schedule.proofs.CallSteps.{begins, is-short, goes-on}

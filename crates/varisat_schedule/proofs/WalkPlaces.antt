@@ -2,8 +2,8 @@
 use Rattle.std.proofs.Common.{◌≡◌, ℕ, zero, suc, ◌+◌, ◌*◌, ◌/◌, ◌%◌, ◌^◌, ◌<◌, ◌≤◌, inl, inr, ◌⊎◌, ⊎_elim, subst, refl, sym, ap, ◌∙◌, arith, pow-suc, pow_pos}
 use Rattle.std.proofs.lemmas.Bool.{cases_lt}
 use Rattle.std.proofs.lemmas.Nat.{div-mul-add}
-use Rattle.varisat_theory.specs.Luby.{luby, Walk, next_walk, walk_at}
-use Rattle.varisat_theory.proofs.LubyWalk.{next_odd, next_even, walk-luby}
+use Rattle.varisat_theory.specs.inside.Luby.{luby, Walk, next_walk, walk_at}
+use Rattle.varisat_theory.proofs.bounds.LubyWalk.{next_odd, next_even, walk-luby}
 use Rattle.varisat_schedule.specs.Walks.{IsWalkAfter}
 
 -- the place is a multiple of the power, and no greater than the number of the next term

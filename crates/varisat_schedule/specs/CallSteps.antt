@@ -1,7 +1,7 @@
 -- How many steps a call makes by a schedule, against the rank of the trail.
 use Rattle.std.specs.Prelude.{◌≡◌, ℕ, suc, ◌+◌, ◌-◌, ◌*◌, ◌^◌, ◌<◌, ◌≤◌, Bool, true, List, ◌++◌, length, replicate, ◌⊎◌}
-use Rattle.varisat_theory.specs.Rank.{rank, with_units}
-use Rattle.varisat_theory.specs.CallBounds.{AreFew, CallProgress}
+use Rattle.varisat_theory.specs.inside.Rank.{rank, with_units}
+use Rattle.varisat_theory.specs.promises.CallBounds.{AreFew, CallProgress}
 use Rattle.varisat_schedule.specs.Plans.{Plan, IsPlan, IsDue, next_plan, plan_after, PlannedCall, setting_of}
 
 -- how many steps lead from one plan to a later one

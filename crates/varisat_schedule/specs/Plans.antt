@@ -1,7 +1,7 @@
 -- When a search restarts.
 use Rattle.std.specs.Prelude.{◌≡◌, ℕ, zero, suc, pred, ◌+◌, ◌-◌, ◌*◌, ◌^◌, ◌<◌, ◌≤◌, ◌↔◌, max, nat_eq, if◌then◌else◌}
-use Rattle.varisat_theory.specs.Luby.{luby, saturated, restart_point}
-use Rattle.varisat_theory.specs.CallBounds.{CallSetting, call_point}
+use Rattle.varisat_theory.specs.inside.Luby.{luby, saturated, restart_point}
+use Rattle.varisat_theory.specs.promises.CallBounds.{CallSetting, call_point}
 
 -- The steps made so far, the number of the step that begins with the next restart, and the index of the term of the Luby sequence
 -- by which the restart after it will be later.

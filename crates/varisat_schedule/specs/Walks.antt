@@ -1,6 +1,6 @@
 -- Where the Luby sequence stands in Knuth's walk.
 use Rattle.std.specs.Prelude.{◌≡◌, ℕ, ◌^◌}
-use Rattle.varisat_theory.specs.Luby.{walk_at}
+use Rattle.varisat_theory.specs.inside.Luby.{walk_at}
 
 -- after so many terms the walk stands at the place, and its next term is the power
 pub record IsWalkAfter (given place power : ℕ) : Type 0 where

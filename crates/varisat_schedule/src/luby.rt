@@ -1,7 +1,7 @@
 //! The Luby sequence (sequence A182105 of the On-Line Encyclopedia of Integer Sequences), by the walk that Knuth gave
 //! there.
 ghost use Rattle.std.specs.Prelude.{◌≡◌, ◌-◌, ◌^◌, ◌<◌, suc};
-ghost use Rattle.varisat_theory.specs.Luby.{luby};
+ghost use Rattle.varisat_theory.specs.inside.Luby.{luby};
 
 use std::marker::Model;
 

@@ -1,9 +1,9 @@
 -- Assumptions: what a search keeps of them, and what its steps make of the list.
 use Rattle.std.specs.Prelude.{◌≡◌, ◌≢◌, ℕ, ◌<◌, ◌≤◌, ◌⊎◌, nat_lt, if◌then◌else◌, Bool, Option, List, [], length, slice_index_or, MatchOption}
-use Rattle.varisat_theory.specs.Membership.{◌∈◌, ◌⊆◌}
-use Rattle.varisat_theory.specs.Literals.{Literal, Clause, Assignment, variable_of, SatisfiesAll, MakesTrue}
-use Rattle.varisat_theory.specs.Searches.{Search, Fits}
-use Rattle.varisat_theory.specs.Outcomes.{Outcome, Sat, UnsatUnder}
+use Rattle.varisat_theory.specs.promises.Membership.{◌∈◌, ◌⊆◌}
+use Rattle.varisat_theory.specs.promises.Literals.{Literal, Clause, Assignment, variable_of, SatisfiesAll, MakesTrue}
+use Rattle.varisat_theory.specs.promises.Searches.{Search, Fits}
+use Rattle.varisat_theory.specs.inside.Outcomes.{Outcome, Sat, UnsatUnder}
 use Rattle.varisat_prop.specs.Parts.{IsMadeTrue}
 use Rattle.varisat_prop.specs.View.{View, literal_at, decision_at, ViewFits}
 use Rattle.varisat_prop.specs.Changes.{decided_on}

@@ -1,11 +1,11 @@
 -- What calls do to a whole context.
 use Rattle.std.specs.Prelude.{◌≡◌, ℕ, ◌-◌, ◌<◌, ◌≤◌, ◌++◌, Bool, false, Some, None, length, replicate, slice_index_or, Result, MatchBool, MatchResult}
 use Rattle.std.specs.Option.{unwrap_or}
-use Rattle.varisat_theory.specs.Literals.{Literal, variable_of}
-use Rattle.varisat_literals.specs.Numbers.{polarity_of, variable_limit}
+use Rattle.varisat_theory.specs.promises.Literals.{Literal, variable_of}
+use Rattle.varisat_literals.specs.promises.Numbers.{polarity_of, variable_limit}
 use Rattle.varisat_names.specs.declared.config.ConfigError.{ConfigError}
 use Rattle.varisat_names.specs.declared.config.SolverConfigUpdate.{SolverConfigUpdate}
-use Rattle.varisat_names.specs.Settings.{first_bad, updated_settings}
+use Rattle.varisat_names.specs.promises.Settings.{first_bad, updated_settings}
 use Rattle.varisat_prop.specs.Changes.{decided_on}
 use Rattle.varisat_vsids.specs.Activities.{raised_to}
 use Rattle.varisat_search.specs.declared.context.Context.{Context}

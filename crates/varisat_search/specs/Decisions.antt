@@ -1,7 +1,7 @@
 -- Which variables may be decided, and what backtracking and deciding make of them.
 use Rattle.std.specs.Prelude.{◌≡◌, ◌≢◌, ℕ, ◌<◌, ◌≤◌, Bool, true, Option, Some, None, List, length, slice_index_or, slice_set, if◌then◌else◌, MatchOption, ◌⊎◌, ◌↔◌}
-use Rattle.varisat_theory.specs.Membership.{◌∈◌}
-use Rattle.varisat_theory.specs.Literals.{Clause, Literal, variable_of}
+use Rattle.varisat_theory.specs.promises.Membership.{◌∈◌}
+use Rattle.varisat_theory.specs.promises.Literals.{Clause, Literal, variable_of}
 use Rattle.varisat_prop.specs.View.{View, kept, decision_at}
 use Rattle.varisat_vsids.specs.Activities.{Activities, activity_of, is_available}
 use Rattle.varisat_search.specs.Steps.{LeavesFrom}

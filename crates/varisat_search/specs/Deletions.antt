@@ -1,6 +1,6 @@
 -- Lines that delete stored clauses.
 use Rattle.std.specs.Prelude.{ℕ, List, map}
-use Rattle.varisat_theory.specs.Derivations.{Line, Delete}
+use Rattle.varisat_theory.specs.promises.Derivations.{Line, Delete}
 use Rattle.varisat_clause.specs.Stored.{StoredClause, literals_at}
 use Rattle.varisat_clause.specs.Reductions.{unmarked_places}
 

@@ -1,6 +1,6 @@
 -- What the reductions and the collection that are due at a step do to a context.
 use Rattle.std.specs.Prelude.{◌≡◌, ◌≢◌, ◌*◌, ◌/◌, ◌%◌, ◌<◌, ◌≤◌, ◌++◌, List, [], length}
-use Rattle.varisat_theory.specs.Derivations.{Line}
+use Rattle.varisat_theory.specs.promises.Derivations.{Line}
 use Rattle.varisat_clause.specs.Stores.{Store, stored_clauses, HoldsClauses}
 use Rattle.varisat_clause.specs.Collected.{IsCollected}
 use Rattle.varisat_clause.specs.Reductions.{ReducesLocals, mids_reduced}

@@ -1,9 +1,9 @@
 -- What a search is once it forgets variables: `gone` says of each variable whether it leaves.
 use Rattle.std.specs.Prelude.{◌≡◌, ◌≢◌, ◌↔◌, ◌⊎◌, ℕ, Bool, false, not, None, List, [], length, slice_index_or}
 use Rattle.std.specs.List.{filter, list_any}
-use Rattle.varisat_theory.specs.Membership.{◌∈◌}
-use Rattle.varisat_theory.specs.Literals.{Literal, Clause, variable_of}
-use Rattle.varisat_theory.specs.Searches.{Search}
+use Rattle.varisat_theory.specs.promises.Membership.{◌∈◌}
+use Rattle.varisat_theory.specs.promises.Literals.{Literal, Clause, variable_of}
+use Rattle.varisat_theory.specs.promises.Searches.{Search}
 use Rattle.varisat_prop.specs.Leaving.{leaves, staying, cleared, AreRenumbered}
 use Rattle.varisat_prop.specs.View.{View, kept}
 use Rattle.varisat_analysis.specs.Flags.{IsFlagged}

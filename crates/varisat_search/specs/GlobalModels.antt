@@ -1,9 +1,9 @@
 -- The values that a model gives the global variables.
 use Rattle.std.specs.Prelude.{◌≡◌, ℕ, Bool, if◌then◌else◌, Option, Some, None, List, length, slice_index_or}
 use Rattle.varisat_prop.specs.Parts.{is_true_value}
-use Rattle.varisat_names.specs.VarMap.{at}
-use Rattle.varisat_names.specs.VarData.{data_at}
-use Rattle.varisat_names.specs.Variables.{Tables}
+use Rattle.varisat_names.specs.promises.VarMap.{at}
+use Rattle.varisat_names.specs.promises.VarData.{data_at}
+use Rattle.varisat_names.specs.promises.Variables.{Tables}
 
 -- the value of the solver variable; without one the unit that is kept, and else false
 abbrev pub value_or_unit : List (Option Bool) → Option Bool → Option ℕ → Option Bool

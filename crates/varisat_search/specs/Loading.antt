@@ -1,11 +1,11 @@
 -- What becomes of a clause's distinct literals.
 use Rattle.std.specs.Prelude.{◌≡◌, ℕ, Bool, Option, List, [], ◌∷◌, ◌++◌, ◌⊎◌, length}
 use Rattle.std.specs.List.Sorted.{IsPermutation}
-use Rattle.varisat_theory.specs.Membership.{◌∈◌, SameSet, IsDistinct}
-use Rattle.varisat_theory.specs.Literals.{Literal, Clause, opposite, IsUnit}
-use Rattle.varisat_theory.specs.Derivations.{Line, Delete}
-use Rattle.varisat_theory.specs.Searches.{Search, IsTautology}
-use Rattle.varisat_theory.specs.Outcomes.{Outcome, Unknown, Unsat, Loads}
+use Rattle.varisat_theory.specs.promises.Membership.{◌∈◌, SameSet, IsDistinct}
+use Rattle.varisat_theory.specs.promises.Literals.{Literal, Clause, opposite, IsUnit}
+use Rattle.varisat_theory.specs.promises.Derivations.{Line, Delete}
+use Rattle.varisat_theory.specs.promises.Searches.{Search, IsTautology}
+use Rattle.varisat_theory.specs.inside.Outcomes.{Outcome, Unknown, Unsat, Loads}
 use Rattle.varisat_prop.specs.declared.prop.graph.Reason.TheVariants as reason
 use Rattle.varisat_clause.specs.Headers.{no_header}
 use Rattle.varisat_clause.specs.Stored.{StoredClause, AppendsClause}

@@ -1,7 +1,7 @@
 -- Watch lists from which watches of clauses go that went.
 use Rattle.std.specs.Prelude.{◌≡◌, Option, Some, None, List, length, ◌⊎◌}
-use Rattle.varisat_theory.specs.Membership.{◌∈◌}
-use Rattle.varisat_theory.specs.Literals.{Literal}
+use Rattle.varisat_theory.specs.promises.Membership.{◌∈◌}
+use Rattle.varisat_theory.specs.promises.Literals.{Literal}
 use Rattle.varisat_clause.specs.Stored.{StoredClause, IsClauseRef, literals_at}
 use Rattle.varisat_prop.specs.declared.prop.watch_list.Watch.{Watch}
 use Rattle.varisat_prop.specs.Watches.{Watches, watches_of, HasWatch, NameOnce}

@@ -1,9 +1,9 @@
 -- What a step of the search comes to, from one context to the next.
 use Rattle.std.specs.Prelude.{◌≡◌, ℕ, ◌<◌, ◌≤◌, ◌⊎◌, List, [], ◌∷◌, length}
-use Rattle.varisat_theory.specs.Literals.{Clause}
-use Rattle.varisat_theory.specs.Derivations.{Line, Add}
-use Rattle.varisat_theory.specs.Outcomes.{Outcome, Proves, Steps}
-use Rattle.varisat_theory.specs.Rank.{rank}
+use Rattle.varisat_theory.specs.promises.Literals.{Clause}
+use Rattle.varisat_theory.specs.promises.Derivations.{Line, Add}
+use Rattle.varisat_theory.specs.inside.Outcomes.{Outcome, Proves, Steps}
+use Rattle.varisat_theory.specs.inside.Rank.{rank}
 use Rattle.varisat_prop.specs.View.{kinds}
 use Rattle.varisat_search.specs.declared.context.Context.{Context}
 use Rattle.varisat_search.specs.declared.state.SatState.TheVariants as verdict

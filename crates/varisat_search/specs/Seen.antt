@@ -1,12 +1,12 @@
 -- What a proof can see of a view.
 use Rattle.std.specs.Prelude.{◌≡◌, Bool, false, ◌&&◌, not, nat_eq, List, [], ◌++◌, map}
 use Rattle.std.specs.List.{filter}
-use Rattle.varisat_theory.specs.Membership.{◌∈◌}
-use Rattle.varisat_theory.specs.Literals.{Literal, Clause}
+use Rattle.varisat_theory.specs.promises.Membership.{◌∈◌}
+use Rattle.varisat_theory.specs.promises.Literals.{Literal, Clause}
 use Rattle.varisat_prop.specs.declared.prop.graph.Reason.TheVariants as reason
 use Rattle.varisat_prop.specs.View.{View, pairs_from, node_of, level_of, is_clause}
-use Rattle.varisat_theory.specs.Searches.{KeptClause, Search}
-use Rattle.varisat_theory.specs.Outcomes.{Outcome, Unknown, Sat, Unsat, UnsatUnder}
+use Rattle.varisat_theory.specs.promises.Searches.{KeptClause, Search}
+use Rattle.varisat_theory.specs.inside.Outcomes.{Outcome, Unknown, Sat, Unsat, UnsatUnder}
 use Rattle.varisat_analysis.specs.HeaderChanges.{kept_clause}
 use Rattle.varisat_search.specs.declared.state.SatState.{SatState}
 use Rattle.varisat_search.specs.declared.state.SatState.TheVariants as verdict

@@ -1,9 +1,9 @@
 -- What becomes of the kept clauses once literals are true for good, and the lines that say so.
 use Rattle.std.specs.Prelude.{◌≡◌, ◌≢◌, ℕ, ◌<◌, ◌≤◌, Bool, false, not, ◌&&◌, nat_le, nat_lt, if◌then◌else◌, Option, None, List, [], ◌∷◌, ◌++◌, length, map, slice_index_or, ◌⊎◌}
 use Rattle.std.specs.List.{filter, list_any}
-use Rattle.varisat_theory.specs.Membership.{◌∈◌, ◌⊆◌}
-use Rattle.varisat_theory.specs.Literals.{Literal, Clause, variable_of, opposite}
-use Rattle.varisat_theory.specs.Derivations.{Line, Add, Delete}
+use Rattle.varisat_theory.specs.promises.Membership.{◌∈◌, ◌⊆◌}
+use Rattle.varisat_theory.specs.promises.Literals.{Literal, Clause, variable_of, opposite}
+use Rattle.varisat_theory.specs.promises.Derivations.{Line, Add, Delete}
 use Rattle.varisat_clause.specs.Stored.{StoredClause, stored_at, with_stored}
 use Rattle.varisat_clause.specs.Collected.{live_of}
 use Rattle.varisat_prop.specs.Parts.{value_in, is_true_value}

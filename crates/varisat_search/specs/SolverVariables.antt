@@ -1,12 +1,12 @@
 -- What the search has to do with the variables of the user's names, and how names come to have solver variables.
 use Rattle.std.specs.Prelude.{◌≡◌, ℕ, ◌<◌, ◌≤◌, ◌↔◌, Option, Some, None, List, [], ◌∷◌, length, Bool, false, IsSome, Result, MatchResult}
-use Rattle.varisat_theory.specs.Literals.{Literal, variable_of, literal_of}
-use Rattle.varisat_theory.specs.Outcomes.{Loads}
-use Rattle.varisat_theory.specs.Outcomes as outcome
-use Rattle.varisat_literals.specs.Numbers.{polarity_of, variable_limit}
-use Rattle.varisat_names.specs.VarMap.{at}
-use Rattle.varisat_names.specs.VarData.{data_at}
-use Rattle.varisat_names.specs.Variables.{Tables, AreLinked, IsNamed, IsTaken, IsDetached}
+use Rattle.varisat_theory.specs.promises.Literals.{Literal, variable_of, literal_of}
+use Rattle.varisat_theory.specs.inside.Outcomes.{Loads}
+use Rattle.varisat_theory.specs.inside.Outcomes as outcome
+use Rattle.varisat_literals.specs.promises.Numbers.{polarity_of, variable_limit}
+use Rattle.varisat_names.specs.promises.VarMap.{at}
+use Rattle.varisat_names.specs.promises.VarData.{data_at}
+use Rattle.varisat_names.specs.promises.Variables.{Tables, AreLinked, IsNamed, IsTaken, IsDetached}
 use Rattle.varisat_vsids.specs.Activities.{with_available}
 use Rattle.varisat_search.specs.declared.context.Context.{Context}
 use Rattle.varisat_search.specs.declared.state.SatState.TheVariants as verdict

@@ -1,7 +1,7 @@
 -- What backtracking, deciding, a step and accepting a clause do.
 use Rattle.std.specs.Prelude.{◌≡◌, ◌≢◌, ℕ, ◌<◌, ◌≤◌, Bool, false, Some, None, List, [], ◌++◌, length, take, slice_index_or, ◌⊎◌}
-use Rattle.varisat_theory.specs.Membership.{◌∈◌}
-use Rattle.varisat_theory.specs.Literals.{Literal, Clause, Assignment, variable_of}
+use Rattle.varisat_theory.specs.promises.Membership.{◌∈◌}
+use Rattle.varisat_theory.specs.promises.Literals.{Literal, Clause, Assignment, variable_of}
 use Rattle.varisat_prop.specs.Parts.{is_true_value}
 use Rattle.varisat_prop.specs.View.{View, IsTrueIn, kept, literal_at, decision_at}
 use Rattle.varisat_search.specs.declared.state.SatState.{SatState}

@@ -1,7 +1,7 @@
 -- What is known of assumptions that are taken out.
 use Rattle.std.specs.Prelude.{◌≡◌, true, List, take, ◌⊎◌}
-use Rattle.varisat_theory.specs.Membership.{◌∈◌}
-use Rattle.varisat_theory.specs.Literals.{Literal, Clause, Assignment, value, SatisfiesAll, MakesTrue}
+use Rattle.varisat_theory.specs.promises.Membership.{◌∈◌}
+use Rattle.varisat_theory.specs.promises.Literals.{Literal, Clause, Assignment, value, SatisfiesAll, MakesTrue}
 use Rattle.varisat_prop.specs.View.{View, ViewFits}
 use Rattle.varisat_search.specs.AssumptionParts.{AssumptionParts}
 

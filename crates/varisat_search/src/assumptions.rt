@@ -1,9 +1,9 @@
 //! Assumptions: literals that are taken as true. They are decided first, one level each.
 ghost use Rattle.std.specs.Prelude.{◌≡◌, ◌<◌, ◌*◌, [], length, replicate, slice_get, false, OnOk, IfOk};
 ghost use Rattle.std.specs.List.{swap_remove};
-ghost use Rattle.varisat_theory.specs.Membership.{◌∈◌};
-ghost use Rattle.varisat_theory.specs.Literals.{opposite};
-ghost use Rattle.varisat_theory.specs.Propagation.{IsComplete};
+ghost use Rattle.varisat_theory.specs.promises.Membership.{◌∈◌};
+ghost use Rattle.varisat_theory.specs.promises.Literals.{opposite};
+ghost use Rattle.varisat_theory.specs.promises.Propagation.{IsComplete};
 ghost use Rattle.varisat_prop.specs.Parts.{IsMadeTrue};
 ghost use Rattle.varisat_prop.specs.Looks.{IsInRange};
 ghost use Rattle.varisat_prop.specs.View.{View, WellFormed, kept};

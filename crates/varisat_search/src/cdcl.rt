@@ -1,9 +1,9 @@
 //! One step of the search: propagate and decide to a conflict or a model, and learn.
 ghost use Rattle.std.specs.Prelude.{◌≡◌, ◌≢◌, ℕ, ◌+◌, ◌^◌, ◌<◌, ◌≤◌, false, length, [], ◌∷◌, List, Ok, OnOk, IfOk, IfErr, MatchOption, MatchResult};
-ghost use Rattle.varisat_theory.specs.Membership.{◌∈◌};
-ghost use Rattle.varisat_theory.specs.Literals.{Literal, opposite};
-ghost use Rattle.varisat_theory.specs.Propagation.{IsComplete};
-ghost use Rattle.varisat_theory.specs.Derivations.{Add};
+ghost use Rattle.varisat_theory.specs.promises.Membership.{◌∈◌};
+ghost use Rattle.varisat_theory.specs.promises.Literals.{Literal, opposite};
+ghost use Rattle.varisat_theory.specs.promises.Propagation.{IsComplete};
+ghost use Rattle.varisat_theory.specs.promises.Derivations.{Add};
 ghost use Rattle.varisat_clause.specs.declared.header.Tier.TheVariants as tier;
 ghost use Rattle.varisat_clause.specs.Tiers.{is_tier};
 ghost use Rattle.varisat_clause.specs.Databases.{Tracks};
@@ -14,7 +14,7 @@ ghost use Rattle.varisat_search.specs.Contexts.{view, IsNotUnsat, IsReady};
 ghost use Rattle.varisat_search.specs.Frames.{ChangesAnalysis, ChangesClauses, ChangesRootSimplified, SearchesOn};
 ghost use Rattle.varisat_search.specs.Steps.{IsPropagatedToEnd, SavesSome};
 ghost use Rattle.varisat_search.specs.Seen.{search_of};
-ghost use Rattle.varisat_theory.specs.Journals.{Fails};
+ghost use Rattle.varisat_theory.specs.promises.Journals.{Fails};
 ghost use Rattle.varisat_trace.specs.Traces.{TakesLines, TakesStep, LogsLines, BreaksOff, faults_of, CanTake, CanFail, AdmitsFor};
 ghost use Rattle.varisat_search.specs.AssumptionParts.{TakesOutImplied};
 ghost use Rattle.varisat_search.specs.Conflicts.{ComesToDecision, EndsOrStops, keeping_of, IsKeptAsReason, IsStoredAsReason, IsWatchedAsReason};

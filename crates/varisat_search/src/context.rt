@@ -6,7 +6,7 @@ ghost use Rattle.varisat_search.specs.AssumptionParts.{no_assumptions};
 ghost use Rattle.varisat_search.specs.ContextChanges.{ChangesSettings, CanRaise, AddsUnavailable, IsRaisedTo};
 ghost use Rattle.varisat_search.specs.Seen.{search_of, first_search};
 ghost use Rattle.varisat_search.specs.Decisions.{IsDecidable, SameDecidable};
-ghost use Rattle.varisat_names.specs.Settings.{default_settings};
+ghost use Rattle.varisat_names.specs.promises.Settings.{default_settings};
 ghost use Rattle.varisat_prop.specs.Parts.{top_level_count};
 ghost use Rattle.varisat_schedule.specs.Plans.{first_plan};
 ghost use Rattle.varisat_clause.specs.Stores.{no_store};

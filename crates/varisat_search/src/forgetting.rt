@@ -1,9 +1,9 @@
 //! Forgetting variables: a search goes on without them, and they may come into use again.
 ghost use Rattle.std.specs.Prelude.{◌≡◌, ℕ, List, ◌<◌, ◌≤◌, ◌+◌, ◌-◌, ◌*◌, ◌^◌, ◌↔◌, ◌∷◌, None, [], false, length, map, min, IfOk};
-ghost use Rattle.varisat_theory.specs.Membership.{◌∈◌, IsDistinct};
-ghost use Rattle.varisat_theory.specs.Literals.{Literal, Clause, variable_of};
-ghost use Rattle.varisat_theory.specs.Searches.{Fits};
-ghost use Rattle.varisat_literals.specs.Numbers.{variable_limit};
+ghost use Rattle.varisat_theory.specs.promises.Membership.{◌∈◌, IsDistinct};
+ghost use Rattle.varisat_theory.specs.promises.Literals.{Literal, Clause, variable_of};
+ghost use Rattle.varisat_theory.specs.promises.Searches.{Fits};
+ghost use Rattle.varisat_literals.specs.promises.Numbers.{variable_limit};
 ghost use Rattle.varisat_clause.specs.Stored.{literals_of};
 ghost use Rattle.varisat_clause.specs.Stores.{IsSound};
 ghost use Rattle.varisat_clause.specs.Collected.{live_clauses};

@@ -1,11 +1,11 @@
 //! Loading of clauses.
 ghost use Rattle.std.specs.Prelude.{◌≡◌, [], ◌∷◌, Ok, Some, length, slice_get, replicate, ◌+◌, ◌*◌, ◌<◌, ◌≤◌, false, OnOk, IfOk, IfErr, IsTrue, ◌↔◌};
-ghost use Rattle.varisat_theory.specs.Membership.{◌∈◌, SameSet, IsDistinct};
-ghost use Rattle.varisat_theory.specs.Literals.{Literal, variable_of, opposite};
-ghost use Rattle.varisat_theory.specs.Searches.{IsTautology};
-ghost use Rattle.varisat_theory.specs.Derivations.{Delete};
-ghost use Rattle.varisat_theory.specs.Outcomes.{Loads};
-ghost use Rattle.varisat_theory.specs.Outcomes as outcome;
+ghost use Rattle.varisat_theory.specs.promises.Membership.{◌∈◌, SameSet, IsDistinct};
+ghost use Rattle.varisat_theory.specs.promises.Literals.{Literal, variable_of, opposite};
+ghost use Rattle.varisat_theory.specs.promises.Searches.{IsTautology};
+ghost use Rattle.varisat_theory.specs.promises.Derivations.{Delete};
+ghost use Rattle.varisat_theory.specs.inside.Outcomes.{Loads};
+ghost use Rattle.varisat_theory.specs.inside.Outcomes as outcome;
 ghost use Rattle.varisat_clause.specs.Databases.{Tracks};
 ghost use Rattle.varisat_prop.specs.Parts.{IsMadeTrue};
 ghost use Rattle.varisat_prop.specs.Looks.{IsInRange};

@@ -1,7 +1,7 @@
 //! Watch lists from which watches go whose clauses went.
 ghost use Rattle.std.specs.Prelude.{◌<◌, ◌≤◌, length};
-ghost use Rattle.varisat_theory.specs.Membership.{◌∈◌};
-ghost use Rattle.varisat_theory.specs.Literals.{Literal};
+ghost use Rattle.varisat_theory.specs.promises.Membership.{◌∈◌};
+ghost use Rattle.varisat_theory.specs.promises.Literals.{Literal};
 ghost use Rattle.varisat_clause.specs.Stored.{IsClauseRef};
 ghost use Rattle.varisat_clause.specs.Stores.{stored_clauses, IsSound};
 ghost use Rattle.varisat_clause.specs.Collected.{live_clauses};

@@ -1,6 +1,6 @@
 //! A model over the global variables.
 ghost use Rattle.std.specs.Prelude.{◌≡◌, ◌<◌, ◌≤◌, ◌^◌, ◌↔◌, [], length, IfOk, IsTrue};
-ghost use Rattle.varisat_theory.specs.Literals.{variable_of};
+ghost use Rattle.varisat_theory.specs.promises.Literals.{variable_of};
 ghost use Rattle.varisat_prop.specs.Parts.{IsMadeTrue};
 ghost use Rattle.varisat_search.specs.GlobalModels as model;
 

@@ -1,12 +1,12 @@
 //! Solver variables, which variables take once a clause or an assumption names them.
 ghost use Rattle.std.specs.Prelude.{◌≡◌, ◌≢◌, ◌<◌, None, false, length, slice_index_or, IsSome, OnOk, IfOk, MatchOption};
-ghost use Rattle.varisat_theory.specs.Literals.{Literal, variable_of, literal_of};
-ghost use Rattle.varisat_theory.specs.Searches.{IsLiteralOf};
-ghost use Rattle.varisat_literals.specs.Numbers.{variable_limit};
-ghost use Rattle.varisat_names.specs.Maps.{chain};
-ghost use Rattle.varisat_names.specs.VarMap.{at};
-ghost use Rattle.varisat_names.specs.VarData.{data_at};
-ghost use Rattle.varisat_names.specs.Variables.{Tables, IsNamed};
+ghost use Rattle.varisat_theory.specs.promises.Literals.{Literal, variable_of, literal_of};
+ghost use Rattle.varisat_theory.specs.promises.Searches.{IsLiteralOf};
+ghost use Rattle.varisat_literals.specs.promises.Numbers.{variable_limit};
+ghost use Rattle.varisat_names.specs.promises.Maps.{chain};
+ghost use Rattle.varisat_names.specs.promises.VarMap.{at};
+ghost use Rattle.varisat_names.specs.promises.VarData.{data_at};
+ghost use Rattle.varisat_names.specs.promises.Variables.{Tables, IsNamed};
 ghost use Rattle.varisat_prop.specs.View.{kept};
 ghost use Rattle.varisat_search.specs.Contexts.{view, IsReady, KeepsSchedule};
 ghost use Rattle.varisat_search.specs.Decisions.{IsDecidable, SameDecidableBut};

@@ -1,8 +1,8 @@
 //! What a search tells its proof before clauses change.
 ghost use Rattle.std.specs.Prelude.{◌≡◌, ℕ, ◌<◌, ◌≤◌, List, Option, Bool, length, false, OnOk};
-ghost use Rattle.varisat_theory.specs.Membership.{◌∈◌};
-ghost use Rattle.varisat_theory.specs.Literals.{Literal, Clause, variable_of, opposite};
-ghost use Rattle.varisat_theory.specs.StepLaws.{unit_lines};
+ghost use Rattle.varisat_theory.specs.promises.Membership.{◌∈◌};
+ghost use Rattle.varisat_theory.specs.promises.Literals.{Literal, Clause, variable_of, opposite};
+ghost use Rattle.varisat_theory.specs.inside.StepLaws.{unit_lines};
 ghost use Rattle.varisat_clause.specs.Stored.{IsClauseRef, literals_of};
 ghost use Rattle.varisat_search.specs.Deletions.{unmarked_deletions};
 ghost use Rattle.varisat_clause.specs.Stores.{stored_clauses, IsSound};

@@ -1,9 +1,9 @@
 //! Simplification by the literals of level 0: they become unit clauses, and the kept clauses lose what these say.
 ghost use Rattle.std.specs.Prelude.{◌≡◌, ◌≢◌, ◌<◌, ◌≤◌, ◌↔◌, ◌++◌, IsTrue, None, [], length, drop, slice_index_or, OnOk, IfOk, IfErr};
 ghost use Rattle.std.specs.List.Sorted.{IsPermutation};
-ghost use Rattle.varisat_theory.specs.Membership.{◌∈◌};
-ghost use Rattle.varisat_theory.specs.Literals.{Literal, Clause, variable_of};
-ghost use Rattle.varisat_theory.specs.StepLaws.{unit_lines};
+ghost use Rattle.varisat_theory.specs.promises.Membership.{◌∈◌};
+ghost use Rattle.varisat_theory.specs.promises.Literals.{Literal, Clause, variable_of};
+ghost use Rattle.varisat_theory.specs.inside.StepLaws.{unit_lines};
 ghost use Rattle.varisat_clause.specs.Stored.{IsClauseRef, literals_at};
 ghost use Rattle.varisat_clause.specs.Stores.{stored_clauses, IsSound, HoldsClauses};
 ghost use Rattle.varisat_prop.specs.Looks.{IsInRange};

@@ -1,6 +1,6 @@
 -- A search stays ready where activities, remembered values and headers change, and where its clauses are watched anew.
 use Rattle.std.proofs.Common.{◌≡◌, ℕ, ◌*◌, true, false, length, get_or, replicate, ⊎_elim, inl, inr, refl, sym, ap, ◌∙◌, subst}
-use Rattle.varisat_theory.specs.Literals.{variable_of}
+use Rattle.varisat_theory.specs.promises.Literals.{variable_of}
 use Rattle.varisat_clause.specs.declared.header.Tier.TheVariants as tier
 use Rattle.varisat_clause.specs.Tiers.{is_tier}
 use Rattle.varisat_clause.specs.Headers.{Header}
@@ -18,8 +18,8 @@ use Rattle.varisat_search.specs.declared.context.Context.{Context}
 use Rattle.varisat_search.specs.Contexts.{view, IsReady}
 use Rattle.varisat_search.specs.AssumptionParts.{HasAssumptions}
 use Rattle.varisat_search.specs.Decisions.{AreDecidable, CanDecide}
-use Rattle.varisat_search.proofs.HeaderChanges.{store-view, headers-ready}
-use Rattle.varisat_search.proofs.ReadyAfter.{ready-with}
+use Rattle.varisat_search.proofs.simplifying.HeaderChanges.{store-view, headers-ready}
+use Rattle.varisat_search.proofs.stepping.ReadyAfter.{ready-with}
 
 pub activities-ready : {A : Type 0} {x : Context A} (a : Activities) → length a.activity ≡ length x.vsids.activity →
     a.available ≡ x.vsids.available → IsReady x → IsReady (record x { vsids = a })

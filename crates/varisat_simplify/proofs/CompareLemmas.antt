@@ -1,10 +1,10 @@
 -- What two places say of one another.
 use Rattle.std.proofs.Common.{◌≡◌, ℕ, subst}
-use Rattle.varisat_theory.specs.Literals.{Clause}
+use Rattle.varisat_theory.specs.promises.Literals.{Clause}
 use Rattle.varisat_simplify.specs.declared.resolve.Relation.{Relation}
 use Rattle.varisat_simplify.specs.declared.resolve.Relation.TheVariants.{Nothing, Subsumes, Strengthens}
-use Rattle.varisat_simplify.specs.States.{State, clause_at, IsLive}
-use Rattle.varisat_simplify.specs.Resolving.{Relates, Compares}
+use Rattle.varisat_simplify.specs.inside.States.{State, clause_at, IsLive}
+use Rattle.varisat_simplify.specs.inside.Resolving.{Relates, Compares}
 
 pub compares : (s : State) (j i : ℕ) (c d : Clause) (r : Relation) → c ≡ clause_at s j → d ≡ clause_at s i → IsLive s j → IsLive s i → (j ≡ i → ⊥) →
     Relates c d r → Compares s j i r

@@ -3,8 +3,8 @@ use Rattle.std.proofs.Common.{◌≡◌, ℕ, zero, suc, ◌+◌, ◌-◌, ◌<�
 use Rattle.std.specs.Prelude.{slice_range}
 use Rattle.std.proofs.lemmas.List.{length-append}
 use Rattle.std.proofs.lemmas.Grind.{common_steps, get_or_default_zero}
-use Rattle.varisat_theory.specs.Literals.{Literal, Clause}
-use Rattle.varisat_simplify.specs.Cuts.{cut_from, start_of, AreEnds}
+use Rattle.varisat_theory.specs.promises.Literals.{Literal, Clause}
+use Rattle.varisat_simplify.specs.inside.Cuts.{cut_from, start_of, AreEnds}
 
 pub cut_length : (s : ℕ) (es : List ℕ) (ls : List Literal) → length (cut_from s es ls) ≡ length es
 cut_length s [] ls = refl

@@ -1,15 +1,15 @@
 -- Why a variable may be resolved away.
 use Rattle.std.proofs.Common.{◌≡◌, ℕ, zero, suc, ◌+◌, ◌/◌, ◌<◌, ◌≤◌, Bool, true, false, List, [], ◌∷◌, ◌++◌, ◌⊎◌, inl, inr, ⊎_elim, sym, ap, ◌∙◌, subst, refl, length, get_or, set, take, append-nil, arith}
-use Rattle.varisat_theory.specs.Membership.{◌∈◌}
-use Rattle.varisat_theory.specs.Literals.{Literal, Clause, Assignment, opposite, value, Satisfies, SatisfiesAll}
-use Rattle.varisat_theory.proofs.Members.{equal_or_not, ∈-or_not}
-use Rattle.varisat_theory.proofs.Places.{∈-get_or, ∈-take_more, ∈-take_all, place_in}
-use Rattle.varisat_theory.proofs.Values.{opposite_twice, true_or_opposite}
-use Rattle.varisat_simplify.specs.Stacks.{assignment_of, with_true, amended, extended, avoids}
-use Rattle.varisat_simplify.specs.Leading.{AreNamedBy}
+use Rattle.varisat_theory.specs.promises.Membership.{◌∈◌}
+use Rattle.varisat_theory.specs.promises.Literals.{Literal, Clause, Assignment, opposite, value, Satisfies, SatisfiesAll}
+use Rattle.varisat_theory.proofs.clauses.Members.{equal_or_not, ∈-or_not}
+use Rattle.varisat_theory.proofs.clauses.Places.{∈-get_or, ∈-take_more, ∈-take_all, place_in}
+use Rattle.varisat_theory.proofs.clauses.Values.{opposite_twice, true_or_opposite}
+use Rattle.varisat_simplify.specs.promises.Stacks.{assignment_of, with_true, amended, extended, avoids}
+use Rattle.varisat_simplify.specs.promises.Leading.{AreNamedBy}
 use Rattle.varisat_simplify.proofs.LeadingLemmas.{leads_removed, told_removed, named_at}
 use Rattle.varisat_simplify.proofs.ExtendLemmas.{thawed_more}
-use Rattle.varisat_simplify.specs.States.{State, pushed, removed, saved, clause_at, IsLive, IsThawed, Models, Reduces, Becomes, ModelsRest, SatisfiesBut, Collects, IsResolved, Adds, Saves, Drops}
+use Rattle.varisat_simplify.specs.inside.States.{State, pushed, removed, saved, clause_at, IsLive, IsThawed, Models, Reduces, Becomes, ModelsRest, SatisfiesBut, Collects, IsResolved, Adds, Saves, Drops}
 use Rattle.varisat_simplify.proofs.StateLemmas.{becomes_self, becomes_then, pushed_live, pushed_keeps, pushed_new, removed_live, removed_keeps, removed_even, pushed_even, satisfies_same, push_resolvent}
 use Rattle.varisat_simplify.proofs.ExtendLemmas.{extended_more, made_true, stays_true, amended_cases, amended_length}
 

@@ -1,12 +1,12 @@
 -- The steps of an elimination, by what the calls in them say.
 use Rattle.std.proofs.Common.{◌≡◌, ℕ, ◌+◌, ◌/◌, ◌<◌, ◌≤◌, Bool, true, false, List, [], ◌∷◌, inl, inr, ⊎_elim, sym, ap, ◌∙◌, subst, length, get_or, arith}
 use Rattle.std.specs.Prelude.{MatchBool}
-use Rattle.varisat_theory.specs.Membership.{◌∈◌}
-use Rattle.varisat_theory.specs.Literals.{Literal, Clause, opposite}
-use Rattle.varisat_theory.proofs.Places.{∈-get_or}
-use Rattle.varisat_theory.proofs.Values.{opposite_twice}
-use Rattle.varisat_simplify.specs.States.{State, pushed, removed, saved, clause_at, IsLive, IsThawed, Adds, Saves, Drops}
-use Rattle.varisat_simplify.specs.Resolving.{Resolves, Clashes}
+use Rattle.varisat_theory.specs.promises.Membership.{◌∈◌}
+use Rattle.varisat_theory.specs.promises.Literals.{Literal, Clause, opposite}
+use Rattle.varisat_theory.proofs.clauses.Places.{∈-get_or}
+use Rattle.varisat_theory.proofs.clauses.Values.{opposite_twice}
+use Rattle.varisat_simplify.specs.inside.States.{State, pushed, removed, saved, clause_at, IsLive, IsThawed, Adds, Saves, Drops}
+use Rattle.varisat_simplify.specs.inside.Resolving.{Resolves, Clashes}
 use Rattle.varisat_simplify.proofs.EliminateLemmas.{adds_skip, adds_push, saves_first, saves_next, drops_first, drops_next}
 
 pub adds_by_push : (s t u : State) (l : Literal) (w g : List ℕ) (x y p q : ℕ) (c d e f : Clause) → p ≡ get_or w x 0 → q ≡ get_or g y 0 → c ≡ clause_at t p →

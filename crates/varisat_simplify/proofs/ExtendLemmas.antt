@@ -2,11 +2,11 @@
 use Rattle.std.proofs.Common.{◌≡◌, ℕ, zero, suc, ◌-◌, ◌/◌, ◌%◌, ◌<◌, ◌≤◌, Bool, true, false, not, ◌||◌, nat_eq, if◌then◌else◌, List, [], ◌∷◌, ◌++◌, ◌⊎◌, inl, inr, ⊎_elim, sym, ap, ◌∙◌, subst, refl, length, get_or, set, drop, arith}
 use Rattle.std.proofs.Math.Seq.{drop-cons}
 use Rattle.std.specs.List.{list_any}
-use Rattle.varisat_theory.specs.Membership.{◌∈◌}
-use Rattle.varisat_theory.specs.Literals.{Literal, Clause, Assignment, opposite, value, Satisfies}
-use Rattle.varisat_theory.proofs.Members.{equal_or_not, ∈-append_cases}
-use Rattle.varisat_theory.proofs.Values.{parity}
-use Rattle.varisat_simplify.specs.Stacks.{assignment_of, is_satisfied, with_true, amended, extended, avoids, KeepsFrozen}
+use Rattle.varisat_theory.specs.promises.Membership.{◌∈◌}
+use Rattle.varisat_theory.specs.promises.Literals.{Literal, Clause, Assignment, opposite, value, Satisfies}
+use Rattle.varisat_theory.proofs.clauses.Members.{equal_or_not, ∈-append_cases}
+use Rattle.varisat_theory.proofs.clauses.Values.{parity}
+use Rattle.varisat_simplify.specs.promises.Stacks.{assignment_of, is_satisfied, with_true, amended, extended, avoids, KeepsFrozen}
 
 pub extended_more : (stack : List Clause) (e : Clause) (vs : List Bool) → extended (stack ++ e ∷ []) vs ≡ extended stack (amended e vs)
 extended_more [] e vs = refl

@@ -1,19 +1,19 @@
 -- What the steps of a simplification make of a state.
 use Rattle.std.proofs.Common.{◌≡◌, ℕ, ◌+◌, ◌≤◌, Bool, true, false, set, List, [], ◌∷◌, ◌++◌, ◌⊎◌, inl, inr, ⊎_elim, sym, ap, ◌∙◌, subst, refl, length, get_or, take, append_assoc, append-nil, arith}
-use Rattle.varisat_theory.specs.Held.{SameClauses}
-use Rattle.varisat_theory.proofs.Held.{same_set-self, same_clauses-self, same_clauses-through}
-use Rattle.varisat_theory.specs.Derivations.{Delete, SpeakOf}
-use Rattle.varisat_simplify.specs.Leading.{LeadsTo, IsNamedBy, AreNamedBy}
+use Rattle.varisat_theory.specs.promises.Held.{SameClauses}
+use Rattle.varisat_theory.proofs.clauses.Held.{same_set-self, same_clauses-self, same_clauses-through}
+use Rattle.varisat_theory.specs.promises.Derivations.{Delete, SpeakOf}
+use Rattle.varisat_simplify.specs.promises.Leading.{LeadsTo, IsNamedBy, AreNamedBy}
 use Rattle.varisat_simplify.proofs.LeadingLemmas.{leads_self, leads_delete, leads_as, told_removed, named_more}
-use Rattle.varisat_theory.specs.Membership.{◌∈◌, ◌⊆◌, SameSet}
-use Rattle.varisat_theory.specs.Literals.{Literal, Clause, Assignment, opposite, Satisfies, SatisfiesAll}
-use Rattle.varisat_theory.proofs.Members.{∈-append_left, ∈-append_right, ∈-append_cases}
-use Rattle.varisat_theory.proofs.Places.{∈-take_more, ∈-take_all}
-use Rattle.varisat_theory.proofs.Values.{true_or_opposite}
-use Rattle.varisat_simplify.specs.Stacks.{assignment_of, extended}
-use Rattle.varisat_simplify.specs.States.{State, no_clauses, given, pushed, removed, clause_at, IsLive, live_clauses, flagged, deletion, Models, Reduces, Becomes, Collects}
-use Rattle.varisat_simplify.specs.Resolving.{LeavesOut}
-use Rattle.varisat_theory.specs.Searches.{IsTautology}
+use Rattle.varisat_theory.specs.promises.Membership.{◌∈◌, ◌⊆◌, SameSet}
+use Rattle.varisat_theory.specs.promises.Literals.{Literal, Clause, Assignment, opposite, Satisfies, SatisfiesAll}
+use Rattle.varisat_theory.proofs.clauses.Members.{∈-append_left, ∈-append_right, ∈-append_cases}
+use Rattle.varisat_theory.proofs.clauses.Places.{∈-take_more, ∈-take_all}
+use Rattle.varisat_theory.proofs.clauses.Values.{true_or_opposite}
+use Rattle.varisat_simplify.specs.promises.Stacks.{assignment_of, extended}
+use Rattle.varisat_simplify.specs.inside.States.{State, no_clauses, given, pushed, removed, clause_at, IsLive, live_clauses, flagged, deletion, Models, Reduces, Becomes, Collects}
+use Rattle.varisat_simplify.specs.inside.Resolving.{LeavesOut}
+use Rattle.varisat_theory.specs.promises.Searches.{IsTautology}
 use Rattle.varisat_simplify.proofs.StateLemmas.{becomes_self, live_below, live_pushed, pushed_keeps, pushed_live, pushed_even, pushed_new, removed_even, removed_keeps, removed_live, remove_reduces, satisfies_more, satisfies_same, strengthened}
 
 pub becomes_same : (s t : State) → t ≡ s → Becomes s t

@@ -1,16 +1,16 @@
 -- Lines that lead from some clauses to those that are live.
 use Rattle.std.proofs.Common.{◌≡◌, ℕ, zero, suc, ◌<◌, Bool, true, false, List, [], ◌∷◌, ◌++◌, inl, inr, ⊎_elim, sym, ap, ◌∙◌, subst, refl, length, get_or, set, append_assoc, append-nil, arith}
-use Rattle.varisat_theory.specs.Membership.{◌∈◌}
-use Rattle.varisat_theory.specs.Literals.{Literal, Clause}
-use Rattle.varisat_theory.specs.Propagation.{Follows}
-use Rattle.varisat_theory.specs.Derivations.{Line, Add, Delete, TakesOut, IsDerivation, Refutes, SpeakOf}
-use Rattle.varisat_theory.specs.Held.{SameClauses}
-use Rattle.varisat_theory.proofs.Members.{∈-append_cases}
-use Rattle.varisat_theory.proofs.Held.{same_set-self, same_clauses-self, same_clauses-through, same_add, same_delete, follows_same}
-use Rattle.varisat_theory.proofs.Lines.{derives_add, derives_delete, derives_append, derives_same, derives_derivation, derivation_derives, refutes_same, refutes_at, refutes_from, same_lines-self}
-use Rattle.varisat_theory.proofs.Spoken.{spoken_join}
-use Rattle.varisat_simplify.specs.Leading.{LeadsTo, IsNamedBy, AreNamedBy}
-use Rattle.varisat_simplify.specs.States.{flagged, deletion}
+use Rattle.varisat_theory.specs.promises.Membership.{◌∈◌}
+use Rattle.varisat_theory.specs.promises.Literals.{Literal, Clause}
+use Rattle.varisat_theory.specs.promises.Propagation.{Follows}
+use Rattle.varisat_theory.specs.promises.Derivations.{Line, Add, Delete, TakesOut, IsDerivation, Refutes, SpeakOf}
+use Rattle.varisat_theory.specs.promises.Held.{SameClauses}
+use Rattle.varisat_theory.proofs.clauses.Members.{∈-append_cases}
+use Rattle.varisat_theory.proofs.clauses.Held.{same_set-self, same_clauses-self, same_clauses-through, same_add, same_delete, follows_same}
+use Rattle.varisat_theory.proofs.clauses.Lines.{derives_add, derives_delete, derives_append, derives_same, derives_derivation, derivation_derives, refutes_same, refutes_at, refutes_from, same_lines-self}
+use Rattle.varisat_theory.proofs.journals.Spoken.{spoken_join}
+use Rattle.varisat_simplify.specs.promises.Leading.{LeadsTo, IsNamedBy, AreNamedBy}
+use Rattle.varisat_simplify.specs.inside.States.{flagged, deletion}
 
 pub flagged_pushed : (bs : List Bool) (cs : List Clause) (b : Bool) (c : Clause) → length bs ≡ length cs →
     flagged (bs ++ b ∷ []) (cs ++ c ∷ []) ≡ flagged bs cs ++ flagged (b ∷ []) (c ∷ [])

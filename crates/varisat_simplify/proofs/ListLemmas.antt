@@ -3,13 +3,13 @@ use Rattle.std.proofs.Common.{◌≡◌, ℕ, zero, suc, ◌+◌, ◌<◌, ◌�
 use Rattle.std.specs.declared.vec.Vec.{Vec}
 use Rattle.std.specs.List.{filter}
 use Rattle.std.proofs.lemmas.List.{map-set, get_or-map, length-map, set-get_or, get_or-set_same}
-use Rattle.varisat_theory.specs.Membership.{◌∈◌}
-use Rattle.varisat_theory.specs.Literals.{Literal, Clause}
-use Rattle.varisat_theory.proofs.Members.{∈-append_left, ∈-append_right, equal_or_not}
-use Rattle.varisat_theory.proofs.Places.{∈-take_more, ∈-take_all}
-use Rattle.varisat_simplify.specs.Flags.{is_flagged}
-use Rattle.varisat_simplify.specs.Names.{short_of}
-use Rattle.varisat_simplify.specs.Sound.{IsSound, Grows, IsListed, AreListed}
+use Rattle.varisat_theory.specs.promises.Membership.{◌∈◌}
+use Rattle.varisat_theory.specs.promises.Literals.{Literal, Clause}
+use Rattle.varisat_theory.proofs.clauses.Members.{∈-append_left, ∈-append_right, equal_or_not}
+use Rattle.varisat_theory.proofs.clauses.Places.{∈-take_more, ∈-take_all}
+use Rattle.varisat_simplify.specs.inside.Flags.{is_flagged}
+use Rattle.varisat_simplify.specs.inside.Names.{short_of}
+use Rattle.varisat_simplify.specs.inside.Sound.{IsSound, Grows, IsListed, AreListed}
 
 pub written : {X Z : Type 0} (ls : List (Vec X Z)) (now : List (List X)) (i j : ℕ) (v : Vec X Z) → map (λ (x : Vec X Z). x.items) ls ≡ now → i ≡ j →
     map (λ (x : Vec X Z). x.items) (set ls i v) ≡ set now j v.items

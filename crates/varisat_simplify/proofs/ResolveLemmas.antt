@@ -2,14 +2,14 @@
 use Rattle.std.proofs.Common.{◌≡◌, ℕ, zero, suc, ◌+◌, ◌/◌, ◌<◌, ◌≤◌, Bool, true, false, ◌||◌, List, [], ◌∷◌, ◌++◌, ◌⊎◌, inl, inr, ⊎_elim, IsTrue, ◌↔◌, Option, Some, None, is_some, sym, ap, ◌∙◌, subst, refl, length, get_or, take, drop, arith}
 use Rattle.std.specs.List.{list_any}
 use Rattle.std.proofs.lemmas.Grind.{get_or_default_zero}
-use Rattle.varisat_theory.specs.Membership.{◌∈◌, ◌⊆◌, SameSet}
-use Rattle.varisat_theory.specs.Literals.{Literal, Clause, opposite}
-use Rattle.varisat_theory.proofs.Members.{∈-append_left, ∈-append_right, ∈-append_cases}
-use Rattle.varisat_theory.proofs.Places.{∈-get_or, ∈-take_more, ∈-take_all}
-use Rattle.varisat_theory.proofs.Values.{parity}
-use Rattle.varisat_simplify.specs.Resolving.{LeavesOut, Resolves, Clashes}
-use Rattle.varisat_theory.specs.Searches.{IsTautology}
-use Rattle.varisat_simplify.specs.Stacks.{amended, extended}
+use Rattle.varisat_theory.specs.promises.Membership.{◌∈◌, ◌⊆◌, SameSet}
+use Rattle.varisat_theory.specs.promises.Literals.{Literal, Clause, opposite}
+use Rattle.varisat_theory.proofs.clauses.Members.{∈-append_left, ∈-append_right, ∈-append_cases}
+use Rattle.varisat_theory.proofs.clauses.Places.{∈-get_or, ∈-take_more, ∈-take_all}
+use Rattle.varisat_theory.proofs.clauses.Values.{parity}
+use Rattle.varisat_simplify.specs.inside.Resolving.{LeavesOut, Resolves, Clashes}
+use Rattle.varisat_theory.specs.promises.Searches.{IsTautology}
+use Rattle.varisat_simplify.specs.promises.Stacks.{amended, extended}
 
 -- no element is among the first none
 pub none_taken : {X : Type 0} (x : X) (xs : List X) → x ∈ take 0 xs → ⊥

@@ -1,15 +1,15 @@
 -- What pushing and removing make of a state.
 use Rattle.std.proofs.Common.{◌≡◌, ℕ, zero, suc, ◌+◌, ◌<◌, ◌≤◌, Bool, true, false, List, [], ◌∷◌, ◌++◌, ◌⊎◌, inl, inr, ⊎_elim, sym, ap, ◌∙◌, subst, refl, length, get_or, set, append-nil, arith}
 use Rattle.std.proofs.lemmas.List.{get_or_append_left, length-append, append_assoc}
-use Rattle.varisat_theory.specs.Membership.{◌∈◌, ◌⊆◌}
-use Rattle.varisat_theory.specs.Literals.{Literal, Clause, Assignment, opposite, value, Satisfies}
-use Rattle.varisat_theory.specs.Propagation.{FalseClause, Propagate, Follows}
-use Rattle.varisat_theory.specs.Derivations.{Add}
-use Rattle.varisat_theory.proofs.Members.{equal_or_not}
-use Rattle.varisat_theory.proofs.Values.{∈-opposites, opposite_twice, not_both}
-use Rattle.varisat_simplify.specs.Stacks.{assignment_of}
-use Rattle.varisat_simplify.specs.States.{State, pushed, removed, clause_at, IsLive, live_clauses, Models, Reduces, Becomes}
-use Rattle.varisat_simplify.specs.Leading.{LeadsTo, IsNamedBy}
+use Rattle.varisat_theory.specs.promises.Membership.{◌∈◌, ◌⊆◌}
+use Rattle.varisat_theory.specs.promises.Literals.{Literal, Clause, Assignment, opposite, value, Satisfies}
+use Rattle.varisat_theory.specs.promises.Propagation.{FalseClause, Propagate, Follows}
+use Rattle.varisat_theory.specs.promises.Derivations.{Add}
+use Rattle.varisat_theory.proofs.clauses.Members.{equal_or_not}
+use Rattle.varisat_theory.proofs.clauses.Values.{∈-opposites, opposite_twice, not_both}
+use Rattle.varisat_simplify.specs.promises.Stacks.{assignment_of}
+use Rattle.varisat_simplify.specs.inside.States.{State, pushed, removed, clause_at, IsLive, live_clauses, Models, Reduces, Becomes}
+use Rattle.varisat_simplify.specs.promises.Leading.{LeadsTo, IsNamedBy}
 use Rattle.varisat_simplify.proofs.LeadingLemmas.{flagged_pushed, flagged_has, leads_add, leads_removed, told_add, told_removed, named_more, named_at}
 
 pub becomes_self : (s : State) → Becomes s s

@@ -1,14 +1,14 @@
 -- Clauses that lose literals whose opposites are fixed.
 use Rattle.std.proofs.Common.{◌≡◌, ℕ, zero, suc, ◌+◌, ◌<◌, ◌≤◌, true, List, [], ◌∷◌, ◌++◌, ◌⊎◌, inl, inr, ⊎_elim, sym, ap, ◌∙◌, subst, refl, length, get_or, take, arith}
-use Rattle.varisat_theory.specs.Membership.{◌∈◌}
-use Rattle.varisat_theory.specs.Literals.{Literal, Clause, Assignment, opposite, opposites, value, Satisfies}
-use Rattle.varisat_theory.specs.Propagation.{Conflicts, Follows}
-use Rattle.varisat_theory.specs.Propagation.Conflicts.{FalseClause, Propagate}
-use Rattle.varisat_theory.proofs.Members.{∈-append_left, ∈-append_right, ∈-append_cases}
-use Rattle.varisat_theory.proofs.Places.{∈-take_more, ∈-take_all}
-use Rattle.varisat_theory.proofs.Values.{∈-opposites, not_both}
-use Rattle.varisat_simplify.specs.States.{State, pushed, removed, clause_at, IsLive, live_clauses, Models, Becomes}
-use Rattle.varisat_simplify.specs.Resolving.{IsFixed, LeavesOutFalse}
+use Rattle.varisat_theory.specs.promises.Membership.{◌∈◌}
+use Rattle.varisat_theory.specs.promises.Literals.{Literal, Clause, Assignment, opposite, opposites, value, Satisfies}
+use Rattle.varisat_theory.specs.promises.Propagation.{Conflicts, Follows}
+use Rattle.varisat_theory.specs.promises.Propagation.Conflicts.{FalseClause, Propagate}
+use Rattle.varisat_theory.proofs.clauses.Members.{∈-append_left, ∈-append_right, ∈-append_cases}
+use Rattle.varisat_theory.proofs.clauses.Places.{∈-take_more, ∈-take_all}
+use Rattle.varisat_theory.proofs.clauses.Values.{∈-opposites, not_both}
+use Rattle.varisat_simplify.specs.inside.States.{State, pushed, removed, clause_at, IsLive, live_clauses, Models, Becomes}
+use Rattle.varisat_simplify.specs.inside.Resolving.{IsFixed, LeavesOutFalse}
 use Rattle.varisat_simplify.proofs.LeadingLemmas.{named_at}
 use Rattle.varisat_simplify.proofs.ResolveLemmas.{none_taken, taken_before, taken_last}
 use Rattle.varisat_simplify.proofs.StateLemmas.{push_reduces, remove_reduces, pushed_new, pushed_keeps, live_below, clause_held}

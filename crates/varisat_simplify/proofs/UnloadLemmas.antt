@@ -1,16 +1,16 @@
 -- The live clauses as a formula.
 use Rattle.std.proofs.Common.{◌≡◌, ℕ, zero, suc, ◌+◌, ◌/◌, ◌<◌, ◌≤◌, Bool, true, false, List, [], ◌∷◌, ◌++◌, inl, inr, sym, ap, ◌∙◌, subst, refl, length, get_or, take, take_all, append-nil, add-one, arith}
-use Rattle.varisat_theory.specs.Membership.{◌∈◌}
+use Rattle.varisat_theory.specs.promises.Membership.{◌∈◌}
 use Rattle.std.proofs.lemmas.List.{length-append}
-use Rattle.varisat_theory.specs.Literals.{Clause}
-use Rattle.varisat_theory.specs.Derivations.{Line}
-use Rattle.varisat_theory.specs.Held.{SameClauses}
-use Rattle.varisat_theory.proofs.Held.{same_clauses_find, same_clauses-back}
-use Rattle.varisat_formula.specs.Formulas.{Formula, AllBelow, AreBelow, with_one_more}
-use Rattle.varisat_simplify.specs.Leading.{LeadsTo}
-use Rattle.varisat_simplify.specs.Stacks.{assignment_of, KeepsFrozen}
-use Rattle.varisat_simplify.specs.States.{State, flagged, clause_at, Reduces, Becomes}
-use Rattle.varisat_simplify.specs.Simplified.{Lists, Finishes, IsReduced, IsMadeOf, DerivesBehind, RefutesBehind}
+use Rattle.varisat_theory.specs.promises.Literals.{Clause}
+use Rattle.varisat_theory.specs.promises.Derivations.{Line}
+use Rattle.varisat_theory.specs.promises.Held.{SameClauses}
+use Rattle.varisat_theory.proofs.clauses.Held.{same_clauses_find, same_clauses-back}
+use Rattle.varisat_formula.specs.promises.Formulas.{Formula, AllBelow, AreBelow, with_one_more}
+use Rattle.varisat_simplify.specs.promises.Leading.{LeadsTo}
+use Rattle.varisat_simplify.specs.promises.Stacks.{assignment_of, KeepsFrozen}
+use Rattle.varisat_simplify.specs.inside.States.{State, flagged, clause_at, Reduces, Becomes}
+use Rattle.varisat_simplify.specs.promises.Simplified.{Lists, Finishes, IsReduced, IsMadeOf, DerivesBehind, RefutesBehind}
 use Rattle.varisat_simplify.proofs.StateLemmas.{clause_held, satisfies_more, satisfies_same}
 use Rattle.varisat_simplify.proofs.ExtendLemmas.{keeps_frozen}
 use Rattle.varisat_simplify.proofs.LeadingLemmas.{flagged_from, named_at, derives_behind, refutes_behind}

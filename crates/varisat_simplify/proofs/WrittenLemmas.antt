@@ -1,12 +1,12 @@
 -- Lines by number.
 use Rattle.std.proofs.Common.{◌≡◌, ℕ, ◌+◌, ◌*◌, ◌/◌, ◌%◌, ◌<◌, ◌^◌, nat_eq, not, Bool, true, false, if◌then◌else◌, List, [], ◌∷◌, ◌++◌, inl, inr, ⊎_elim, sym, ap, ◌∙◌, subst, refl, length, get_or, map, arith}
 use Rattle.std.proofs.lemmas.List.{get_or_append_left, get_or-map, map-append, length-append, length-map}
-use Rattle.varisat_theory.specs.Membership.{◌∈◌}
-use Rattle.varisat_theory.specs.Literals.{Clause}
-use Rattle.varisat_theory.specs.Derivations.{Line, Add, Delete}
-use Rattle.varisat_theory.proofs.Members.{∈-append_cases}
-use Rattle.varisat_theory.proofs.Places.{∈-get_or}
-use Rattle.varisat_simplify.specs.Written.{Written, line_at, with_clause, clause_of, is_deletion, AreWritten}
+use Rattle.varisat_theory.specs.promises.Membership.{◌∈◌}
+use Rattle.varisat_theory.specs.promises.Literals.{Clause}
+use Rattle.varisat_theory.specs.promises.Derivations.{Line, Add, Delete}
+use Rattle.varisat_theory.proofs.clauses.Members.{∈-append_cases}
+use Rattle.varisat_theory.proofs.clauses.Places.{∈-get_or}
+use Rattle.varisat_simplify.specs.inside.Written.{Written, line_at, with_clause, clause_of, is_deletion, AreWritten}
 
 -- the lines of places that are there are the same with one more clause
 lines_grown : (cs : List Clause) (c : Clause) (steps : List ℕ) → ((x : ℕ) → x ∈ steps → x / 2 < length cs) →

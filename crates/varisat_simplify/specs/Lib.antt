@@ -1,11 +1,2 @@
-pub mod Cuts
-pub mod Flags
-pub mod Leading
-pub mod Lending
-pub mod Names
-pub mod Resolving
-pub mod Simplified
-pub mod Sound
-pub mod Stacks
-pub mod States
-pub mod Written
+pub mod inside
+pub mod promises

@@ -1,6 +1,6 @@
 //! Clauses one behind the other in one buffer, none of which ever changes or leaves.
 ghost use Rattle.std.specs.Prelude.{◌≡◌, ℕ, List, ◌+◌, ◌∷◌, ◌++◌, [], ◌<◌, ◌^◌, length, IsTrue, OnOk, OnErr, slice_index_or};
-ghost use Rattle.varisat_simplify.specs.Cuts.{start_of};
+ghost use Rattle.varisat_simplify.specs.inside.Cuts.{start_of};
 
 use std::alloc::{AllocError, Allocator};
 use std::marker::Model;
@@ -18,7 +18,7 @@ pub struct ClauseList<A: Allocator + Copy> {
 
 impl<A: Allocator + Copy> Model for ClauseList<A> {
     ghost use Rattle.std.specs.Prelude.{List, ℕ, length};
-    ghost use Rattle.varisat_simplify.specs.Cuts.{cut_from, AreEnds};
+    ghost use Rattle.varisat_simplify.specs.inside.Cuts.{cut_from, AreEnds};
 
     ghost Value = { List (List ℕ) };
 

@@ -1,9 +1,9 @@
 //! The clauses of a formula that is simplified: each is added once, and is live until it is removed. They are found by their
 //! literals once all that are live then were listed.
 ghost use Rattle.std.specs.Prelude.{◌≡◌, ℕ, List, Bool, true, false, ◌+◌, ◌*◌, ◌/◌, ◌∷◌, ◌++◌, [], ◌<◌, ◌≤◌, ◌^◌, length, IsTrue, OnOk, OnErr, IfOk, IfSome, slice_index_or, slice_set};
-ghost use Rattle.varisat_theory.specs.Membership.{◌∈◌};
-ghost use Rattle.varisat_simplify.specs.States.{State, no_clauses, given, pushed, joined, removed, saved, clause_at, IsLive};
-ghost use Rattle.varisat_simplify.specs.Sound.{Grows, IsListed, AreListed};
+ghost use Rattle.varisat_theory.specs.promises.Membership.{◌∈◌};
+ghost use Rattle.varisat_simplify.specs.inside.States.{State, no_clauses, given, pushed, joined, removed, saved, clause_at, IsLive};
+ghost use Rattle.varisat_simplify.specs.inside.Sound.{Grows, IsListed, AreListed};
 
 use crate::clauses::ClauseList;
 use crate::history::History;
@@ -32,8 +32,8 @@ pub struct Database<A: Allocator + Copy> {
 }
 
 impl<A: Allocator + Copy> Model for Database<A> {
-    ghost use Rattle.varisat_simplify.specs.States.{State};
-    ghost use Rattle.varisat_simplify.specs.Sound.{IsSound};
+    ghost use Rattle.varisat_simplify.specs.inside.States.{State};
+    ghost use Rattle.varisat_simplify.specs.inside.Sound.{IsSound};
 
     ghost Value = { State };
 

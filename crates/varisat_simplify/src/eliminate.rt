@@ -1,8 +1,8 @@
 //! Variables that are resolved away.
 ghost use Rattle.std.specs.Prelude.{◌≡◌, ℕ, ◌/◌, ◌<◌, ◌≤◌, true, ◌∷◌, length, OnOk, OnErr, IfOk, IsTrue};
-ghost use Rattle.varisat_theory.specs.Membership.{◌∈◌};
-ghost use Rattle.varisat_theory.specs.Literals.{opposite, variable_of};
-ghost use Rattle.varisat_simplify.specs.States.{IsLive, IsThawed, clause_at, removed, saved, Becomes, Collects, Adds, Saves};
+ghost use Rattle.varisat_theory.specs.promises.Membership.{◌∈◌};
+ghost use Rattle.varisat_theory.specs.promises.Literals.{opposite, variable_of};
+ghost use Rattle.varisat_simplify.specs.inside.States.{IsLive, IsThawed, clause_at, removed, saved, Becomes, Collects, Adds, Saves};
 
 use crate::database::Database;
 use crate::resolve::{holds, resolve};

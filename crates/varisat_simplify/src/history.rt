@@ -1,7 +1,7 @@
 //! The clauses that there ever were, and the lines of a proof that added and deleted them.
 ghost use Rattle.std.specs.Prelude.{◌≡◌, ◌<◌, ◌≤◌, ◌^◌, true, false, [], length, slice_index_or, OnOk, OnErr};
-ghost use Rattle.varisat_theory.specs.Derivations.{Add};
-ghost use Rattle.varisat_simplify.specs.Written.{nothing, with_clause, with_deletion, clause_of, is_deletion};
+ghost use Rattle.varisat_theory.specs.promises.Derivations.{Add};
+ghost use Rattle.varisat_simplify.specs.inside.Written.{nothing, with_clause, with_deletion, clause_of, is_deletion};
 
 use crate::clauses::ClauseList;
 use std::alloc::{AllocError, Allocator};
@@ -20,7 +20,7 @@ pub struct History<A: Allocator + Copy> {
 
 impl<A: Allocator + Copy> Model for History<A> {
     ghost use Rattle.std.specs.Prelude.{map};
-    ghost use Rattle.varisat_simplify.specs.Written.{Written, line_at, AreWritten};
+    ghost use Rattle.varisat_simplify.specs.inside.Written.{Written, line_at, AreWritten};
 
     ghost Value = { Written };
 

@@ -1,5 +1,5 @@
 //! What holds of each simplification.
-ghost use Rattle.varisat_simplify.specs.Simplified.{DerivesBehind, RefutesBehind};
+ghost use Rattle.varisat_simplify.specs.promises.Simplified.{DerivesBehind, RefutesBehind};
 
 /// Behind the lines of a simplification each derivation from what it made is one from what it was made of.
 pub fn derives_behind()

@@ -1,6 +1,6 @@
 //! Short names for the variables of a formula that names few of many, so that tables stay small.
 ghost use Rattle.std.specs.Prelude.{◌≡◌};
-ghost use Rattle.varisat_simplify.specs.Names.{short_of};
+ghost use Rattle.varisat_simplify.specs.inside.Names.{short_of};
 
 use crate::database::filled;
 use std::alloc::{AllocError, Allocator};

@@ -1,8 +1,8 @@
 //! For each literal the places of clauses that have it, and of some that are gone.
 ghost use Rattle.std.specs.Prelude.{◌≡◌, ◌<◌, ◌≤◌, ◌*◌, ◌^◌, ◌-◌, ◌++◌, ◌∷◌, [], length, replicate, true, OnOk, OnErr, IfOk, slice_set, slice_index_or};
 ghost use Rattle.std.specs.List.{filter};
-ghost use Rattle.varisat_simplify.specs.Sound.{Grows, IsListed, KeepsLive};
-ghost use Rattle.varisat_simplify.specs.Flags.{is_flagged};
+ghost use Rattle.varisat_simplify.specs.inside.Sound.{Grows, IsListed, KeepsLive};
+ghost use Rattle.varisat_simplify.specs.inside.Flags.{is_flagged};
 
 use crate::lists::push_lists;
 use crate::names::ShortNames;
@@ -29,7 +29,7 @@ impl<A: Allocator + Copy> Model for Occurrences<A> {
 
 impl<A: Allocator + Copy> Occurrences<A> {
     ghost use Rattle.std.specs.Borrow.{sem};
-    ghost use Rattle.varisat_simplify.specs.Lending.{lends_places};
+    ghost use Rattle.varisat_simplify.specs.inside.Lending.{lends_places};
 
     /// No lists. It takes no memory.
     pub fn none_in(alloc: A) -> Occurrences<A> {

@@ -1,7 +1,7 @@
 //! Unit propagation before clauses are listed by their literals: passes over all of them.
 ghost use Rattle.std.specs.Prelude.{◌≡◌, OnOk, IfOk, IsTrue};
-ghost use Rattle.varisat_simplify.specs.States.{clause_at, Becomes};
-ghost use Rattle.varisat_simplify.specs.Resolving.{IsFixed, LeavesOutFalse};
+ghost use Rattle.varisat_simplify.specs.inside.States.{clause_at, Becomes};
+ghost use Rattle.varisat_simplify.specs.inside.Resolving.{IsFixed, LeavesOutFalse};
 
 use crate::database::{Database, filled};
 use crate::names::ShortNames;

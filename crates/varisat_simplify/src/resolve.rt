@@ -1,9 +1,9 @@
 //! What two clauses say of one another.
 ghost use Rattle.std.specs.Prelude.{◌≡◌, ◌↔◌, true, false, IsTrue, IfOk, OnOk, MatchBool};
-ghost use Rattle.varisat_theory.specs.Literals.{opposite};
-ghost use Rattle.varisat_theory.specs.Membership.{◌∈◌, SameSet};
-ghost use Rattle.varisat_simplify.specs.Resolving.{OccursAs, Relates, LeavesOut, Resolves, Clashes};
-ghost use Rattle.varisat_theory.specs.Searches.{IsTautology};
+ghost use Rattle.varisat_theory.specs.promises.Literals.{opposite};
+ghost use Rattle.varisat_theory.specs.promises.Membership.{◌∈◌, SameSet};
+ghost use Rattle.varisat_simplify.specs.inside.Resolving.{OccursAs, Relates, LeavesOut, Resolves, Clashes};
+ghost use Rattle.varisat_theory.specs.promises.Searches.{IsTautology};
 
 use std::alloc::{AllocError, Allocator};
 use varisat_literals::Lit;

@@ -1,11 +1,11 @@
 //! The simplification of a formula.
 ghost use Rattle.std.specs.Prelude.{◌≡◌, ℕ, ◌/◌, ◌<◌, ◌≤◌, ◌^◌, length, take, OnOk, IfOk, IfErr};
 ghost use Rattle.varisat_formula.specs.declared.formula.cnf.FormulaError.TheVariants.{Memory};
-ghost use Rattle.varisat_theory.specs.Held.{SameClauses};
-ghost use Rattle.varisat_formula.specs.Formulas.{AllBelow, AreBelow};
-ghost use Rattle.varisat_simplify.specs.States.{no_clauses, Reduces, Becomes};
-ghost use Rattle.varisat_simplify.specs.Stacks.{extended, KeepsFrozen};
-ghost use Rattle.varisat_simplify.specs.Simplified.{Lists, Finishes, IsReduced, IsMadeOf};
+ghost use Rattle.varisat_theory.specs.promises.Held.{SameClauses};
+ghost use Rattle.varisat_formula.specs.promises.Formulas.{AllBelow, AreBelow};
+ghost use Rattle.varisat_simplify.specs.inside.States.{no_clauses, Reduces, Becomes};
+ghost use Rattle.varisat_simplify.specs.promises.Stacks.{extended, KeepsFrozen};
+ghost use Rattle.varisat_simplify.specs.promises.Simplified.{Lists, Finishes, IsReduced, IsMadeOf};
 
 use crate::clauses::ClauseList;
 use crate::database::{Database, literals_in};

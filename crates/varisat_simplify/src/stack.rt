@@ -1,14 +1,14 @@
 //! How a model of what is left is extended.
 ghost use Rattle.std.specs.Prelude.{◌≡◌};
-ghost use Rattle.varisat_theory.specs.Literals.{value};
-ghost use Rattle.varisat_simplify.specs.Stacks.{assignment_of, is_satisfied, amended, extended};
+ghost use Rattle.varisat_theory.specs.promises.Literals.{value};
+ghost use Rattle.varisat_simplify.specs.promises.Stacks.{assignment_of, is_satisfied, amended, extended};
 
 use crate::clauses::ClauseList;
 use std::alloc::Allocator;
 use varisat_literals::Lit;
 
 /// Whether the literal is true. A variable out of range is false.
-#[tactic(auto, unfolding(varisat_theory::specs::Literals::value))]
+#[tactic(auto, unfolding(varisat_theory::specs::promises::Literals::value))]
 fn is_true(values: &[bool], lit: Lit) -> bool
     ensures { result ≡ value (assignment_of values.now) lit }
 {

@@ -1,7 +1,7 @@
 //! Backward subsumption: what a clause makes of the others.
 ghost use Rattle.std.specs.Prelude.{OnOk};
-ghost use Rattle.varisat_simplify.specs.States.{Becomes};
-ghost use Rattle.varisat_simplify.specs.Resolving.{Compares};
+ghost use Rattle.varisat_simplify.specs.inside.States.{Becomes};
+ghost use Rattle.varisat_simplify.specs.inside.Resolving.{Compares};
 
 use crate::database::Database;
 use crate::resolve::{Relation, relation_of, without};

@@ -1,13 +1,13 @@
 -- What the calls of a simplifier make of it, over its fields.
 use Rattle.std.proofs.Common.{◌≡◌, ◌≤◌, ◌^◌, ℕ, ℤ, pos, Bool, true, false, List, [], length, map, refl, sym, ap, subst, ◌∙◌, arith}
 use Rattle.std.specs.Prelude.{Option, Some, None, is_some, IfSome, unwrap_or}
-use Rattle.varisat_theory.specs.Membership.{◌∈◌}
-use Rattle.varisat_theory.specs.Literals.{Literal, Clause}
-use Rattle.varisat_theory.specs.Derivations.{Line}
-use Rattle.varisat_literals.specs.Numbers.{literal_numbered}
-use Rattle.varisat_formula.specs.Formulas.{Formula, AreBelow}
-use Rattle.varisat_simplify.specs.Stacks.{extended, KeepsFrozen}
-use Rattle.varisat_simplify.specs.Simplified.{IsMadeOf}
+use Rattle.varisat_theory.specs.promises.Membership.{◌∈◌}
+use Rattle.varisat_theory.specs.promises.Literals.{Literal, Clause}
+use Rattle.varisat_theory.specs.promises.Derivations.{Line}
+use Rattle.varisat_literals.specs.promises.Numbers.{literal_numbered}
+use Rattle.varisat_formula.specs.promises.Formulas.{Formula, AreBelow}
+use Rattle.varisat_simplify.specs.promises.Stacks.{extended, KeepsFrozen}
+use Rattle.varisat_simplify.specs.promises.Simplified.{IsMadeOf}
 use Rattle.varisat_simplify_calls.specs.Lists.{clause_numbers, value_numbers, model_values}
 use Rattle.varisat_simplify_calls.specs.Simplifiers.{Made, Simplifier, made_of, given_of, IsSimplified, Simplifies, Simplified, ListsClauses, Listed, Extends, Extended}
 use Rattle.varisat_simplify_calls.proofs.Extending.{length-model, length-extended, extension}

@@ -1,9 +1,9 @@
 -- Clauses and values as lists of numbers.
 use Rattle.std.specs.Prelude.{ℕ, ◌+◌, ◌/◌, ◌<◌, Bool, false, ℤ, pos, List, [], ◌∷◌, ◌++◌, length, replicate, EachIndex, slice_index}
-use Rattle.varisat_theory.specs.Literals.{Literal, Clause, literal_of}
-use Rattle.varisat_literals.specs.Numbers.{variable_limit}
+use Rattle.varisat_theory.specs.promises.Literals.{Literal, Clause, literal_of}
+use Rattle.varisat_literals.specs.promises.Numbers.{variable_limit}
 use Rattle.varisat_calls.specs.Numbers.{returned_numbers}
-use Rattle.varisat_simplify.specs.Stacks.{with_true}
+use Rattle.varisat_simplify.specs.promises.Stacks.{with_true}
 
 -- no variable is above the limit that a solver has
 abbrev pub AreInRange : List Literal → Type 0

@@ -2,13 +2,13 @@
 -- limit that a solver has, 14 where a number is none of a literal or a variable, 15 before the clauses are simplified, and 19 behind that.
 -- A call that is refused changes nothing; where memory ran out for a list, another one may be there.
 use Rattle.std.specs.Prelude.{◌≡◌, ◌≢◌, ℕ, ◌≤◌, ◌<◌, ◌^◌, ℤ, pos, ◌<ℤ◌, ◌≤ℤ◌, Bool, true, false, Option, Some, None, IsSome, List, [], length, map, slice_index_or}
-use Rattle.varisat_theory.specs.Membership.{◌∈◌}
-use Rattle.varisat_theory.specs.Literals.{Literal, Clause, SatisfiesAll, opposite}
-use Rattle.varisat_theory.specs.Derivations.{Line}
-use Rattle.varisat_literals.specs.Numbers.{literal_numbered, variable_numbered, variable_limit}
-use Rattle.varisat_formula.specs.Formulas.{Formula, no_clauses, with_one_more, AreBelow}
-use Rattle.varisat_simplify.specs.Stacks.{assignment_of, extended, KeepsFrozen}
-use Rattle.varisat_simplify.specs.Simplified.{IsMadeOf}
+use Rattle.varisat_theory.specs.promises.Membership.{◌∈◌}
+use Rattle.varisat_theory.specs.promises.Literals.{Literal, Clause, SatisfiesAll, opposite}
+use Rattle.varisat_theory.specs.promises.Derivations.{Line}
+use Rattle.varisat_literals.specs.promises.Numbers.{literal_numbered, variable_numbered, variable_limit}
+use Rattle.varisat_formula.specs.promises.Formulas.{Formula, no_clauses, with_one_more, AreBelow}
+use Rattle.varisat_simplify.specs.promises.Stacks.{assignment_of, extended, KeepsFrozen}
+use Rattle.varisat_simplify.specs.promises.Simplified.{IsMadeOf}
 use Rattle.varisat_simplify_calls.specs.Lists.{AreInRange, clause_numbers, value_numbers, model_values}
 
 -- the clauses that are left, and the stack that extends their models

@@ -1,6 +1,6 @@
 //! Lists of numbers: those of clauses, of flags and of values.
 ghost use Rattle.std.specs.Prelude.{◌≡◌, ◌≢◌, ◌<◌, ◌≤◌, ◌^◌, ◌/◌, ◌++◌, ◌∷◌, ◌↔◌, ℕ, [], pos, false, true, length, IsTrue, EachIndex, slice_index, slice_index_or, OnOk, OnErr, IfOk};
-ghost use Rattle.varisat_literals.specs.Numbers.{variable_limit};
+ghost use Rattle.varisat_literals.specs.promises.Numbers.{variable_limit};
 ghost use Rattle.varisat_calls.specs.Numbers.{returned_numbers};
 ghost use Rattle.varisat_simplify_calls.specs.Lists.{AreInRange, clause_numbers, literals_from, value_numbers, with_all_true, model_values};
 

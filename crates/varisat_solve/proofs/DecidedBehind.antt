@@ -1,33 +1,33 @@
 -- What a new solver concludes of the clauses that a text's formula was made into, as a conclusion for the text.
 use Rattle.std.proofs.Common.{◌≡◌, ℕ, ◌^◌, ◌<◌, List, [], ◌∷◌, Bool, true, false, refl, sym, ap, ◌∙◌, subst, length, inl, inr, arith, Option, Some, None, Ok, Err}
-use Rattle.varisat_theory.specs.Membership.{◌∈◌}
-use Rattle.varisat_theory.specs.Literals.{Literal, Clause}
-use Rattle.varisat_theory.specs.Derivations.{Line}
-use Rattle.varisat_literals.specs.Numbers.{variable_limit}
-use Rattle.varisat_formula.specs.Dimacs.{Reading, dimacs}
-use Rattle.varisat_formula.specs.Formulas.{Formula, AllBelow, AreBelow}
-use Rattle.varisat_formula.specs.Parsed.{Parses, Whole}
-use Rattle.varisat_formula.specs.Streams.{Input, Taken}
-use Rattle.varisat_formula.specs.Written.{formula_text}
+use Rattle.varisat_theory.specs.promises.Membership.{◌∈◌}
+use Rattle.varisat_theory.specs.promises.Literals.{Literal, Clause}
+use Rattle.varisat_theory.specs.promises.Derivations.{Line}
+use Rattle.varisat_literals.specs.promises.Numbers.{variable_limit}
+use Rattle.varisat_formula.specs.promises.Dimacs.{Reading, dimacs}
+use Rattle.varisat_formula.specs.promises.Formulas.{Formula, AllBelow, AreBelow}
+use Rattle.varisat_formula.specs.promises.Parsed.{Parses, Whole}
+use Rattle.varisat_formula.specs.promises.Streams.{Input, Taken}
+use Rattle.varisat_formula.specs.promises.Written.{formula_text}
 use Rattle.varisat_formula.proofs.ParsedSources.{gives_whole}
 use Rattle.varisat_formula.proofs.WrittenTexts.{reads_back}
 use Rattle.varisat_proof.specs.declared.proof.format.ProofFormat.{ProofFormat}
-use Rattle.varisat_proof.specs.Lines.{has_marks}
-use Rattle.varisat_proof.specs.Proving.{OpenState, IsClosed}
-use Rattle.varisat_simplify.specs.Simplified.{IsMadeOf}
-use Rattle.varisat_solver.specs.States.{State}
-use Rattle.varisat_solver.specs.Additions.{AddsAll, AllAdded, OneRefused, RefusedAtOnce, Read, ClausesAdded, NoFault}
-use Rattle.varisat_solver.specs.Calls.{by_state}
-use Rattle.varisat_solver.specs.ClauseCalls.{AddsFormula, AddsDimacs}
-use Rattle.varisat_solver.specs.OpenProofs.{opened_state}
-use Rattle.varisat_solver.specs.ProofCalls.{IsProofIfOpen}
-use Rattle.varisat.specs.Decided.{Conclusion, IsConclusion, allowed_steps}
-use Rattle.varisat.specs.Proven.{prepared, Concludes, Reports, IsProvenIf, DecidesProven}
+use Rattle.varisat_proof.specs.promises.Lines.{has_marks}
+use Rattle.varisat_proof.specs.promises.Proving.{OpenState, IsClosed}
+use Rattle.varisat_simplify.specs.promises.Simplified.{IsMadeOf}
+use Rattle.varisat_solver.specs.promises.States.{State}
+use Rattle.varisat_solver.specs.promises.Additions.{AddsAll, AllAdded, OneRefused, RefusedAtOnce, Read, ClausesAdded, NoFault}
+use Rattle.varisat_solver.specs.promises.Calls.{by_state}
+use Rattle.varisat_solver.specs.promises.ClauseCalls.{AddsFormula, AddsDimacs}
+use Rattle.varisat_solver.specs.promises.OpenProofs.{opened_state}
+use Rattle.varisat_solver.specs.promises.ProofCalls.{IsProofIfOpen}
+use Rattle.varisat.specs.promises.Decided.{Conclusion, IsConclusion, allowed_steps}
+use Rattle.varisat.specs.promises.Proven.{prepared, Concludes, Reports, IsProvenIf, DecidesProven}
 use Rattle.varisat_solver.specs.declared.solver.SolverError.{SolverError}
 use Rattle.varisat_solver.specs.declared.solver.SolverError.TheVariants.{Interrupted, ProofIoError, OutOfMemory, Invalid, ClauseStoreFull, WitnessVar, VariableLimit, AssumedVar, ClauseAfterSolve, ProofOpen, ProofTooLate, ConfigOutOfRange, Dimacs}
 use Rattle.varisat.proofs.ProgramProves.{proven}
-use Rattle.varisat_solve.specs.Extending.{named_count, conclusion_of_all}
-use Rattle.varisat_solve.specs.Solving.{TakesLead, AreLow, Concluded, FailsOver, AsSearched, AsListed}
+use Rattle.varisat_solve.specs.inside.Extending.{named_count, conclusion_of_all}
+use Rattle.varisat_solve.specs.promises.Solving.{TakesLead, AreLow, Concluded, FailsOver, AsSearched, AsListed}
 use Rattle.varisat_solve.proofs.TextLiterals.{text-low}
 use Rattle.varisat_solve.proofs.LeadBehind.{proven-behind}
 use Rattle.varisat_solve.proofs.ExtendedModels.{concludes-all, none-of-all}

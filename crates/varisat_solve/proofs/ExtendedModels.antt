@@ -1,21 +1,21 @@
 -- A model of what a formula was made into is extended to one of the formula.
 use Rattle.std.proofs.Common.{◌≡◌, ℕ, zero, suc, ◌+◌, ◌*◌, ◌/◌, ◌%◌, ◌^◌, ◌<◌, ◌≤◌, max, List, [], ◌∷◌, map, Bool, true, false, not, nat_eq, if◌then◌else◌, refl, sym, ap, ◌∙◌, subst, ◌⊎◌, inl, inr, ⊎_elim, length, set, get_or, replicate, arith, Some, None}
 use Rattle.std.proofs.Math.Pow.{pow_mono}
-use Rattle.varisat_theory.specs.Membership.{◌∈◌, IsDistinct}
-use Rattle.varisat_theory.specs.Literals.{Literal, Clause, Assignment, variable_of, literal_of, opposite, value, SatisfiesAll, MakesTrue}
-use Rattle.varisat_theory.proofs.Count.{length-distinct}
-use Rattle.varisat_theory.proofs.Values.{parity, not_both}
-use Rattle.varisat_formula.specs.Formulas.{Formula, variables_of, AreBelow}
+use Rattle.varisat_theory.specs.promises.Membership.{◌∈◌, IsDistinct}
+use Rattle.varisat_theory.specs.promises.Literals.{Literal, Clause, Assignment, variable_of, literal_of, opposite, value, SatisfiesAll, MakesTrue}
+use Rattle.varisat_theory.proofs.bounds.Count.{length-distinct}
+use Rattle.varisat_theory.proofs.clauses.Values.{parity, not_both}
+use Rattle.varisat_formula.specs.promises.Formulas.{Formula, variables_of, AreBelow}
 use Rattle.varisat_formula.proofs.FormulaBuffers.{below_variables}
-use Rattle.varisat_simplify.specs.Stacks.{assignment_of, is_satisfied, with_true, amended, extended}
-use Rattle.varisat_simplify.specs.Simplified.{IsMadeOf}
+use Rattle.varisat_simplify.specs.promises.Stacks.{assignment_of, is_satisfied, with_true, amended, extended}
+use Rattle.varisat_simplify.specs.promises.Simplified.{IsMadeOf}
 use Rattle.varisat_simplify.proofs.ExtendLemmas.{stays_true}
 use Rattle.varisat_simplify.proofs.ExtendLemmas as extending
-use Rattle.varisat_solver.specs.States.{join_counted}
-use Rattle.varisat_solver.specs.Models.{IsRising}
-use Rattle.varisat.specs.Decided.{IsUpToHighest, IsModel, named_variables, Conclusion, Decided, Unknown, IsConclusion}
-use Rattle.varisat_solver.proofs.Counted.{join-more, join-has, join-only, join-once}
-use Rattle.varisat_solve.specs.Extending.{named_count, made_true, literals_from, model_of_all, conclusion_of_all}
+use Rattle.varisat_solver.specs.promises.States.{join_counted}
+use Rattle.varisat_solver.specs.promises.Models.{IsRising}
+use Rattle.varisat.specs.promises.Decided.{IsUpToHighest, IsModel, named_variables, Conclusion, Decided, Unknown, IsConclusion}
+use Rattle.varisat_solver.proofs.calls.Counted.{join-more, join-has, join-only, join-once}
+use Rattle.varisat_solve.specs.inside.Extending.{named_count, made_true, literals_from, model_of_all, conclusion_of_all}
 
 -- 1. Lists of values.
 length-set : (xs : List Bool) (i : ℕ) (x : Bool) → length (set xs i x) ≡ length xs

@@ -2,37 +2,37 @@
 use Rattle.std.proofs.Common.{◌≡◌, ◌^◌, ◌<◌, List, [], ◌∷◌, ◌++◌, true, false, refl, sym, ap, ◌∙◌, subst, append_assoc, ◌⊎◌, inl, inr, ⊎_elim, None}
 use Rattle.std.proofs.lemmas.List.{append-nil, map-append}
 use Rattle.std.specs.Prelude.{length}
-use Rattle.varisat_theory.specs.Membership.{◌∈◌}
-use Rattle.varisat_theory.specs.Literals.{Clause}
-use Rattle.varisat_theory.specs.Propagation.{Conflicts}
-use Rattle.varisat_theory.specs.Derivations.{Line, Add, Delete, Derives, IsDerivation, Refutes, SpeakOf}
-use Rattle.varisat_theory.specs.Held.{SameClauses}
-use Rattle.varisat_theory.specs.Journals.{Entry, Accepts, Writes, Assumes, Fails, Retires, Leads, lines_of, accepted_of, NoneRetires, written}
-use Rattle.varisat_theory.proofs.Members.{∈-append_cases, ∈-append_right}
-use Rattle.varisat_theory.proofs.Growth.{conflicts_more, covered_by_more}
-use Rattle.varisat_theory.proofs.Held.{same_set-self, same_clauses-self, same_clauses-back, same_clauses-through, conflicts_same}
-use Rattle.varisat_theory.proofs.Lines.{derives_append, derives_beside, derives_same, same_lines-self}
-use Rattle.varisat_theory.proofs.Journals.{leads_derives, written_lines, written_accepts, written_stays}
-use Rattle.varisat_theory.proofs.Spoken.{spoken_wider}
-use Rattle.varisat_formula.specs.Formulas.{Formula, with_one_more}
-use Rattle.varisat_formula.specs.Streams.{Taken}
+use Rattle.varisat_theory.specs.promises.Membership.{◌∈◌}
+use Rattle.varisat_theory.specs.promises.Literals.{Clause}
+use Rattle.varisat_theory.specs.promises.Propagation.{Conflicts}
+use Rattle.varisat_theory.specs.promises.Derivations.{Line, Add, Delete, Derives, IsDerivation, Refutes, SpeakOf}
+use Rattle.varisat_theory.specs.promises.Held.{SameClauses}
+use Rattle.varisat_theory.specs.promises.Journals.{Entry, Accepts, Writes, Assumes, Fails, Retires, Leads, lines_of, accepted_of, NoneRetires, written}
+use Rattle.varisat_theory.proofs.clauses.Members.{∈-append_cases, ∈-append_right}
+use Rattle.varisat_theory.proofs.clauses.Growth.{conflicts_more, covered_by_more}
+use Rattle.varisat_theory.proofs.clauses.Held.{same_set-self, same_clauses-self, same_clauses-back, same_clauses-through, conflicts_same}
+use Rattle.varisat_theory.proofs.clauses.Lines.{derives_append, derives_beside, derives_same, same_lines-self}
+use Rattle.varisat_theory.proofs.journals.Journals.{leads_derives, written_lines, written_accepts, written_stays}
+use Rattle.varisat_theory.proofs.journals.Spoken.{spoken_wider}
+use Rattle.varisat_formula.specs.promises.Formulas.{Formula, with_one_more}
+use Rattle.varisat_formula.specs.promises.Streams.{Taken}
 use Rattle.varisat_proof.specs.declared.proof.format.ProofFormat.{ProofFormat}
 use Rattle.varisat_proof.specs.declared.proof.format.ProofFormat.TheVariants.{Drat, BinaryDrat, Marked}
 use Rattle.varisat_proof.specs.declared.proof.format.Encoding.{Encoding}
 use Rattle.varisat_proof.specs.declared.proof.format.Encoding.TheVariants.{Text}
-use Rattle.varisat_proof.specs.Assumed.{CoresAreAssumed, assumed_behind}
-use Rattle.varisat_proof.specs.Lines.{ProofLine, encoding_of, plain_line, plain_lines, has_marks}
-use Rattle.varisat_proof.specs.Marked.{MarkedLog, ProofState, state_of, nothing_logged, TakesAll}
-use Rattle.varisat_proof.specs.Steps.{lines_written}
-use Rattle.varisat_proof.specs.Logging.{logged_lines, logged_bytes}
-use Rattle.varisat_proof.specs.Written.{AreInRange, line_written}
+use Rattle.varisat_proof.specs.promises.Assumed.{CoresAreAssumed, assumed_behind}
+use Rattle.varisat_proof.specs.promises.Lines.{ProofLine, encoding_of, plain_line, plain_lines, has_marks}
+use Rattle.varisat_proof.specs.promises.Marked.{MarkedLog, ProofState, state_of, nothing_logged, TakesAll}
+use Rattle.varisat_proof.specs.promises.Steps.{lines_written}
+use Rattle.varisat_proof.specs.promises.Logging.{logged_lines, logged_bytes}
+use Rattle.varisat_proof.specs.promises.Written.{AreInRange, line_written}
 use Rattle.varisat_proof.proofs.MarkedJournals.{journal_taken}
-use Rattle.varisat_simplify.specs.Leading.{LeadsTo, IsNamedBy}
-use Rattle.varisat_simplify.specs.Simplified.{IsMadeOf}
+use Rattle.varisat_simplify.specs.promises.Leading.{LeadsTo, IsNamedBy}
+use Rattle.varisat_simplify.specs.promises.Simplified.{IsMadeOf}
 use Rattle.varisat_simplify.proofs.LeadingLemmas.{derives_behind, refutes_behind}
-use Rattle.varisat.specs.Decided.{Conclusion, Decided}
-use Rattle.varisat.specs.Proven.{IsProven}
-use Rattle.varisat_solve.specs.Solving.{AreLow}
+use Rattle.varisat.specs.promises.Decided.{Conclusion, Decided}
+use Rattle.varisat.specs.promises.Proven.{IsProven}
+use Rattle.varisat_solve.specs.promises.Solving.{AreLow}
 
 -- 1. The clauses of a formula and lines, as entries.
 abbrev pub own : List Clause → List Line → List Entry

@@ -1,14 +1,14 @@
 -- The bytes of lines that are written one after the other.
 use Rattle.std.proofs.Common.{◌≡◌, ℕ, zero, suc, ◌+◌, ◌<◌, ◌≤◌, List, [], ◌∷◌, ◌++◌, length, get_or, take, drop, Err, ap, ◌∙◌, append_assoc, append-nil, take_all, arith}
-use Rattle.varisat_theory.specs.Derivations.{Line, Add}
-use Rattle.varisat_formula.specs.Streams.{Taken}
+use Rattle.varisat_theory.specs.promises.Derivations.{Line, Add}
+use Rattle.varisat_formula.specs.promises.Streams.{Taken}
 use Rattle.varisat_formula.proofs.TargetParts.{begun_part}
 use Rattle.varisat_proof.specs.declared.proof.format.Encoding.{Encoding}
 use Rattle.varisat_proof.specs.declared.proof.writer.WriteError.{WriteError}
 use Rattle.varisat_proof.specs.declared.proof.writer.WriteError.TheVariants.{Memory, Target}
-use Rattle.varisat_proof.specs.Lines.{plain_line, plain_lines}
-use Rattle.varisat_proof.specs.Steps.{lines_written, PutsLines}
-use Rattle.varisat_proof.specs.Written.{line_written}
+use Rattle.varisat_proof.specs.promises.Lines.{plain_line, plain_lines}
+use Rattle.varisat_proof.specs.promises.Steps.{lines_written, PutsLines}
+use Rattle.varisat_proof.specs.promises.Written.{line_written}
 
 split-lines : (e : Encoding) (ls : List Line) (i : ℕ) (l : Line) → i < length ls → l ≡ get_or ls i (Add []) →
     lines_written e (plain_lines (take i ls)) ++ (lines_written e (plain_line l ∷ []) ++ lines_written e (plain_lines (drop (suc i) ls)))

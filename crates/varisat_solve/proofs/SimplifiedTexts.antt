@@ -1,19 +1,19 @@
 -- A text whose formula was simplified: what is decided of it, and how that fails.
 use Rattle.std.proofs.Common.{◌≡◌, ℕ, ◌∙◌, ap, subst, List, false, Option, Some, Ok}
-use Rattle.varisat_theory.specs.Literals.{Literal, Clause}
-use Rattle.varisat_theory.specs.Derivations.{Line}
-use Rattle.varisat_formula.specs.Formulas.{Formula}
-use Rattle.varisat_formula.specs.Parsed.{Parses}
-use Rattle.varisat_formula.specs.Streams.{Input, Taken}
-use Rattle.varisat_proof.specs.Lines.{has_marks}
-use Rattle.varisat_simplify.specs.Simplified.{IsMadeOf}
-use Rattle.varisat.specs.Decided.{Conclusion, Decided, IsConclusion, allowed_steps}
-use Rattle.varisat.specs.Proven.{DecidesBy}
+use Rattle.varisat_theory.specs.promises.Literals.{Literal, Clause}
+use Rattle.varisat_theory.specs.promises.Derivations.{Line}
+use Rattle.varisat_formula.specs.promises.Formulas.{Formula}
+use Rattle.varisat_formula.specs.promises.Parsed.{Parses}
+use Rattle.varisat_formula.specs.promises.Streams.{Input, Taken}
+use Rattle.varisat_proof.specs.promises.Lines.{has_marks}
+use Rattle.varisat_simplify.specs.promises.Simplified.{IsMadeOf}
+use Rattle.varisat.specs.promises.Decided.{Conclusion, Decided, IsConclusion, allowed_steps}
+use Rattle.varisat.specs.promises.Proven.{DecidesBy}
 use Rattle.varisat.specs.declared.deciding.SolveOptions.{SolveOptions}
 use Rattle.varisat_solver.specs.declared.solver.SolverError.{SolverError}
 use Rattle.varisat_solver.specs.declared.solver.SolverError.TheVariants.{OutOfMemory}
-use Rattle.varisat_solve.specs.Extending.{named_count, conclusion_of_all}
-use Rattle.varisat_solve.specs.Solving.{AreLow, Made, TakesLead, Concluded, FailsSimplified, AsExtended}
+use Rattle.varisat_solve.specs.inside.Extending.{named_count, conclusion_of_all}
+use Rattle.varisat_solve.specs.promises.Solving.{AreLow, Made, TakesLead, Concluded, FailsSimplified, AsExtended}
 use Rattle.varisat_solve.proofs.DecidedBehind.{parsed-low, made-low, decides-text}
 
 pub low-made : (old new : Input) (f g : Formula) (stack : List Clause) (lines : List Line) → Parses old (Ok f) new → IsMadeOf f g stack lines →

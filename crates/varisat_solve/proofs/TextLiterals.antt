@@ -1,9 +1,9 @@
 -- The literals of a text's clauses are below the limit.
 use Rattle.std.proofs.Common.{◌≡◌, ℕ, zero, suc, ◌+◌, ◌-◌, ◌/◌, ◌^◌, ◌<◌, ◌≤◌, List, [], ◌∷◌, ◌++◌, Bool, true, false, ◌==◌, nat_lt, if◌then◌else◌, refl, sym, subst, max, ◌⊎◌, ⊎_elim, arith, rules, Option, Some, None}
-use Rattle.varisat_theory.specs.Literals.{Literal, Clause, literal_of}
-use Rattle.varisat_theory.specs.Membership.{◌∈◌}
-use Rattle.varisat_theory.proofs.Members.{∈-append_cases}
-use Rattle.varisat_literals.specs.Numbers.{variable_limit}
+use Rattle.varisat_theory.specs.promises.Literals.{Literal, Clause, literal_of}
+use Rattle.varisat_theory.specs.promises.Membership.{◌∈◌}
+use Rattle.varisat_theory.proofs.clauses.Members.{∈-append_cases}
+use Rattle.varisat_literals.specs.promises.Numbers.{variable_limit}
 use Rattle.varisat_formula.specs.declared.dimacs.token.Meaning.{Meaning}
 use Rattle.varisat_formula.specs.declared.dimacs.token.Meaning.TheVariants as meant
 use Rattle.varisat_formula.specs.declared.dimacs.header.Heading.{Heading}
@@ -11,8 +11,8 @@ use Rattle.varisat_formula.specs.declared.dimacs.header.Heading.TheVariants.{Mal
 use Rattle.varisat_formula.specs.declared.dimacs.error.DimacsErrorKind.{DimacsErrorKind}
 use Rattle.varisat_formula.specs.declared.dimacs.error.DimacsErrorKind.TheVariants.{ClauseCount, VarCount, UnterminatedClause}
 use Rattle.varisat_formula.specs.declared.dimacs.error.DimacsError.{DimacsError}
-use Rattle.varisat_formula.specs.Dimacs.{in_range, positive, negative, number, meaning, Item, Header, Token, header_items, header_of, token_items, tokens, line_items, items, next, Reading, nothing, failed, is_one_too_many, is_above, after_token, is_started, after_header, after, step_by, step, read, is_short, at_end, close_by, Ends, lines, last_line, dimacs}
-use Rattle.varisat_solve.specs.Solving.{AreLow}
+use Rattle.varisat_formula.specs.promises.Dimacs.{in_range, positive, negative, number, meaning, Item, Header, Token, header_items, header_of, token_items, tokens, line_items, items, next, Reading, nothing, failed, is_one_too_many, is_above, after_token, is_started, after_header, after, step_by, step, read, is_short, at_end, close_by, Ends, lines, last_line, dimacs}
+use Rattle.varisat_solve.specs.promises.Solving.{AreLow}
 
 -- each literal is below the limit
 abbrev IsLow : List Literal → Type 0

@@ -1,2 +1,2 @@
-pub mod Extending
-pub mod Solving
+pub mod inside
+pub mod promises

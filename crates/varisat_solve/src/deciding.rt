@@ -1,13 +1,13 @@
 //! How a text is decided whose formula is simplified first.
 ghost use Rattle.std.specs.Prelude.{◌≡◌, ◌-◌, ◌^◌, ◌<◌, ◌≤◌, ℕ, List, length, true, false, Some, Ok, Err, IfOk, IfErr, IsSome};
-ghost use Rattle.varisat_proof.specs.Lines.{has_marks};
-ghost use Rattle.varisat_simplify.specs.Simplified.{IsMadeOf};
-ghost use Rattle.varisat_solver.specs.States.{new_state};
-ghost use Rattle.varisat_solver.specs.Summaries.{Represents};
-ghost use Rattle.varisat.specs.Decided.{Decided, concluded, allowed_steps};
-ghost use Rattle.varisat.specs.Proven.{CanCountFault, prepared, DecidesBy};
-ghost use Rattle.varisat_solve.specs.Extending.{conclusion_of_all};
-ghost use Rattle.varisat_solve.specs.Solving.{AreLow, Concluded, IsRefusedText, line_refusal, TakesLead, FailsOver, FailsSimplified, FailsFirst};
+ghost use Rattle.varisat_proof.specs.promises.Lines.{has_marks};
+ghost use Rattle.varisat_simplify.specs.promises.Simplified.{IsMadeOf};
+ghost use Rattle.varisat_solver.specs.promises.States.{new_state};
+ghost use Rattle.varisat_solver.specs.promises.Summaries.{Represents};
+ghost use Rattle.varisat.specs.promises.Decided.{Decided, concluded, allowed_steps};
+ghost use Rattle.varisat.specs.promises.Proven.{CanCountFault, prepared, DecidesBy};
+ghost use Rattle.varisat_solve.specs.inside.Extending.{conclusion_of_all};
+ghost use Rattle.varisat_solve.specs.promises.Solving.{AreLow, Concluded, IsRefusedText, line_refusal, TakesLead, FailsOver, FailsSimplified, FailsFirst};
 
 use crate::lines::write_history;
 use crate::models::{extend_model, named_count};

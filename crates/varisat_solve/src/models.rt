@@ -1,8 +1,8 @@
 //! Models of what a formula was made into, as models of the formula.
 ghost use Rattle.std.specs.Prelude.{◌≡◌, ◌≤◌, ◌^◌, IfOk, max, replicate, false, length};
-ghost use Rattle.varisat_formula.specs.Formulas.{variables_of};
-ghost use Rattle.varisat_simplify.specs.Stacks.{with_true};
-ghost use Rattle.varisat_solve.specs.Extending.{named_count, made_true, literals_from, model_of_all};
+ghost use Rattle.varisat_formula.specs.promises.Formulas.{variables_of};
+ghost use Rattle.varisat_simplify.specs.promises.Stacks.{with_true};
+ghost use Rattle.varisat_solve.specs.inside.Extending.{named_count, made_true, literals_from, model_of_all};
 
 use std::alloc::{AllocError, Allocator};
 use varisat::{CnfFormula, Lit};

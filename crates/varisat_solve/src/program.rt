@@ -1,8 +1,8 @@
 //! What `solve` prints, and its status.
 ghost use Rattle.std.specs.Prelude.{◌≡◌, ◌-◌, ◌^◌, ◌<◌};
-ghost use Rattle.varisat.specs.Decided.{StatusIsTrue};
-ghost use Rattle.varisat.specs.Proven.{CanCountFault};
-ghost use Rattle.varisat_solve.specs.Solving.{SolvesFirst};
+ghost use Rattle.varisat.specs.promises.Decided.{StatusIsTrue};
+ghost use Rattle.varisat.specs.promises.Proven.{CanCountFault};
+ghost use Rattle.varisat_solve.specs.promises.Solving.{SolvesFirst};
 
 pub use crate::deciding::ProgramOptions;
 use crate::deciding::decide;

@@ -1,19 +1,19 @@
 //! What an accepted clause and a list of assumptions bring: their names, the solver variables of these, and the clause
 //! or the list itself.
 ghost use Rattle.std.specs.Prelude.{◌≡◌, ◌≢◌, ◌<◌, ◌∷◌, [], Some, false, OnOk, IfErr};
-ghost use Rattle.varisat_theory.specs.Membership.{◌∈◌};
-ghost use Rattle.varisat_theory.specs.Literals.{Literal, variable_of};
-ghost use Rattle.varisat_names.specs.VarData.{data_at};
-ghost use Rattle.varisat_names.specs.VarMap.{at};
+ghost use Rattle.varisat_theory.specs.promises.Membership.{◌∈◌};
+ghost use Rattle.varisat_theory.specs.promises.Literals.{Literal, variable_of};
+ghost use Rattle.varisat_names.specs.promises.VarData.{data_at};
+ghost use Rattle.varisat_names.specs.promises.VarMap.{at};
 ghost use Rattle.varisat_search.specs.Contexts.{IsNotUnsat, KeepsSchedule};
-ghost use Rattle.varisat_solver.specs.Accepted.{KeepsValidity, IsWithinIdentities, RepresentsOnceAccepted, RepresentsOnceAssumed};
-ghost use Rattle.varisat_theory.specs.Journals.{Accepts, Assumes};
-ghost use Rattle.varisat_tracer.specs.Tracing.{tracer_state, TakesGlobally, BreaksProof, CanLog};
+ghost use Rattle.varisat_solver.specs.inside.Accepted.{KeepsValidity, IsWithinIdentities, RepresentsOnceAccepted, RepresentsOnceAssumed};
+ghost use Rattle.varisat_theory.specs.promises.Journals.{Accepts, Assumes};
+ghost use Rattle.varisat_tracer.specs.inside.Tracing.{tracer_state, TakesGlobally, BreaksProof, CanLog};
 ghost use Rattle.varisat_search.specs.StepErrors.{step_faults, HasNoRoom};
-ghost use Rattle.varisat_solver.specs.Spaces.{FitSome};
-ghost use Rattle.varisat_solver.specs.Summaries.{spaces_with, IsValidSolver};
-ghost use Rattle.varisat_solver.specs.Searches.{LogsSome};
-ghost use Rattle.varisat_solver.specs.Accepting.{CanBeNamed, HasNames, AreJoined, AreMarked};
+ghost use Rattle.varisat_solver.specs.inside.Spaces.{FitSome};
+ghost use Rattle.varisat_solver.specs.promises.Summaries.{spaces_with, IsValidSolver};
+ghost use Rattle.varisat_solver.specs.inside.Searches.{LogsSome};
+ghost use Rattle.varisat_solver.specs.inside.Accepting.{CanBeNamed, HasNames, AreJoined, AreMarked};
 
 use std::alloc::Allocator;
 use varisat_formula::io::ProofTarget;

@@ -1,10 +1,10 @@
 //! Literals over other variables.
 ghost use Rattle.std.specs.Prelude.{◌≡◌, ℕ, Some, map, OnOk};
-ghost use Rattle.varisat_theory.specs.Membership.{◌∈◌};
-ghost use Rattle.varisat_theory.specs.Literals.{Literal, variable_of};
-ghost use Rattle.varisat_names.specs.Maps.{chain};
-ghost use Rattle.varisat_names.specs.VarMap.{at};
-ghost use Rattle.varisat_tracer.specs.Carried.{carry};
+ghost use Rattle.varisat_theory.specs.promises.Membership.{◌∈◌};
+ghost use Rattle.varisat_theory.specs.promises.Literals.{Literal, variable_of};
+ghost use Rattle.varisat_names.specs.promises.Maps.{chain};
+ghost use Rattle.varisat_names.specs.promises.VarMap.{at};
+ghost use Rattle.varisat_tracer.specs.promises.Carried.{carry};
 
 use std::alloc::{AllocError, Allocator};
 use varisat_literals::Lit;

@@ -2,20 +2,20 @@
 //! and hidden ones that no kept clause names. Fixed values are kept for the model and for clauses to come, and what
 //! stands for hidden variables may be used again.
 ghost use Rattle.std.specs.Prelude.{◌≡◌, ◌≢◌, ℕ, ◌<◌, ◌≤◌, false, List, length, map, IsSome, OnOk, IfOk, IfErr};
-ghost use Rattle.varisat_theory.specs.Membership.{◌∈◌, IsDistinct};
-ghost use Rattle.varisat_theory.specs.Literals.{Literal, variable_of};
-ghost use Rattle.varisat_literals.specs.Numbers.{variable_limit};
-ghost use Rattle.varisat_names.specs.VarMap.{at};
+ghost use Rattle.varisat_theory.specs.promises.Membership.{◌∈◌, IsDistinct};
+ghost use Rattle.varisat_theory.specs.promises.Literals.{Literal, variable_of};
+ghost use Rattle.varisat_literals.specs.promises.Numbers.{variable_limit};
+ghost use Rattle.varisat_names.specs.promises.VarMap.{at};
 ghost use Rattle.varisat_search.specs.Contexts.{view, KeepsSchedule};
 ghost use Rattle.varisat_search.specs.RootSimplified.{IsRootSimplified};
-ghost use Rattle.varisat_solver.specs.SinceChange.{GoesOnWithin};
-ghost use Rattle.varisat_solver.specs.Accepting.{AreBounded};
-ghost use Rattle.varisat_solver.specs.Searches.{LogsSome, Turn, ComesOnUndecided};
-ghost use Rattle.varisat_tracer.specs.Tracing.{tracer_state, open_parts, BreaksProof, CanLog};
+ghost use Rattle.varisat_solver.specs.inside.SinceChange.{GoesOnWithin};
+ghost use Rattle.varisat_solver.specs.inside.Accepting.{AreBounded};
+ghost use Rattle.varisat_solver.specs.inside.Searches.{LogsSome, Turn, ComesOnUndecided};
+ghost use Rattle.varisat_tracer.specs.inside.Tracing.{tracer_state, open_parts, BreaksProof, CanLog};
 ghost use Rattle.varisat_search.specs.StepErrors.{step_faults};
-ghost use Rattle.varisat_solver.specs.Spaces.{FitSome};
-ghost use Rattle.varisat_solver.specs.Summaries.{undecided_spaces, IsValidSolver};
-ghost use Rattle.varisat_solver.specs.Detaching.{leads_to_unassumed, unassumed_among, AreOverAssumed, DetachesInTime, IsCalm, HasDetached, FlagsVariables, LosesSolverVar, AreDetachedAlone, leads_to_hidden, ListsUnneeded, AreDetached, HasOnlyNeeded, DetachesWhereNews, DetachesFromTables, Detaches};
+ghost use Rattle.varisat_solver.specs.inside.Spaces.{FitSome};
+ghost use Rattle.varisat_solver.specs.promises.Summaries.{undecided_spaces, IsValidSolver};
+ghost use Rattle.varisat_solver.specs.promises.Detaching.{leads_to_unassumed, unassumed_among, AreOverAssumed, DetachesInTime, IsCalm, HasDetached, FlagsVariables, LosesSolverVar, AreDetachedAlone, leads_to_hidden, ListsUnneeded, AreDetached, HasOnlyNeeded, DetachesWhereNews, DetachesFromTables, Detaches};
 
 use std::alloc::{AllocError, Allocator};
 use varisat_formula::io::ProofTarget;

@@ -1,10 +1,10 @@
 //! What a call finds out of the names that it is given, before anything changes.
 ghost use Rattle.std.specs.Prelude.{◌≡◌, ◌≢◌, ◌+◌, ◌-◌, MatchBool, MatchOption};
-ghost use Rattle.varisat_theory.specs.Membership.{◌∈◌};
-ghost use Rattle.varisat_theory.specs.Literals.{Literal, variable_of};
-ghost use Rattle.varisat_solver.specs.Names.{name_all, IsWitness, NameNoWitness, IsFirstWitness, IsNextWitness};
-ghost use Rattle.varisat_solver.specs.Calls.{IsPastLimit, IsCrowded};
-ghost use Rattle.varisat_solver.specs.Accepting.{AreBounded, naming_of, ComesAlone, CountsAlone, CanBeNamed, ChecksNames};
+ghost use Rattle.varisat_theory.specs.promises.Membership.{◌∈◌};
+ghost use Rattle.varisat_theory.specs.promises.Literals.{Literal, variable_of};
+ghost use Rattle.varisat_solver.specs.promises.Names.{name_all, IsWitness, NameNoWitness, IsFirstWitness, IsNextWitness};
+ghost use Rattle.varisat_solver.specs.promises.Calls.{IsPastLimit, IsCrowded};
+ghost use Rattle.varisat_solver.specs.inside.Accepting.{AreBounded, naming_of, ComesAlone, CountsAlone, CanBeNamed, ChecksNames};
 
 use crate::solver::SolverError;
 use std::alloc::Allocator;

@@ -1,8 +1,8 @@
 //! The solver, and the calls that a user makes.
 ghost use Rattle.std.specs.Prelude.{◌≡◌, ◌<◌, length, IfOk};
-ghost use Rattle.varisat_solver.specs.Accepting.{AreBounded};
-ghost use Rattle.varisat_solver.specs.Changes.{RefusesInvalid, invalidated, EndsChange};
-ghost use Rattle.varisat_solver.specs.Summaries.{model_value, list_tables};
+ghost use Rattle.varisat_solver.specs.inside.Accepting.{AreBounded};
+ghost use Rattle.varisat_solver.specs.inside.Changes.{RefusesInvalid, invalidated, EndsChange};
+ghost use Rattle.varisat_solver.specs.promises.Summaries.{model_value, list_tables};
 
 use crate::accept::{accept_user_clause, assume_list};
 use crate::name_checks::check_names;
@@ -65,7 +65,7 @@ pub enum SolverError {
 
 impl From<StepError> for SolverError {
     ghost use Rattle.std.specs.Prelude.{◌≡◌};
-    ghost use Rattle.varisat_solver.specs.Refusals.{step_refusal};
+    ghost use Rattle.varisat_solver.specs.promises.Refusals.{step_refusal};
 
     ghost from_gives = { λ error result. result ≡ step_refusal error };
 
@@ -91,7 +91,7 @@ impl From<AllocError> for SolverError {
 
 impl SolverError {
     ghost use Rattle.std.specs.Prelude.{◌↔◌, ◌≡◌, ◌<◌, ◌⊎◌, IsTrue};
-    ghost use Rattle.varisat_solver.specs.Refusals.{refusal_number};
+    ghost use Rattle.varisat_solver.specs.promises.Refusals.{refusal_number};
 
     /// The number under which a session tells the refusal.
     pub fn number(&self) -> u8
@@ -230,8 +230,8 @@ pub struct Solver<W: ProofTarget, A: Allocator + Copy> {
 impl<W: ProofTarget, A: Allocator + Copy> Model for Solver<W, A> {
     ghost use Rattle.std.specs.Prelude.{◌≡◌, ◌-◌, not, false, length};
     ghost use Rattle.varisat_search.specs.Contexts as contexts;
-    ghost use Rattle.varisat_proof.specs.Proving.{is_there};
-    ghost use Rattle.varisat_solver.specs.Summaries.{Summary, IsValidSince};
+    ghost use Rattle.varisat_proof.specs.promises.Proving.{is_there};
+    ghost use Rattle.varisat_solver.specs.promises.Summaries.{Summary, IsValidSince};
 
     ghost Value = { Summary };
 
@@ -259,23 +259,23 @@ impl<W: ProofTarget, A: Allocator + Copy> Model for Solver<W, A> {
 impl<W: ProofTarget, A: Allocator + Copy> Solver<W, A> {
     ghost use Rattle.std.specs.Prelude.{◌≡◌, ◌≢◌, ◌-◌, ◌<◌, ◌^◌, Ok, Err, Some, None, true, false, List, ℕ};
     ghost use Rattle.std.specs.Prelude.{IsSome, option_copied};
-    ghost use Rattle.varisat_theory.specs.Literals.{IsSatisfiableWith};
-    ghost use Rattle.varisat_theory.specs.CallBounds.{AreFew};
+    ghost use Rattle.varisat_theory.specs.promises.Literals.{IsSatisfiableWith};
+    ghost use Rattle.varisat_theory.specs.promises.CallBounds.{AreFew};
     ghost use Rattle.std.specs.declared.io.Error.{Error};
-    ghost use Rattle.varisat_solver.specs.States.{State, empty_state};
-    ghost use Rattle.varisat_solver.specs.Models.{IsCompletableIn, HasModel, HasCore, IsNamedCore};
-    ghost use Rattle.varisat_solver.specs.Calls.{IsValid, count_anew, with_max_steps, AddsClause, MakesVar, Assumes, Searches, Solves, ReturnsList, Configures, ReturnsSteps, ReturnsSince, ReturnsValid, answer_of, by_state};
-    ghost use Rattle.varisat_solver.specs.ClauseCalls.{AddsFormula, AddsDimacs};
-    ghost use Rattle.varisat_solver.specs.Additions.{AddsAll, ReturnsFault};
-    ghost use Rattle.varisat_solver.specs.ReturnedLists.{returned_list, lent_list};
-    ghost use Rattle.varisat_solver.specs.Summaries.{Represents, LeadsRepresented, EndsSearch, HasFullStore};
-    ghost use Rattle.varisat_solver.specs.Targets.{WritesOn, WritesAll};
-    ghost use Rattle.varisat_proof.specs.Proving.{marked_searched};
-    ghost use Rattle.varisat_solver.specs.Journals.{IsJournal};
-    ghost use Rattle.varisat_solver.specs.Refusals.{returned_faults};
-    ghost use Rattle.varisat_solver.specs.Detaching.{GoesOnDetaching};
-    ghost use Rattle.varisat_proof.specs.Proving.{IsClosed};
-    ghost use Rattle.varisat_solver.specs.ProofCalls.{OpensProof, EnablesChecking, ClosesProof};
+    ghost use Rattle.varisat_solver.specs.promises.States.{State, empty_state};
+    ghost use Rattle.varisat_solver.specs.promises.Models.{IsCompletableIn, HasModel, HasCore, IsNamedCore};
+    ghost use Rattle.varisat_solver.specs.promises.Calls.{IsValid, count_anew, with_max_steps, AddsClause, MakesVar, Assumes, Searches, Solves, ReturnsList, Configures, ReturnsSteps, ReturnsSince, ReturnsValid, answer_of, by_state};
+    ghost use Rattle.varisat_solver.specs.promises.ClauseCalls.{AddsFormula, AddsDimacs};
+    ghost use Rattle.varisat_solver.specs.promises.Additions.{AddsAll, ReturnsFault};
+    ghost use Rattle.varisat_solver.specs.promises.ReturnedLists.{returned_list, lent_list};
+    ghost use Rattle.varisat_solver.specs.promises.Summaries.{Represents, LeadsRepresented, EndsSearch, HasFullStore};
+    ghost use Rattle.varisat_solver.specs.promises.Targets.{WritesOn, WritesAll};
+    ghost use Rattle.varisat_proof.specs.promises.Proving.{marked_searched};
+    ghost use Rattle.varisat_solver.specs.promises.Journals.{IsJournal};
+    ghost use Rattle.varisat_solver.specs.promises.Refusals.{returned_faults};
+    ghost use Rattle.varisat_solver.specs.promises.Detaching.{GoesOnDetaching};
+    ghost use Rattle.varisat_proof.specs.promises.Proving.{IsClosed};
+    ghost use Rattle.varisat_solver.specs.promises.ProofCalls.{OpensProof, EnablesChecking, ClosesProof};
 
     /// A solver with no clause. It takes no memory.
     pub fn new_in(alloc: A) -> Self
@@ -740,9 +740,9 @@ impl<W: ProofTarget, A: Allocator + Copy> Solver<W, A> {
 }
 
 impl<W: ProofTarget, A: Allocator + Copy> Solver<W, A> {
-    ghost use Rattle.varisat_solver.specs.ReturnedLists.{returned_variables};
-    ghost use Rattle.varisat_solver.specs.Usage.{ChangesMode, SamplesVar, WitnessesVar, HidesVar, Observes};
-    ghost use Rattle.varisat_solver.specs.Summaries.{LeadsRepresented};
+    ghost use Rattle.varisat_solver.specs.promises.ReturnedLists.{returned_variables};
+    ghost use Rattle.varisat_solver.specs.promises.Usage.{ChangesMode, SamplesVar, WitnessesVar, HidesVar, Observes};
+    ghost use Rattle.varisat_solver.specs.promises.Summaries.{LeadsRepresented};
 
     /// Names the variable, and changes its mode. Refused as `sample_var` is.
     fn set_mode(&mut self, var: Var, mode: SamplingMode) -> Result<(), SolverError>
@@ -797,8 +797,8 @@ impl<W: ProofTarget, A: Allocator + Copy> Solver<W, A> {
 }
 
 impl<W: ProofTarget, A: Allocator + Copy> ExtendFormula for Solver<W, A> {
-    ghost use Rattle.varisat_solver.specs.Calls.{AddsClause, MakesVar};
-    ghost use Rattle.varisat_solver.specs.Summaries.{LeadsRepresented};
+    ghost use Rattle.varisat_solver.specs.promises.Calls.{AddsClause, MakesVar};
+    ghost use Rattle.varisat_solver.specs.promises.Summaries.{LeadsRepresented};
 
     type Error = SolverError;
 
@@ -816,7 +816,7 @@ impl<W: ProofTarget, A: Allocator + Copy> ExtendFormula for Solver<W, A> {
 }
 
 impl<W: ProofTarget, A: Allocator + Copy> ClauseSink for Solver<W, A> {
-    ghost use Rattle.varisat_solver.specs.TextCalls.{TakesClauses};
+    ghost use Rattle.varisat_solver.specs.inside.TextCalls.{TakesClauses};
 
     type Error = SolverError;
 

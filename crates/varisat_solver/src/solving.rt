@@ -1,18 +1,18 @@
 //! The steps of a solver, until the verdict is known or the steps are spent, and the core over names.
 ghost use Rattle.std.specs.Prelude.{◌≡◌, ◌≢◌, ◌≤◌, ◌<◌, ◌-◌, ◌^◌, ℕ, suc, length, OnOk, IfOk, OnErr, IfErr};
-ghost use Rattle.varisat_theory.specs.Membership.{◌∈◌};
-ghost use Rattle.varisat_theory.specs.Literals.{Literal, variable_of};
+ghost use Rattle.varisat_theory.specs.promises.Membership.{◌∈◌};
+ghost use Rattle.varisat_theory.specs.promises.Literals.{Literal, variable_of};
 ghost use Rattle.varisat_schedule.specs.Plans.{step_begun, next_plan};
 ghost use Rattle.varisat_search.specs.Contexts.{KeepsSchedule};
 ghost use Rattle.varisat_search.specs.StepErrors.{step_faults, HasNoRoom};
-ghost use Rattle.varisat_solver.specs.Budgets.{returned_verdict};
-ghost use Rattle.varisat_solver.specs.SinceChange.{CountsOnSince, CountsStepsFrom};
-ghost use Rattle.varisat_tracer.specs.Tracing.{tracer_state, BreaksProof, CanLog};
-ghost use Rattle.varisat_solver.specs.Searches.{BeginsSolverStep, MakesNamedStep, MakesSolverStep, FindsVerdict};
-ghost use Rattle.varisat_solver.specs.Accepting.{HasUser};
-ghost use Rattle.varisat_solver.specs.Carried.{named_literals};
-ghost use Rattle.varisat_solver.specs.Spaces.{FitSome};
-ghost use Rattle.varisat_solver.specs.Summaries.{undecided_spaces, IsValidSolver};
+ghost use Rattle.varisat_solver.specs.promises.Budgets.{returned_verdict};
+ghost use Rattle.varisat_solver.specs.inside.SinceChange.{CountsOnSince, CountsStepsFrom};
+ghost use Rattle.varisat_tracer.specs.inside.Tracing.{tracer_state, BreaksProof, CanLog};
+ghost use Rattle.varisat_solver.specs.inside.Searches.{BeginsSolverStep, MakesNamedStep, MakesSolverStep, FindsVerdict};
+ghost use Rattle.varisat_solver.specs.inside.Accepting.{HasUser};
+ghost use Rattle.varisat_solver.specs.inside.Carried.{named_literals};
+ghost use Rattle.varisat_solver.specs.inside.Spaces.{FitSome};
+ghost use Rattle.varisat_solver.specs.promises.Summaries.{undecided_spaces, IsValidSolver};
 
 use crate::carrying::carry_literals;
 use crate::detaching::detach_fixed;

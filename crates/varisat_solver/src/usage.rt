@@ -1,11 +1,11 @@
 //! What the calls that set the mode of a variable and hide it change.
 ghost use Rattle.std.specs.Prelude.{◌≡◌, ◌≢◌, false, None, MatchBool, IfOk, OnOk, OnErr};
-ghost use Rattle.varisat_names.specs.VarData.{data_at};
-ghost use Rattle.varisat_names.specs.VarMap.{at};
-ghost use Rattle.varisat_tracer.specs.Tracing.{tracer_state};
-ghost use Rattle.varisat_solver.specs.Accepting.{AreBounded};
+ghost use Rattle.varisat_names.specs.promises.VarData.{data_at};
+ghost use Rattle.varisat_names.specs.promises.VarMap.{at};
+ghost use Rattle.varisat_tracer.specs.inside.Tracing.{tracer_state};
+ghost use Rattle.varisat_solver.specs.inside.Accepting.{AreBounded};
 ghost use Rattle.varisat_names.specs.declared.variables.data.SamplingMode.TheVariants as sampling;
-ghost use Rattle.varisat_solver.specs.VariableChanges.{CanBeChanged, ChecksChange, IsMarkedName, SetsNamedMode, RetiresIfUnused, HidesNamed, ChangesNamed};
+ghost use Rattle.varisat_solver.specs.inside.VariableChanges.{CanBeChanged, ChecksChange, IsMarkedName, SetsNamedMode, RetiresIfUnused, HidesNamed, ChangesNamed};
 
 use crate::name_checks::{is_crowded, is_past_limit};
 use crate::solver::SolverError;

@@ -2,8 +2,8 @@
 use Rattle.std.specs.Prelude.{Result, Ok, Err}
 use Rattle.std.specs.Result.{IsErr, IfErr, OnErr, IsErrAnd}
 use Rattle.std.proofs.Common.{◌≡◌, ℕ, Bool, true, false, List, [], ◌++◌, sym, subst}
-use Rattle.varisat_theory.specs.Derivations.{Line}
-use Rattle.varisat_theory.specs.Journals.{Entry}
+use Rattle.varisat_theory.specs.promises.Derivations.{Line}
+use Rattle.varisat_theory.specs.promises.Journals.{Entry}
 use Rattle.varisat_trace.specs.declared.tracer.TraceError.{TraceError}
 use Rattle.varisat_trace.specs.Traces.{LogsStep, LogsLines, BreaksOff, faults_of}
 

@@ -1,7 +1,7 @@
 -- The lines of units that were recorded one by one.
 use Rattle.std.proofs.Common.{◌≡◌, ℕ, zero, suc, ◌+◌, ◌<◌, List, [], ◌∷◌, ◌++◌, length, take, get_or, refl, sym, ap, ◌∙◌, append_assoc}
-use Rattle.varisat_theory.specs.Derivations.{Line, Add}
-use Rattle.varisat_theory.specs.StepLaws.{unit_lines}
+use Rattle.varisat_theory.specs.promises.Derivations.{Line, Add}
+use Rattle.varisat_theory.specs.inside.StepLaws.{unit_lines}
 use Rattle.varisat_trace.proofs.TracedLists.{taken-one}
 
 units-append : (ls ms : List ℕ) → unit_lines (ls ++ ms) ≡ unit_lines ls ++ unit_lines ms

@@ -1,13 +1,13 @@
 -- How what a tracer may hold and the lines that it takes go together.
 use Rattle.std.proofs.Common.{◌≡◌, ℕ, List, [], ◌∷◌, ◌++◌, refl, sym, ap, ◌∙◌, append_assoc, subst}
 use Rattle.std.proofs.lemmas.List.{append-nil}
-use Rattle.varisat_theory.specs.Literals.{Clause}
-use Rattle.varisat_theory.specs.Derivations.{Line, Add, Delete, Derives}
-use Rattle.varisat_theory.specs.Searches.{Search, Fits}
-use Rattle.varisat_theory.specs.Outcomes.{Outcome, Proves}
-use Rattle.varisat_theory.proofs.StepCounts.{by_derives}
-use Rattle.varisat_theory.proofs.Lines.{derives_cut}
-use Rattle.varisat_theory.specs.Journals.{Entry, Writes, Leads, written}
+use Rattle.varisat_theory.specs.promises.Literals.{Clause}
+use Rattle.varisat_theory.specs.promises.Derivations.{Line, Add, Delete, Derives}
+use Rattle.varisat_theory.specs.promises.Searches.{Search, Fits}
+use Rattle.varisat_theory.specs.inside.Outcomes.{Outcome, Proves}
+use Rattle.varisat_theory.proofs.journals.StepCounts.{by_derives}
+use Rattle.varisat_theory.proofs.clauses.Lines.{derives_cut}
+use Rattle.varisat_theory.specs.promises.Journals.{Entry, Writes, Leads, written}
 use Rattle.varisat_trace.specs.Traces.{TakesLines, TakesStep, verdict_entries, CanTake, AdmitsFor}
 
 -- 1. Lines as entries.

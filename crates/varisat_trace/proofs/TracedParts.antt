@@ -1,9 +1,9 @@
 -- Lines that are handed on in turn, of a whole that is known beforehand.
 use Rattle.std.proofs.Common.{◌≡◌, List, [], ◌++◌, refl, sym, ap, ◌∙◌, subst, append_assoc}
 use Rattle.std.proofs.lemmas.List.{append-nil}
-use Rattle.varisat_theory.specs.Literals.{Clause}
-use Rattle.varisat_theory.specs.Derivations.{Line}
-use Rattle.varisat_theory.specs.Journals.{Entry, Leads}
+use Rattle.varisat_theory.specs.promises.Literals.{Clause}
+use Rattle.varisat_theory.specs.promises.Derivations.{Line}
+use Rattle.varisat_theory.specs.promises.Journals.{Entry, Leads}
 use Rattle.varisat_trace.specs.Traces.{TakesLines, CanTake}
 use Rattle.varisat_trace.proofs.Traced.{lines-more, can_take_first, can_take_rest}
 

@@ -1,8 +1,8 @@
 -- What a recorded line is.
 use Rattle.std.specs.Prelude.{◌≡◌, ℕ, Bool, true, false, List, ◌++◌, take}
-use Rattle.varisat_theory.specs.Literals.{Clause}
-use Rattle.varisat_theory.specs.Derivations.{Line, Add, Delete}
-use Rattle.varisat_theory.specs.Journals.{Entry, lines_of}
+use Rattle.varisat_theory.specs.promises.Literals.{Clause}
+use Rattle.varisat_theory.specs.promises.Derivations.{Line, Add, Delete}
+use Rattle.varisat_theory.specs.promises.Journals.{Entry, lines_of}
 
 -- the clause that the line adds or deletes
 abbrev pub clause_of : Line → Clause

@@ -3,9 +3,9 @@ use Rattle.std.specs.Prelude.{◌≡◌, ℕ, ◌+◌, true, false, List, [], �
 use Rattle.std.proofs.Common.{sym, ap, ◌∙◌, append_assoc}
 use Rattle.std.proofs.lemmas.List.{append-nil}
 use Rattle.std.proofs.Math.Seq.{take-append-add}
-use Rattle.varisat_theory.specs.Derivations.{Line}
-use Rattle.varisat_theory.specs.Journals.{Entry, lines_of}
-use Rattle.varisat_theory.proofs.Journals.{lines_append}
+use Rattle.varisat_theory.specs.promises.Derivations.{Line}
+use Rattle.varisat_theory.specs.promises.Journals.{Entry, lines_of}
+use Rattle.varisat_theory.proofs.journals.Journals.{lines_append}
 use Rattle.varisat_trace.specs.Recorded.{BreaksOffAt}
 
 pub takes-none : (x : List Line) → x ≡ x ++ []

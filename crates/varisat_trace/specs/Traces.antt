@@ -1,12 +1,12 @@
 -- The entries of a solver's steps, and when they can be handed on.
 use Rattle.std.specs.Prelude.{◌≡◌, ℕ, Bool, true, List, [], ◌∷◌, ◌++◌, Result, Ok, Err}
-use Rattle.varisat_theory.specs.Literals.{Literal, Clause}
-use Rattle.varisat_theory.specs.Propagation.{Conflicts}
-use Rattle.varisat_theory.specs.Derivations.{Line, Add, Delete, Derives}
-use Rattle.varisat_theory.specs.Outcomes.{Outcome, Unknown, Sat, Unsat, UnsatUnder}
-use Rattle.varisat_theory.specs.Searches.{Search, Fits}
-use Rattle.varisat_theory.specs.StepLaws.{unit_lines}
-use Rattle.varisat_theory.specs.Journals.{Entry, Writes, Fails, Retires, written}
+use Rattle.varisat_theory.specs.promises.Literals.{Literal, Clause}
+use Rattle.varisat_theory.specs.promises.Propagation.{Conflicts}
+use Rattle.varisat_theory.specs.promises.Derivations.{Line, Add, Delete, Derives}
+use Rattle.varisat_theory.specs.inside.Outcomes.{Outcome, Unknown, Sat, Unsat, UnsatUnder}
+use Rattle.varisat_theory.specs.promises.Searches.{Search, Fits}
+use Rattle.varisat_theory.specs.inside.StepLaws.{unit_lines}
+use Rattle.varisat_theory.specs.promises.Journals.{Entry, Writes, Fails, Retires, written}
 use Rattle.varisat_trace.specs.declared.tracer.TraceError.{TraceError}
 use Rattle.varisat_trace.specs.declared.tracer.TraceError.TheVariants.{Memory, Target}
 use Rattle.varisat_trace.specs.declared.step.ProofStep.{ProofStep}

@@ -1,7 +1,7 @@
 //! A tracer that keeps the lines, for tests and for whoever wants to look at them.
 ghost use Rattle.std.specs.Prelude.{◌≡◌, ◌<◌, ◌++◌, ◌∷◌, [], length, slice_index_or, ℕ, take, OnOk, OnErr};
-ghost use Rattle.varisat_theory.specs.StepLaws.{unit_lines};
-ghost use Rattle.varisat_theory.specs.Derivations.{Add, Delete};
+ghost use Rattle.varisat_theory.specs.inside.StepLaws.{unit_lines};
+ghost use Rattle.varisat_theory.specs.promises.Derivations.{Add, Delete};
 ghost use Rattle.varisat_trace.specs.Recorded.{clause_of, is_deletion};
 
 use crate::step::ProofStep;
@@ -20,7 +20,7 @@ pub struct LineRecorder<A: Allocator + Copy> {
 
 impl<A: Allocator + Copy> Model for LineRecorder<A> {
     ghost use Rattle.std.specs.Prelude.{List, map, if◌then◌else◌};
-    ghost use Rattle.varisat_theory.specs.Derivations.{Line, Add, Delete};
+    ghost use Rattle.varisat_theory.specs.promises.Derivations.{Line, Add, Delete};
 
     ghost Value = { List Line };
 
@@ -99,7 +99,7 @@ impl<A: Allocator + Copy> LineRecorder<A> {
 impl<A: Allocator + Copy> ProofTracer for LineRecorder<A> {
     ghost use Rattle.std.specs.Prelude.{true, ◌≡◌, ◌++◌};
     ghost use Rattle.std.specs.List.Sorted.{IsNonDecreasing};
-    ghost use Rattle.varisat_theory.specs.Journals.{lines_of};
+    ghost use Rattle.varisat_theory.specs.promises.Journals.{lines_of};
     ghost use Rattle.varisat_trace.specs.Recorded.{BreaksOffAt};
     ghost use Rattle.varisat_trace.specs.RecorderLaws.{takes-none, takes-more, takes-idle, breaks-none, breaks-behind, breaks-idle};
 

@@ -1,8 +1,8 @@
 //! What takes the steps of a search's proof.
 ghost use Rattle.std.specs.Prelude.{◌≡◌, ◌++◌, ℕ, [], List, Bool, false};
 ghost use Rattle.std.specs.List.Sorted.{IsPermutation};
-ghost use Rattle.varisat_theory.specs.Literals.{Clause};
-ghost use Rattle.varisat_theory.specs.Journals.{Entry, Leads};
+ghost use Rattle.varisat_theory.specs.promises.Literals.{Clause};
+ghost use Rattle.varisat_theory.specs.promises.Journals.{Entry, Leads};
 ghost use Rattle.varisat_trace.specs.Traces.{entries_of, CanTakeStep, LogsStep};
 
 use crate::step::ProofStep;

@@ -1,24 +1,24 @@
 -- Steps over global variables, literal by literal, and that they can be told and what telling them is.
 use Rattle.std.proofs.Common.{◌≡◌, ℕ, ◌+◌, ◌<◌, List, [], ◌∷◌, ◌++◌, length, take, get_or, refl, sym, ap, ◌∙◌, subst, map, append-nil, take_all, arith, inl, ⊎_elim, Option, Some, None, Result, Ok, Err}
 use Rattle.std.proofs.lemmas.List.{map-append, take_more, get_or_read}
-use Rattle.varisat_theory.specs.Literals.{Literal, Clause}
-use Rattle.varisat_theory.specs.Propagation.{Conflicts}
-use Rattle.varisat_theory.specs.Derivations.{Line, Add, Delete, Derives}
-use Rattle.varisat_theory.specs.StepLaws.{unit_lines}
-use Rattle.varisat_theory.specs.Renaming.{rename_line}
-use Rattle.varisat_theory.specs.Journals.{Entry, Writes, Fails, Leads, written}
+use Rattle.varisat_theory.specs.promises.Literals.{Literal, Clause}
+use Rattle.varisat_theory.specs.promises.Propagation.{Conflicts}
+use Rattle.varisat_theory.specs.promises.Derivations.{Line, Add, Delete, Derives}
+use Rattle.varisat_theory.specs.inside.StepLaws.{unit_lines}
+use Rattle.varisat_theory.specs.promises.Renaming.{rename_line}
+use Rattle.varisat_theory.specs.promises.Journals.{Entry, Writes, Fails, Leads, written}
 use Rattle.varisat_trace.specs.Traces.{CanTake, CanFail, faults_of}
 use Rattle.varisat_trace.proofs.Traced.{lines-lead}
 use Rattle.varisat_trace.specs.declared.tracer.TraceError.{TraceError}
 use Rattle.varisat_trace.specs.declared.tracer.TraceError.TheVariants.{Memory, Target}
 use Rattle.varisat_proof.specs.declared.proof.format.Encoding.{Encoding}
-use Rattle.varisat_proof.specs.Calls.{CheckerState}
-use Rattle.varisat_proof.specs.Lines.{ProofLine, encoding_of}
-use Rattle.varisat_proof.specs.Steps.{lines_written}
-use Rattle.varisat_proof.specs.Proving.{OpenState, ProofParts, is_there, IsSpent, IsLogged, IsWrittenIf, IsBegunIf, Logs, MayBePresent, logged}
-use Rattle.varisat_tracer.specs.Carried.{logged_as}
-use Rattle.varisat_tracer.specs.Tracing.{TracerState, global_literal, Relies, TakesGlobally, BreaksGlobally, LogsGlobally}
-use Rattle.varisat_tracer.specs.TracerLaws.{leads-globally}
+use Rattle.varisat_proof.specs.promises.Calls.{CheckerState}
+use Rattle.varisat_proof.specs.promises.Lines.{ProofLine, encoding_of}
+use Rattle.varisat_proof.specs.promises.Steps.{lines_written}
+use Rattle.varisat_proof.specs.promises.Proving.{OpenState, ProofParts, is_there, IsSpent, IsLogged, IsWrittenIf, IsBegunIf, Logs, MayBePresent, logged}
+use Rattle.varisat_tracer.specs.promises.Carried.{logged_as}
+use Rattle.varisat_tracer.specs.inside.Tracing.{TracerState, global_literal, Relies, TakesGlobally, BreaksGlobally, LogsGlobally}
+use Rattle.varisat_tracer.specs.inside.TracerLaws.{leads-globally}
 
 pub mapped-more : (f : Literal → Literal) (ls old new : List Literal) (i l m : ℕ) → i < length ls → l ≡ get_or ls i l → old ≡ map f (take i ls) →
     new ≡ old ++ m ∷ [] → m ≡ f l → new ≡ map f (take (i + 1) ls)

@@ -1,17 +1,17 @@
 -- A tracer that can be told of entries goes on so.
 use Rattle.std.proofs.Common.{◌≡◌, ℕ, List, [], ◌++◌, sym, ap, ◌∙◌, subst, refl, Option, None}
-use Rattle.varisat_theory.specs.Literals.{Clause}
-use Rattle.varisat_theory.specs.Journals.{Entry}
-use Rattle.varisat_theory.specs.Renaming.{rename}
-use Rattle.varisat_names.specs.VarBiMap.{BiMap}
-use Rattle.varisat_names.specs.VarMap.{at}
-use Rattle.varisat_names.specs.Variables.{Tables}
-use Rattle.varisat_proof.specs.Proving.{OpenState, ProofParts, is_there, IsBegunIf, IsLogged, MayBePresent, logged}
+use Rattle.varisat_theory.specs.promises.Literals.{Clause}
+use Rattle.varisat_theory.specs.promises.Journals.{Entry}
+use Rattle.varisat_theory.specs.promises.Renaming.{rename}
+use Rattle.varisat_names.specs.promises.VarBiMap.{BiMap}
+use Rattle.varisat_names.specs.promises.VarMap.{at}
+use Rattle.varisat_names.specs.promises.Variables.{Tables}
+use Rattle.varisat_proof.specs.promises.Proving.{OpenState, ProofParts, is_there, IsBegunIf, IsLogged, MayBePresent, logged}
 use Rattle.varisat_trace.specs.Traces.{BreaksOff}
-use Rattle.varisat_tracer.specs.Logged.{begun-none, begun-behind}
-use Rattle.varisat_tracer.specs.Carried.{carry, logged_as}
-use Rattle.varisat_tracer.specs.Tracing.{TracerState, OpenParts, open_parts, global_literal, Relies, TakesGlobally, BreaksGlobally, BreaksProof, CanLog}
-use Rattle.varisat_tracer.specs.TracerLaws.{checked-runs, room-stays, usable-stays}
+use Rattle.varisat_tracer.specs.inside.Logged.{begun-none, begun-behind}
+use Rattle.varisat_tracer.specs.promises.Carried.{carry, logged_as}
+use Rattle.varisat_tracer.specs.inside.Tracing.{TracerState, OpenParts, open_parts, global_literal, Relies, TakesGlobally, BreaksGlobally, BreaksProof, CanLog}
+use Rattle.varisat_tracer.specs.inside.TracerLaws.{checked-runs, room-stays, usable-stays}
 
 pub logs-logged : (p q : ProofParts) (entries : List Entry) → IsLogged p entries q → CanLog p → CanLog q
 logs-logged p q entries h t = record {

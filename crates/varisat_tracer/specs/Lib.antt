@@ -1,5 +1,2 @@
-pub mod Carried
-pub mod Tracing
-pub mod Logged
-pub mod RenamedEntries
-pub mod TracerLaws
+pub mod promises
+pub mod inside

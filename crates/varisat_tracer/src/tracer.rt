@@ -1,12 +1,12 @@
 //! The tracer of a solver: it hands the steps of a search on to the proof that the solver writes and to the checker
 //! inside it, over global variables.
 ghost use Rattle.std.specs.Prelude.{◌≡◌, ◌<◌, length, map, OnOk, None, [], ◌∷◌};
-ghost use Rattle.varisat_names.specs.VarMap.{at};
-ghost use Rattle.varisat_names.specs.Variables.{no_variables};
-ghost use Rattle.varisat_tracer.specs.Carried.{carry, variable_or_first};
-ghost use Rattle.varisat_theory.specs.Journals.{Accepts, Assumes};
-ghost use Rattle.varisat_proof.specs.Proving.{CanCountTargetFault, IsUsable, IsLogged};
-ghost use Rattle.varisat_tracer.specs.Tracing.{global_literal, tracer_state, open_parts, LogsGlobally, retires_if_deleted};
+ghost use Rattle.varisat_names.specs.promises.VarMap.{at};
+ghost use Rattle.varisat_names.specs.promises.Variables.{no_variables};
+ghost use Rattle.varisat_tracer.specs.promises.Carried.{carry, variable_or_first};
+ghost use Rattle.varisat_theory.specs.promises.Journals.{Accepts, Assumes};
+ghost use Rattle.varisat_proof.specs.promises.Proving.{CanCountTargetFault, IsUsable, IsLogged};
+ghost use Rattle.varisat_tracer.specs.inside.Tracing.{global_literal, tracer_state, open_parts, LogsGlobally, retires_if_deleted};
 
 use std::alloc::{AllocError, Allocator};
 use varisat_formula::io::ProofTarget;
@@ -121,9 +121,9 @@ impl<W: ProofTarget, A: Allocator + Copy> SolverTracer<W, A> {
 }
 
 impl<W: ProofTarget, A: Allocator + Copy> ProofTracer for SolverTracer<W, A> {
-    ghost use Rattle.varisat_proof.specs.Proving.{is_logging};
-    ghost use Rattle.varisat_tracer.specs.Tracing.{tracer_state, IsInOrder, Relies, TakesGlobally, BreaksGlobally};
-    ghost use Rattle.varisat_tracer.specs.TracerLaws.{takes-none, takes-more, takes-idle, breaks-none, breaks-behind, breaks-idle, relies-after};
+    ghost use Rattle.varisat_proof.specs.promises.Proving.{is_logging};
+    ghost use Rattle.varisat_tracer.specs.inside.Tracing.{tracer_state, IsInOrder, Relies, TakesGlobally, BreaksGlobally};
+    ghost use Rattle.varisat_tracer.specs.inside.TracerLaws.{takes-none, takes-more, takes-idle, breaks-none, breaks-behind, breaks-idle, relies-after};
 
     ghost active = { λ x. is_logging x.proof };
 

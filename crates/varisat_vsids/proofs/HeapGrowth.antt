@@ -5,7 +5,7 @@ use Rattle.std.proofs.lemmas.Bool.Decides.{nat_tests}
 use Rattle.std.proofs.lemmas.List.{map-append, get_or_append_left, replicate-append-replicate}
 use Rattle.std.proofs.Math.Seq.{get_or-append_seam}
 use Rattle.std.specs.Prelude.{nat_lt}
-use Rattle.varisat_literals.specs.Numbers.{variable_limit}
+use Rattle.varisat_literals.specs.promises.Numbers.{variable_limit}
 use Rattle.varisat_vsids.specs.Heaps.{IsHeap, availability, key, parent}
 
 front : (xs : List ℕ) (x j : ℕ) → j < length xs → get_or (xs ++ x ∷ []) j 0 ≡ get_or xs j 0

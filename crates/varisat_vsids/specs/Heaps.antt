@@ -1,6 +1,6 @@
 -- A binary heap. All variables stand in one list, and the available ones, which stand first, are the heap.
 use Rattle.std.specs.Prelude.{◌≡◌, ◌≢◌, ℕ, ◌-◌, ◌/◌, ◌<◌, ◌≤◌, List, length, map, slice_index, Bool, nat_lt}
-use Rattle.varisat_literals.specs.Numbers.{variable_limit}
+use Rattle.varisat_literals.specs.promises.Numbers.{variable_limit}
 
 -- each variable stands at its position, and at no other place
 pub record IsLinked (heap position : List ℕ) : Type 0 where

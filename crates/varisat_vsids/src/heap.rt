@@ -4,7 +4,7 @@
 //! A variable moves through the heap as a hole does: others take its place one after another, and it is written once, where
 //! it comes to.
 ghost use Rattle.std.specs.Prelude.{◌≡◌, ◌≢◌, ℕ, ◌+◌, ◌-◌, ◌<◌, ◌≤◌, length, slice_index, slice_set, IfSome, IfNone, true, false};
-ghost use Rattle.varisat_literals.specs.Numbers.{variable_limit};
+ghost use Rattle.varisat_literals.specs.promises.Numbers.{variable_limit};
 ghost use Rattle.varisat_vsids.specs.Heaps.{IsLinked, IsHeap, IsHeapBut, IsHeapUnder, IsNoChildGreater, IsGreaterChild, availability, parent, key};
 
 use varisat_literals::Var;

@@ -4,7 +4,7 @@
 //! of lowering each activity, a decay raises the increment. Before numbers come too near to 2^64 all are shifted, so
 //! that their order stays.
 ghost use Rattle.std.specs.Prelude.{◌≡◌, ℕ, ◌+◌, ◌/◌, ◌<◌, ◌≤◌, ◌^◌, ◌∷◌, length, map, max, slice_index, slice_set, true, false, OnOk, OnErr, IfSome, IfNone};
-ghost use Rattle.varisat_literals.specs.Numbers.{variable_limit};
+ghost use Rattle.varisat_literals.specs.promises.Numbers.{variable_limit};
 ghost use Rattle.varisat_vsids.specs.Activities.{Activities, no_activities, activity_limit, least_increment, is_available, rescaled, bumped, decayed, with_available, raised_to, IsGreatest, TakesGreatest, available_count, AreWithinLimits};
 
 use crate::heap::{enter_risen, put_in, reorder_fallen, take_out};

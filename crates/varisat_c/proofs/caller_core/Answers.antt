@@ -1,5 +1,5 @@
 use Rattle.std.proofs.Common.{subst}
-use Rattle.varisat_solver.specs.Calls.{ReturnsList, by_state}
+use Rattle.varisat_solver.specs.promises.Calls.{ReturnsList, by_state}
 use Rattle.varisat_calls.specs.Callers.{Caller, ReturnsListOf}
 use Rattle.varisat_c.proofs.caller_core.Goals as goal
 

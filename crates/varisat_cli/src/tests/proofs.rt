@@ -1,5 +1,5 @@
 //! Proofs that `solve` writes, and targets of proofs that fail.
-ghost use Rattle.varisat.specs.Proven.{CanCountFault};
+ghost use Rattle.varisat.specs.promises.Proven.{CanCountFault};
 
 use super::*;
 use std::alloc::Global;

@@ -1,6 +1,6 @@
 //! Lists of calls, of which none is made where the list of answers gets no memory.
 ghost use Rattle.std.specs.Prelude.{IfSome};
-ghost use Rattle.varisat.specs.Runs.{AreReady};
+ghost use Rattle.varisat.specs.promises.Runs.{AreReady};
 
 use std::alloc::Global;
 use std::io::Empty;

@@ -1,8 +1,8 @@
 //! Header lines, a byte at a time. Only the end of the line decides whether it is a header, so that the line is read by
 //! a machine of its own in place of the tokens: a header line of any length takes no memory.
 ghost use Rattle.std.specs.Prelude.{◌≡◌, ◌<◌, ◌^◌};
-ghost use Rattle.varisat_formula.specs.Dimacs.{sized, FitsLimit};
-ghost use Rattle.varisat_formula.specs.Machine.{vars_ended, clauses_ended, header_blank, header_more, after_header_byte, clauses_says, header_says};
+ghost use Rattle.varisat_formula.specs.promises.Dimacs.{sized, FitsLimit};
+ghost use Rattle.varisat_formula.specs.inside.Machine.{vars_ended, clauses_ended, header_blank, header_more, after_header_byte, clauses_says, header_says};
 
 use crate::dimacs::token::{Digits, is_blank_byte};
 use varisat_literals::VARIABLE_LIMIT;

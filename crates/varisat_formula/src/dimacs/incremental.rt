@@ -1,7 +1,7 @@
 //! Reads texts from sources, with a call of the caller's function after each piece and after the end.
 ghost use Rattle.std.specs.Prelude.{◌≡◌, ◌-◌, ◌<◌, ◌^◌, ◌⊎◌, [], true, length, IfOk, IfErr};
-ghost use Rattle.varisat_formula.specs.Rest.{Progress, begin, dimacs_from, IsEnding, RunsOut, fault_of};
-ghost use Rattle.varisat_formula.specs.Parsed.{TakesPiece, reading_with, Finishes, Refuses};
+ghost use Rattle.varisat_formula.specs.promises.Rest.{Progress, begin, dimacs_from, IsEnding, RunsOut, fault_of};
+ghost use Rattle.varisat_formula.specs.promises.Parsed.{TakesPiece, reading_with, Finishes, Refuses};
 
 use crate::dimacs::error::DimacsError;
 use crate::dimacs::parser::DimacsParser;

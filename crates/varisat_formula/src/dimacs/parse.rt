@@ -1,8 +1,8 @@
 //! Reads texts from sources.
 ghost use Rattle.std.specs.Prelude.{◌≡◌, ◌-◌, ◌<◌, ◌^◌, List, Result, length, IfOk, IfErr};
-ghost use Rattle.varisat_theory.specs.Literals.{Clause};
-ghost use Rattle.varisat_formula.specs.Parsed.{TakesPiece, Parses};
-ghost use Rattle.varisat_formula.specs.TakenTexts.{TakesText, RefusesClause};
+ghost use Rattle.varisat_theory.specs.promises.Literals.{Clause};
+ghost use Rattle.varisat_formula.specs.promises.Parsed.{TakesPiece, Parses};
+ghost use Rattle.varisat_formula.specs.promises.TakenTexts.{TakesText, RefusesClause};
 
 use crate::dimacs::error::DimacsError;
 use crate::dimacs::incremental::PieceReader;

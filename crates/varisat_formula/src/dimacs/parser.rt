@@ -2,9 +2,9 @@
 ghost use Rattle.std.specs.Prelude.{◌≡◌, ℕ, List, [], ◌∷◌, ◌++◌, ◌⊎◌, ◌≢◌, true, false, IsTrue, MatchBool, Option, None, Some, Result, Ok, Err, OnOk, OnErr, IfOk, IfErr};
 ghost use Rattle.varisat_formula.specs.declared.dimacs.parser.ParserState.TheVariants.{Start};
 ghost use Rattle.varisat_formula.specs.declared.dimacs.error.DimacsErrorKind.TheVariants.{Io, OutOfMemory};
-ghost use Rattle.varisat_formula.specs.Dimacs.{Reading, failed, next, read, is_line_feed, is_blank, gives, Ending, BreaksOff};
-ghost use Rattle.varisat_formula.specs.Machine.{no_word};
-ghost use Rattle.varisat_formula.specs.Rest.{begin, word_items, line_ended, start_place, gives_from, dimacs_from, AdvancesBy, IsBetween, IsReading, ReadsOn, KeepsToken, WantsRoom, IsEnding, RunsOut, RunsOutIn, failing, fault_of, with_front};
+ghost use Rattle.varisat_formula.specs.promises.Dimacs.{Reading, failed, next, read, is_line_feed, is_blank, gives, Ending, BreaksOff};
+ghost use Rattle.varisat_formula.specs.inside.Machine.{no_word};
+ghost use Rattle.varisat_formula.specs.promises.Rest.{begin, word_items, line_ended, start_place, gives_from, dimacs_from, AdvancesBy, IsBetween, IsReading, ReadsOn, KeepsToken, WantsRoom, IsEnding, RunsOut, RunsOutIn, failing, fault_of, with_front};
 
 use crate::dimacs::error::{DimacsError, DimacsErrorKind};
 use crate::dimacs::header::HeaderPart;
@@ -38,7 +38,7 @@ pub struct DimacsParser<A: Allocator + Copy> {
 }
 
 impl<A: Allocator + Copy> Model for DimacsParser<A> {
-    ghost use Rattle.varisat_formula.specs.Rest.{Progress};
+    ghost use Rattle.varisat_formula.specs.promises.Rest.{Progress};
 
     ghost Value = { Progress };
 

@@ -1,10 +1,10 @@
 //! What a DIMACS text gave so far.
 ghost use Rattle.std.specs.Prelude.{◌≡◌, ℕ, IsTrue, false, List, [], ◌∷◌, ◌++◌, ◌+◌, ◌/◌, ◌<◌, ◌≤◌, ◌^◌, max, Option, None, Some, OnOk, OnErr};
-ghost use Rattle.varisat_formula.specs.Dimacs.{Reading, nothing, failed, is_one_too_many, is_above, next, after_token, after_header, is_started, is_short, at_end, FitsLimit};
-ghost use Rattle.varisat_literals.specs.Numbers.{variable_limit};
+ghost use Rattle.varisat_formula.specs.promises.Dimacs.{Reading, nothing, failed, is_one_too_many, is_above, next, after_token, after_header, is_started, is_short, at_end, FitsLimit};
+ghost use Rattle.varisat_literals.specs.promises.Numbers.{variable_limit};
 ghost use Rattle.varisat_formula.specs.declared.dimacs.token.Meaning.TheVariants.{End};
-ghost use Rattle.varisat_formula.specs.Machine.{word_says, a_number};
-ghost use Rattle.varisat_formula.specs.Rest.{Allows, KeepsToken};
+ghost use Rattle.varisat_formula.specs.inside.Machine.{word_says, a_number};
+ghost use Rattle.varisat_formula.specs.promises.Rest.{Allows, KeepsToken};
 
 use crate::dimacs::error::{DimacsError, DimacsErrorKind};
 use crate::dimacs::header::{Heading, Sizes};
@@ -30,8 +30,8 @@ pub struct Reader<A: Allocator + Copy> {
 
 impl<A: Allocator + Copy> Model for Reader<A> {
     ghost use Rattle.std.specs.Prelude.{◌≤◌};
-    ghost use Rattle.varisat_formula.specs.Formulas.{variables_of};
-    ghost use Rattle.varisat_formula.specs.Dimacs.{Reading};
+    ghost use Rattle.varisat_formula.specs.promises.Formulas.{variables_of};
+    ghost use Rattle.varisat_formula.specs.promises.Dimacs.{Reading};
 
     ghost Value = { Reading };
 

@@ -1,8 +1,8 @@
 //! Tokens, a whole literal at once or byte by byte. A piece may end inside a token; what its bytes say so far is kept in
 //! place of the bytes, so that a token of any length takes no memory, also one with a fault.
 ghost use Rattle.std.specs.Prelude.{◌≡◌, ◌<◌, ◌≤◌, ◌^◌, ℕ, Bool, true, Some, ◌-◌, length, take, drop, slice_index, IfSome};
-ghost use Rattle.varisat_formula.specs.Dimacs.{positive, negative, in_range, is_digit, is_blank};
-ghost use Rattle.varisat_formula.specs.Machine.{after_digit, grown, after_byte, is_none, is_empty, word_says, no_word, a_number, GoesOnTo};
+ghost use Rattle.varisat_formula.specs.promises.Dimacs.{positive, negative, in_range, is_digit, is_blank};
+ghost use Rattle.varisat_formula.specs.inside.Machine.{after_digit, grown, after_byte, is_none, is_empty, word_says, no_word, a_number, GoesOnTo};
 
 use crate::formula::Lit;
 use varisat_literals::VARIABLE_LIMIT;

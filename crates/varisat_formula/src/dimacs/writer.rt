@@ -1,7 +1,7 @@
 //! Writes formulas as DIMACS CNF text.
 ghost use Rattle.std.specs.Prelude.{◌≡◌, ℕ, List, [], ◌∷◌, ◌++◌, ◌+◌, ◌-◌, ◌<◌, ◌≤◌, ◌^◌, length, take, flat_map, OnOk, OnErr};
-ghost use Rattle.varisat_literals.specs.Numbers.{literal_text, variable_limit};
-ghost use Rattle.varisat_formula.specs.Written.{Puts, ReadsBack, spaced_literals, header_text, formula_text};
+ghost use Rattle.varisat_literals.specs.promises.Numbers.{literal_text, variable_limit};
+ghost use Rattle.varisat_formula.specs.promises.Written.{Puts, ReadsBack, spaced_literals, header_text, formula_text};
 
 use crate::formula::{CnfFormula, Lit};
 use crate::io::ProofTarget;

@@ -1,10 +1,10 @@
 //! Formulas in conjunctive normal form, and what takes clauses one at a time.
 ghost use Rattle.std.specs.Prelude.{◌≡◌, ℕ, List, ◌+◌, ◌∷◌, ◌++◌, [], ◌<◌, ◌≤◌, ◌^◌, max, length, true, map, Result, Ok, Err, OnOk, OnErr, IfOk, IfErr, MatchResult, IsTrue, ◌↔◌};
 ghost use Rattle.std.specs.Iterator.{YieldsFirstRef, item_count};
-ghost use Rattle.varisat_theory.specs.Literals.{literal_of};
+ghost use Rattle.varisat_theory.specs.promises.Literals.{literal_of};
 ghost use Rattle.varisat_formula.specs.declared.formula.cnf.FormulaError.TheVariants.{Full, Memory};
-ghost use Rattle.varisat_formula.specs.Formulas.{no_clauses, variables_of, with_one_more, with_more, MakesVars, RefusesOneOf, AreBelow};
-ghost use Rattle.varisat_formula.specs.Equality.{same_formula, same_laws, same_equivalence};
+ghost use Rattle.varisat_formula.specs.promises.Formulas.{no_clauses, variables_of, with_one_more, with_more, MakesVars, RefusesOneOf, AreBelow};
+ghost use Rattle.varisat_formula.specs.inside.Equality.{same_formula, same_laws, same_equivalence};
 
 use std::alloc::{AllocError, Allocator};
 use std::marker::Model;
@@ -100,7 +100,7 @@ pub struct CnfFormula<A: Allocator + Copy> {
 }
 
 impl<A: Allocator + Copy> Model for CnfFormula<A> {
-    ghost use Rattle.varisat_formula.specs.Formulas.{Formula, cut, BuffersFit};
+    ghost use Rattle.varisat_formula.specs.promises.Formulas.{Formula, cut, BuffersFit};
 
     ghost Value = { Formula };
 
@@ -284,7 +284,7 @@ pub struct Clauses<'a> {
 
 impl<'a> Model for Clauses<'a> {
     ghost use Rattle.std.specs.Prelude.{List, ℕ};
-    ghost use Rattle.varisat_formula.specs.Formulas.{cut, UseUp};
+    ghost use Rattle.varisat_formula.specs.promises.Formulas.{cut, UseUp};
 
     ghost Value = { List (List ℕ) };
 

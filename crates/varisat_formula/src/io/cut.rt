@@ -1,7 +1,7 @@
 //! A target and a source of which a chosen call fails, for tests of what comes of a fault.
 ghost use Rattle.std.specs.Prelude.{◌≡◌, ◌≢◌, ℕ, List, [], Some, ◌++◌, ◌+◌, ◌-◌, ◌<◌, ◌≤◌, ◌^◌, length, take, drop, min, false, OnOk, OnErr, IfOk};
 ghost use Rattle.std.specs.Io.KnownBytes.{ReadConsumes};
-ghost use Rattle.varisat_formula.specs.Streams.{FillsFrom, TakesPart, cut_input, ended_after, ended_at, counted, piece_count, piece_size};
+ghost use Rattle.varisat_formula.specs.promises.Streams.{FillsFrom, TakesPart, cut_input, ended_after, ended_at, counted, piece_count, piece_size};
 
 use crate::io::{ByteSource, ProofTarget};
 use std::alloc::Allocator;
@@ -22,7 +22,7 @@ pub struct CutTarget<A: Allocator + Copy> {
 }
 
 impl<A: Allocator + Copy> Model for CutTarget<A> {
-    ghost use Rattle.varisat_formula.specs.Streams.{CutTaken};
+    ghost use Rattle.varisat_formula.specs.promises.Streams.{CutTaken};
 
     ghost Value = { CutTaken };
 
@@ -179,7 +179,7 @@ pub struct CutSource<'a> {
 }
 
 impl<'a> Model for CutSource<'a> {
-    ghost use Rattle.varisat_formula.specs.Streams.{CutText};
+    ghost use Rattle.varisat_formula.specs.promises.Streams.{CutText};
 
     ghost Value = { CutText };
 

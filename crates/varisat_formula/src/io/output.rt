@@ -17,7 +17,7 @@ pub struct IoTarget<W: Write + Drop> {
 }
 
 impl<W: Write + Drop> Model for IoTarget<W> {
-    ghost use Rattle.varisat_formula.specs.Streams.{Output};
+    ghost use Rattle.varisat_formula.specs.promises.Streams.{Output};
 
     ghost Value = { Output };
 

@@ -1,7 +1,7 @@
 //! Where bytes are read from.
 ghost use Rattle.std.specs.Prelude.{◌≡◌, ℕ, List, [], Option, Some, ◌+◌, ◌-◌, ◌<◌, ◌≤◌, ◌^◌, min, length, false, OnOk, OnErr, IfOk};
 ghost use Rattle.std.specs.Io.KnownBytes.{ReadConsumes};
-ghost use Rattle.varisat_formula.specs.Streams.{Input, FillsFrom, ended_after, Reads, HasEnded};
+ghost use Rattle.varisat_formula.specs.promises.Streams.{Input, FillsFrom, ended_after, Reads, HasEnded};
 
 use crate::io::history::{History, Part};
 use std::io;

@@ -1,6 +1,6 @@
 //! What is kept of each global variable.
 ghost use Rattle.std.specs.Prelude.{◌≡◌};
-ghost use Rattle.varisat_names.specs.VarData.{fresh, dead};
+ghost use Rattle.varisat_names.specs.promises.VarData.{fresh, dead};
 
 /// How a variable may be used.
 #[derive(Clone, Copy, Debug, PartialEq, Eq)]

@@ -1,7 +1,7 @@
 //! What is kept of the global variables, and which may be used again.
 ghost use Rattle.std.specs.Prelude.{◌≡◌, ◌<◌, ◌≤◌, ◌^◌, true, false, [], length, OnOk, OnErr};
 ghost use Rattle.std.specs.Borrow.{sem};
-ghost use Rattle.varisat_names.specs.VarData.{fresh, dead, data_at, reaching, IsDataAt, IsLeastRetired, AreDeleted};
+ghost use Rattle.varisat_names.specs.promises.VarData.{fresh, dead, data_at, reaching, IsDataAt, IsLeastRetired, AreDeleted};
 
 use super::data::VarData;
 use std::alloc::{AllocError, Allocator};
@@ -19,7 +19,7 @@ pub struct Globals<A: Allocator + Copy> {
 impl<A: Allocator + Copy> Model for Globals<A> {
     ghost use Rattle.std.specs.Prelude.{◌≤◌, ◌^◌, length};
     ghost use Rattle.std.specs.Vec.{vec_capacity};
-    ghost use Rattle.varisat_names.specs.VarData.{DataList};
+    ghost use Rattle.varisat_names.specs.promises.VarData.{DataList};
 
     ghost Value = { DataList };
 
@@ -29,7 +29,7 @@ impl<A: Allocator + Copy> Model for Globals<A> {
 }
 
 impl<A: Allocator + Copy> Globals<A> {
-    ghost use Rattle.varisat_names.specs.Lending.{lends_data_at};
+    ghost use Rattle.varisat_names.specs.inside.Lending.{lends_data_at};
 
     /// No variables. It takes no memory.
     pub fn new_in(alloc: A) -> Globals<A>

@@ -1,8 +1,8 @@
 //! The names in use and the live global variables, one after another.
 ghost use Rattle.std.specs.Prelude.{◌≡◌};
 ghost use Rattle.std.specs.Iterator.{YieldsFirst, item_count};
-ghost use Rattle.varisat_names.specs.VarMap.{mapped_from};
-ghost use Rattle.varisat_names.specs.VarData.{live_from};
+ghost use Rattle.varisat_names.specs.promises.VarMap.{mapped_from};
+ghost use Rattle.varisat_names.specs.promises.VarData.{live_from};
 
 use super::globals::Globals;
 use super::var_map::VarMap;
@@ -19,7 +19,7 @@ pub struct UserVars<'a, A: Allocator + Copy> {
 
 impl<'a, A: Allocator + Copy> Model for UserVars<'a, A> {
     ghost use Rattle.std.specs.Prelude.{ℕ, List, drop};
-    ghost use Rattle.varisat_names.specs.VarMap.{mapped_from};
+    ghost use Rattle.varisat_names.specs.promises.VarMap.{mapped_from};
 
     ghost Value = { List ℕ };
 
@@ -64,7 +64,7 @@ pub struct GlobalVars<'a, A: Allocator + Copy> {
 
 impl<'a, A: Allocator + Copy> Model for GlobalVars<'a, A> {
     ghost use Rattle.std.specs.Prelude.{ℕ, List, drop};
-    ghost use Rattle.varisat_names.specs.VarData.{live_from};
+    ghost use Rattle.varisat_names.specs.promises.VarData.{live_from};
 
     ghost Value = { List ℕ };
 

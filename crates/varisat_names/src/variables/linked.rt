@@ -1,10 +1,10 @@
 //! Variables whose maps, data and lists of what is free fit each other at any time.
 ghost use Rattle.std.specs.Prelude.{◌≡◌, ◌≤◌, ◌<◌, ◌^◌, ◌+◌, ◌-◌, ℕ, false, length, Some, None, IfOk, OnOk, OnErr, IsSome};
-ghost use Rattle.varisat_names.specs.Maps.{chain};
-ghost use Rattle.varisat_names.specs.VarMap.{at, IsLeastUnmapped, IsFull};
-ghost use Rattle.varisat_names.specs.VarBiMap.{IsParted};
-ghost use Rattle.varisat_names.specs.VarData.{dead, data_at, IsDataAt, IsLeastRetired, AreDeleted};
-ghost use Rattle.varisat_names.specs.Variables.{no_variables, unused, AreFree, AreListed, AreLinked, IsGiven, AreNextGiven, IsNamed, IsTaken, IsChangedTo, IsHidden, IsRetiredIfUnused, IsDetached, IsShown};
+ghost use Rattle.varisat_names.specs.promises.Maps.{chain};
+ghost use Rattle.varisat_names.specs.promises.VarMap.{at, IsLeastUnmapped, IsFull};
+ghost use Rattle.varisat_names.specs.promises.VarBiMap.{IsParted};
+ghost use Rattle.varisat_names.specs.promises.VarData.{dead, data_at, IsDataAt, IsLeastRetired, AreDeleted};
+ghost use Rattle.varisat_names.specs.promises.Variables.{no_variables, unused, AreFree, AreListed, AreLinked, IsGiven, AreNextGiven, IsNamed, IsTaken, IsChangedTo, IsHidden, IsRetiredIfUnused, IsDetached, IsShown};
 
 use super::Variables;
 use super::data::{SamplingMode, VarData};
@@ -23,7 +23,7 @@ pub struct LinkedVariables<A: Allocator + Copy> {
 }
 
 impl<A: Allocator + Copy> Model for LinkedVariables<A> {
-    ghost use Rattle.varisat_names.specs.Variables.{Tables, AreLinked, AreListed};
+    ghost use Rattle.varisat_names.specs.promises.Variables.{Tables, AreLinked, AreListed};
 
     ghost Value = { Tables };
 

@@ -1,9 +1,9 @@
 //! Names that are given out, the least free one first, and the variables that they lead to.
 ghost use Rattle.std.specs.Prelude.{◌≡◌, ◌≤◌, ◌<◌, ◌^◌, length, Some, None, OnOk, OnErr};
 ghost use Rattle.std.specs.Borrow.{sem};
-ghost use Rattle.varisat_names.specs.VarMap.{at, IsLeastUnmapped};
-ghost use Rattle.varisat_names.specs.VarBiMap.{no_pairs, IsJoined, IsParted};
-ghost use Rattle.varisat_names.specs.Variables.{AreFree};
+ghost use Rattle.varisat_names.specs.promises.VarMap.{at, IsLeastUnmapped};
+ghost use Rattle.varisat_names.specs.promises.VarBiMap.{no_pairs, IsJoined, IsParted};
+ghost use Rattle.varisat_names.specs.promises.Variables.{AreFree};
 
 use super::var_map::{Direction, VarBiMap, VarBiMapMut};
 use std::alloc::{AllocError, Allocator};
@@ -19,7 +19,7 @@ pub struct NameSpace<A: Allocator + Copy> {
 }
 
 impl<A: Allocator + Copy> Model for NameSpace<A> {
-    ghost use Rattle.varisat_names.specs.Variables.{NamePairs};
+    ghost use Rattle.varisat_names.specs.promises.Variables.{NamePairs};
 
     ghost Value = { NamePairs };
 
@@ -27,7 +27,7 @@ impl<A: Allocator + Copy> Model for NameSpace<A> {
 }
 
 impl<A: Allocator + Copy> NameSpace<A> {
-    ghost use Rattle.varisat_names.specs.Lending.{lends_pairs};
+    ghost use Rattle.varisat_names.specs.inside.Lending.{lends_pairs};
 
     /// No name is in use. It takes no memory.
     pub fn new_in(alloc: A) -> NameSpace<A>

@@ -1,9 +1,9 @@
 //! Names come into use, modes are set, and hidden variables come back.
 ghost use Rattle.std.specs.Prelude.{◌≡◌, ◌≤◌, ◌<◌, ◌^◌, ◌+◌, ◌-◌, ℕ, List, None, false, length, IfOk, OnOk, OnErr};
-ghost use Rattle.varisat_names.specs.VarMap.{at};
-ghost use Rattle.varisat_names.specs.VarData.{data_at};
-ghost use Rattle.varisat_names.specs.Variables.{AreNextGiven, IsNamed};
-ghost use Rattle.varisat_names.specs.NamesAndModes.{IsLeastGiven, MovesName, SetsModeOf, AreShownInTurn, ShowsAllHidden, ShowsOne};
+ghost use Rattle.varisat_names.specs.promises.VarMap.{at};
+ghost use Rattle.varisat_names.specs.promises.VarData.{data_at};
+ghost use Rattle.varisat_names.specs.promises.Variables.{AreNextGiven, IsNamed};
+ghost use Rattle.varisat_names.specs.inside.NamesAndModes.{IsLeastGiven, MovesName, SetsModeOf, AreShownInTurn, ShowsAllHidden, ShowsOne};
 
 use crate::variables::data::SamplingMode;
 use crate::variables::linked::LinkedVariables;

@@ -1,8 +1,8 @@
 //! Maps between the variables of two name spaces.
 ghost use Rattle.std.specs.Prelude.{ℕ, ◌≡◌, ◌≢◌, ◌<◌, ◌≤◌, ◌+◌, ◌-◌, ◌^◌, ◌++◌, max, length, replicate, take, List, [], Option, Some, None, OnOk, OnErr};
-ghost use Rattle.varisat_names.specs.Maps.{IsInverse};
-ghost use Rattle.varisat_names.specs.VarMap.{at, mapped, IsPut};
-ghost use Rattle.varisat_names.specs.VarBiMap.{no_pairs, directed, IsJoined, RemovesPair};
+ghost use Rattle.varisat_names.specs.promises.Maps.{IsInverse};
+ghost use Rattle.varisat_names.specs.promises.VarMap.{at, mapped, IsPut};
+ghost use Rattle.varisat_names.specs.promises.VarBiMap.{no_pairs, directed, IsJoined, RemovesPair};
 
 use std::alloc::{AllocError, Allocator};
 use std::marker::Model;
@@ -19,7 +19,7 @@ pub struct VarMap<A: Allocator + Copy> {
 
 impl<A: Allocator + Copy> Model for VarMap<A> {
     ghost use Rattle.std.specs.Prelude.{List, Option, ℕ, ◌≤◌, ◌^◌, length, map};
-    ghost use Rattle.varisat_names.specs.VarMap.{mapped};
+    ghost use Rattle.varisat_names.specs.promises.VarMap.{mapped};
 
     ghost Value = { List (Option ℕ) };
 
@@ -130,9 +130,9 @@ pub struct VarBiMap<A: Allocator + Copy> {
 }
 
 impl<A: Allocator + Copy> Model for VarBiMap<A> {
-    ghost use Rattle.varisat_names.specs.Maps.{IsInverse};
-    ghost use Rattle.varisat_names.specs.VarMap.{at};
-    ghost use Rattle.varisat_names.specs.VarBiMap.{BiMap};
+    ghost use Rattle.varisat_names.specs.promises.Maps.{IsInverse};
+    ghost use Rattle.varisat_names.specs.promises.VarMap.{at};
+    ghost use Rattle.varisat_names.specs.promises.VarBiMap.{BiMap};
 
     ghost Value = { BiMap };
 

@@ -1,8 +1,8 @@
 //! Each call, with ample memory and with little.
 ghost use Rattle.std.specs.Prelude.{◌≡◌, false, IsTrue};
-ghost use Rattle.varisat_names.specs.VarBiMap.{no_pairs};
-ghost use Rattle.varisat_names.specs.VarData.{data_at};
-ghost use Rattle.varisat_names.specs.Variables.{no_variables};
+ghost use Rattle.varisat_names.specs.promises.VarBiMap.{no_pairs};
+ghost use Rattle.varisat_names.specs.promises.VarData.{data_at};
+ghost use Rattle.varisat_names.specs.promises.Variables.{no_variables};
 
 use linked_list_allocator::LocalHeap;
 use std::alloc::{AllocError, Allocator, Global};

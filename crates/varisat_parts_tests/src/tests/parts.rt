@@ -1,6 +1,6 @@
 //! Each call of the parts, with ample memory and with little.
 ghost use Rattle.std.specs.Prelude.{◌≡◌, ◌<◌, ◌≤◌, ◌∷◌, [], length, OnOk};
-ghost use Rattle.varisat_theory.specs.Literals.{variable_of};
+ghost use Rattle.varisat_theory.specs.promises.Literals.{variable_of};
 ghost use Rattle.varisat_clause.specs.Stored.{IsClauseRef, literals_at};
 ghost use Rattle.varisat_clause.specs.Stores.{IsSound};
 ghost use Rattle.varisat_clause.specs.Collected.{live_clauses};

@@ -1,22 +1,22 @@
 //! The checker. It keeps the present clauses, and propagates over them for each line.
 ghost use Rattle.std.specs.Prelude.{◌≡◌, ◌≢◌, [], ◌∷◌, ◌++◌, ◌-◌, ◌<◌, ◌^◌, ◌↔◌, length, true, false, MatchOption, Ok, Err, OnOk, OnErr, IfOk, IfErr, IsTrue, ◌||◌, slice_index_or};
-ghost use Rattle.varisat_theory.specs.Membership.{◌∈◌, SameSet};
-ghost use Rattle.varisat_theory.specs.Literals.{Clause, IsSatisfiable};
-ghost use Rattle.varisat_theory.specs.Derivations.{Line, Add, Delete, TakesOut};
-ghost use Rattle.varisat_theory.specs.Propagation.{Conflicts, Follows};
-ghost use Rattle.varisat_plain.specs.Checking.{IsAbsent};
-ghost use Rattle.varisat_theory.specs.Held.{without};
+ghost use Rattle.varisat_theory.specs.promises.Membership.{◌∈◌, SameSet};
+ghost use Rattle.varisat_theory.specs.promises.Literals.{Clause, IsSatisfiable};
+ghost use Rattle.varisat_theory.specs.promises.Derivations.{Line, Add, Delete, TakesOut};
+ghost use Rattle.varisat_theory.specs.promises.Propagation.{Conflicts, Follows};
+ghost use Rattle.varisat_plain.specs.promises.Checking.{IsAbsent};
+ghost use Rattle.varisat_theory.specs.promises.Held.{without};
 ghost use Rattle.varisat_proof.specs.declared.proof.format.LineKind.TheVariants.{Fails};
 ghost use Rattle.varisat_proof.specs.declared.proof.format.Encoding.TheVariants.{Text};
 ghost use Rattle.varisat_proof.specs.declared.checker.line.LineStatus.TheVariants.{Taken};
 ghost use Rattle.varisat_proof.specs.declared.checker.error.CheckVerdict.TheVariants.{Refutation};
 ghost use Rattle.varisat_proof.specs.declared.checker.error.CheckerError.TheVariants.{OutOfMemory, Spent};
-ghost use Rattle.varisat_proof.specs.Lines.{line_of_kind};
-ghost use Rattle.varisat_proof.specs.Marked.{state_of, strict_rules};
-ghost use Rattle.varisat_proof.specs.Results.{IsResult};
-ghost use Rattle.varisat_proof.specs.DratChecks.{rules_of, IsDratStatusOf, IsDratResult, ChecksDrat};
-ghost use Rattle.varisat_proof.specs.Checks.{ReturnsStatus, TakesNext, position_of, ReadsNext, EndsBehind, ChecksFrom, result_at_end, ChecksLine, ChecksUnits, ChecksCore, RefusesText};
-ghost use Rattle.varisat_proof.specs.Calls.{with_clause, at_input, BecomesOrRefuses, AddsText, IsStep, Checks, ChecksMarked, IsMarkedResult, IsTrueReport, IsRightFor, spends};
+ghost use Rattle.varisat_proof.specs.promises.Lines.{line_of_kind};
+ghost use Rattle.varisat_proof.specs.promises.Marked.{state_of, strict_rules};
+ghost use Rattle.varisat_proof.specs.promises.Results.{IsResult};
+ghost use Rattle.varisat_proof.specs.promises.DratChecks.{rules_of, IsDratStatusOf, IsDratResult, ChecksDrat};
+ghost use Rattle.varisat_proof.specs.inside.Checks.{ReturnsStatus, TakesNext, position_of, ReadsNext, EndsBehind, ChecksFrom, result_at_end, ChecksLine, ChecksUnits, ChecksCore, RefusesText};
+ghost use Rattle.varisat_proof.specs.promises.Calls.{with_clause, at_input, BecomesOrRefuses, AddsText, IsStep, Checks, ChecksMarked, IsMarkedResult, IsTrueReport, IsRightFor, spends};
 
 use crate::checker::drat::{DratCounts, take_drat_line};
 use crate::checker::error::{CheckVerdict, CheckerError};
@@ -69,7 +69,7 @@ pub struct Checker<A: Allocator + Copy> {
 }
 
 impl<A: Allocator + Copy> Model for Checker<A> {
-    ghost use Rattle.varisat_proof.specs.Calls.{CheckerState};
+    ghost use Rattle.varisat_proof.specs.promises.Calls.{CheckerState};
 
     ghost Value = { CheckerState };
 

@@ -1,9 +1,9 @@
 //! The lines of DRAT, as solvers write them that simplify: a clause that does not follow may be RAT on one of its literals,
 //! and a deletion that finds no clause, or one that may be why a literal is implied, is passed over.
 ghost use Rattle.std.specs.Prelude.{◌≡◌, [], IfOk};
-ghost use Rattle.varisat_theory.specs.Propagation.{Conflicts};
+ghost use Rattle.varisat_theory.specs.promises.Propagation.{Conflicts};
 ghost use Rattle.varisat_proof.specs.declared.proof.format.LineKind.TheVariants.{Adds, Deletes};
-ghost use Rattle.varisat_proof.specs.DratChecks.{IsRedundancyOf, IsDratStatusOf, TakesDratKind};
+ghost use Rattle.varisat_proof.specs.promises.DratChecks.{IsRedundancyOf, IsDratStatusOf, TakesDratKind};
 
 use crate::checker::line::LineStatus;
 use crate::proof::format::LineKind;

@@ -1,9 +1,9 @@
 //! What marked lines tell beside the clauses that are present.
 ghost use Rattle.std.specs.Prelude.{◌≡◌, List, ◌∷◌, [], ◌++◌, length, ◌↔◌, IsTrue, OnOk, IfOk};
-ghost use Rattle.varisat_theory.specs.Membership.{◌⊆◌, SameSet};
-ghost use Rattle.varisat_formula.specs.Formulas.{with_one_more};
-ghost use Rattle.varisat_proof.specs.Calls.{core_lists};
-ghost use Rattle.varisat_proof.specs.Marked.{nothing_logged};
+ghost use Rattle.varisat_theory.specs.promises.Membership.{◌⊆◌, SameSet};
+ghost use Rattle.varisat_formula.specs.promises.Formulas.{with_one_more};
+ghost use Rattle.varisat_proof.specs.promises.Calls.{core_lists};
+ghost use Rattle.varisat_proof.specs.promises.Marked.{nothing_logged};
 
 use crate::checker::error::CheckVerdict;
 use std::alloc::{AllocError, Allocator};
@@ -36,9 +36,9 @@ pub struct ReportBuilder<A: Allocator + Copy> {
 }
 
 impl<A: Allocator + Copy> Model for ReportBuilder<A> {
-    ghost use Rattle.varisat_theory.specs.Membership.{SameSet};
-    ghost use Rattle.varisat_proof.specs.Marked.{MarkedLog};
-    ghost use Rattle.varisat_proof.specs.Calls.{core_lists};
+    ghost use Rattle.varisat_theory.specs.promises.Membership.{SameSet};
+    ghost use Rattle.varisat_proof.specs.promises.Marked.{MarkedLog};
+    ghost use Rattle.varisat_proof.specs.promises.Calls.{core_lists};
 
     ghost Value = { MarkedLog };
 

@@ -1,10 +1,10 @@
 //! Reads the lines of a proof, a byte at a time.
 ghost use Rattle.std.specs.Prelude.{◌≡◌, ℕ, List, [], ◌∷◌, ◌++◌, ◌+◌, ◌*◌, ◌<◌, ◌≤◌, ◌^◌, OnOk, OnErr, IfOk, true, false, ◌==◌, if◌then◌else◌};
-ghost use Rattle.varisat_formula.specs.Dimacs.{next};
+ghost use Rattle.varisat_formula.specs.promises.Dimacs.{next};
 ghost use Rattle.varisat_proof.specs.declared.proof.format.Encoding.TheVariants.{Text, Binary};
-ghost use Rattle.varisat_proof.specs.Grammar.{tag_kind};
-ghost use Rattle.varisat_proof.specs.Lines.{letter_kind};
-ghost use Rattle.varisat_proof.specs.Machine.{IsSmall, no_part, ends, symbol_of, is_between, grown, event, number_event, begin_event, begin_place, moved, after_number, begin_line, begin, happens, after, went_on, ended_token, last_symbol, last_event, last_place, last_offset, fault_offset};
+ghost use Rattle.varisat_proof.specs.promises.Grammar.{tag_kind};
+ghost use Rattle.varisat_proof.specs.promises.Lines.{letter_kind};
+ghost use Rattle.varisat_proof.specs.inside.Machine.{IsSmall, no_part, ends, symbol_of, is_between, grown, event, number_event, begin_event, begin_place, moved, after_number, begin_line, begin, happens, after, went_on, ended_token, last_symbol, last_event, last_place, last_offset, fault_offset};
 
 use crate::checker::token::{Event, Part, Symbol};
 use crate::proof::format::{Encoding, LineKind, letter_kind};
@@ -40,7 +40,7 @@ pub struct ProofReader<A: Allocator + Copy> {
 
 impl<A: Allocator + Copy> Model for ProofReader<A> {
     ghost use Rattle.std.specs.Prelude.{◌≤◌, ◌*◌, ◌^◌};
-    ghost use Rattle.varisat_proof.specs.Machine.{IsSmall, ReaderState};
+    ghost use Rattle.varisat_proof.specs.inside.Machine.{IsSmall, ReaderState};
 
     ghost Value = { ReaderState };
 

@@ -1,8 +1,8 @@
 //! Tokens of a proof, a byte at a time.
 ghost use Rattle.std.specs.Prelude.{◌≡◌, ℕ, List, [], ◌∷◌, ◌++◌, ◌+◌, ◌*◌, ◌<◌, ◌≤◌, ◌^◌, true, false, ◌==◌, if◌then◌else◌};
-ghost use Rattle.varisat_proof.specs.Lines.{letter_kind};
-ghost use Rattle.varisat_proof.specs.Grammar.{is_kind, meant};
-ghost use Rattle.varisat_proof.specs.Machine.{IsSmall, scale, no_part, after_text, part_symbol, grown_value, after_binary, number_symbol};
+ghost use Rattle.varisat_proof.specs.promises.Lines.{letter_kind};
+ghost use Rattle.varisat_proof.specs.promises.Grammar.{is_kind, meant};
+ghost use Rattle.varisat_proof.specs.inside.Machine.{IsSmall, scale, no_part, after_text, part_symbol, grown_value, after_binary, number_symbol};
 
 use crate::proof::format::letter_kind;
 use varisat_formula::dimacs::token::{Meaning, Word};

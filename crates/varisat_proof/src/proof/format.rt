@@ -1,6 +1,6 @@
 //! The formats of proofs, and the kinds of their lines.
 ghost use Rattle.std.specs.Prelude.{◌≡◌, Option};
-ghost use Rattle.varisat_proof.specs.Lines.{encoding_of, plain_encoding, has_marks, letter_kind};
+ghost use Rattle.varisat_proof.specs.promises.Lines.{encoding_of, plain_encoding, has_marks, letter_kind};
 
 /// How the lines of a proof are written.
 #[derive(Clone, Copy, Debug, PartialEq, Eq)]

@@ -1,14 +1,14 @@
 //! The proof that a solver writes, and the checker that runs inside it. Steps and clauses are over global variables.
 ghost use Rattle.std.specs.Prelude.{◌≡◌, ℕ, List, [], ◌∷◌, ◌-◌, ◌<◌, ◌^◌, Option, None, Some, true, false, IfErr, OnOk, Ok, option_copied, is_some};
-ghost use Rattle.varisat_theory.specs.Held.{SameClauses};
-ghost use Rattle.varisat_theory.specs.Journals.{Accepts, Assumes, Retires};
+ghost use Rattle.varisat_theory.specs.promises.Held.{SameClauses};
+ghost use Rattle.varisat_theory.specs.promises.Journals.{Accepts, Assumes, Retires};
 ghost use Rattle.varisat_trace.specs.Traces.{CanTakeStep, entries_of};
 ghost use Rattle.varisat_proof.specs.declared.checker.error.CheckerError.TheVariants.{OutOfMemory};
 ghost use Rattle.varisat_proof.specs.declared.proof.format.LineKind.TheVariants as kinds;
-ghost use Rattle.varisat_proof.specs.Lines.{line_of_kind};
-ghost use Rattle.varisat_proof.specs.Logging.{marked_line};
-ghost use Rattle.varisat_proof.specs.Present.{IsLeftAfter};
-ghost use Rattle.varisat_proof.specs.Proving.{PutsInto, is_logging, bars_clauses, bars_assumptions, marked_searched, WritesLines, logged, Logs, Flushes, CanCountTargetFault, MayBePresent, IsUsable, IsCheckedIf, IsLogged, IsSpent, IsClosed};
+ghost use Rattle.varisat_proof.specs.promises.Lines.{line_of_kind};
+ghost use Rattle.varisat_proof.specs.promises.Logging.{marked_line};
+ghost use Rattle.varisat_proof.specs.inside.Present.{IsLeftAfter};
+ghost use Rattle.varisat_proof.specs.promises.Proving.{PutsInto, is_logging, bars_clauses, bars_assumptions, marked_searched, WritesLines, logged, Logs, Flushes, CanCountTargetFault, MayBePresent, IsUsable, IsCheckedIf, IsLogged, IsSpent, IsClosed};
 
 use crate::checker::{Checker, CheckerError};
 use crate::proof::format::{LineKind, ProofFormat};
@@ -30,7 +30,7 @@ pub struct OpenProof<W: ProofTarget> {
 }
 
 impl<W: ProofTarget> Model for OpenProof<W> {
-    ghost use Rattle.varisat_proof.specs.Proving.{OpenState};
+    ghost use Rattle.varisat_proof.specs.promises.Proving.{OpenState};
 
     ghost Value = { OpenState };
 
@@ -156,7 +156,7 @@ pub struct Proof<W: ProofTarget, A: Allocator + Copy> {
 }
 
 impl<W: ProofTarget, A: Allocator + Copy> Model for Proof<W, A> {
-    ghost use Rattle.varisat_proof.specs.Proving.{ProofParts};
+    ghost use Rattle.varisat_proof.specs.promises.Proving.{ProofParts};
 
     ghost Value = { ProofParts };
 

@@ -1,6 +1,6 @@
 //! The steps of a solver's proof.
 ghost use Rattle.std.specs.Prelude.{IfOk};
-ghost use Rattle.varisat_proof.specs.Mapping.{MapsLits, MapsStep};
+ghost use Rattle.varisat_proof.specs.inside.Mapping.{MapsLits, MapsStep};
 
 use std::alloc::{AllocError, Allocator};
 use varisat_literals::{Lit, Var};

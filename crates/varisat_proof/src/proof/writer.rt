@@ -1,14 +1,14 @@
 //! Writes the lines of a proof.
 ghost use Rattle.std.specs.Prelude.{◌≡◌, false, ℕ, List, [], ◌∷◌, ◌++◌, ◌+◌, ◌-◌, ◌<◌, ◌≤◌, ◌^◌, length, take, flat_map, OnOk};
-ghost use Rattle.varisat_literals.specs.Numbers.{literal_text};
-ghost use Rattle.varisat_formula.specs.Written.{spaced_literals};
+ghost use Rattle.varisat_literals.specs.promises.Numbers.{literal_text};
+ghost use Rattle.varisat_formula.specs.promises.Written.{spaced_literals};
 ghost use Rattle.varisat_proof.specs.declared.proof.format.Encoding.TheVariants.{Text, Binary};
-ghost use Rattle.varisat_proof.specs.Lines.{line_of_kind, plain_lines, letter};
-ghost use Rattle.varisat_proof.specs.Written.{leb128, leb128_by, codes_bytes, mark_text, line_text, line_bytes, line_written};
-ghost use Rattle.varisat_proof.specs.Steps.{step_lines, PutsLines};
-ghost use Rattle.varisat_theory.specs.StepLaws.{unit_lines};
+ghost use Rattle.varisat_proof.specs.promises.Lines.{line_of_kind, plain_lines, letter};
+ghost use Rattle.varisat_proof.specs.promises.Written.{leb128, leb128_by, codes_bytes, mark_text, line_text, line_bytes, line_written};
+ghost use Rattle.varisat_proof.specs.promises.Steps.{step_lines, PutsLines};
+ghost use Rattle.varisat_theory.specs.inside.StepLaws.{unit_lines};
 ghost use Rattle.varisat_trace.specs.Traces.{entries_of};
-ghost use Rattle.varisat_proof.specs.Logging.{marked_line, logged_lines};
+ghost use Rattle.varisat_proof.specs.promises.Logging.{marked_line, logged_lines};
 
 use crate::proof::format::{Encoding, LineKind};
 use crate::proof::step::ProofStep;

@@ -1,7 +1,7 @@
 //! The partial assignment, and the value that each variable had last.
 ghost use Rattle.std.specs.Prelude.{◌≡◌, ◌<◌, ◌≤◌, ◌↔◌, ◌++◌, ◌-◌, IsTrue, [], length, replicate, slice_index_or, slice_set, Option, Some, None, true, false, OnOk, OnErr};
-ghost use Rattle.varisat_theory.specs.Literals.{variable_of, opposite};
-ghost use Rattle.varisat_literals.specs.Numbers.{polarity_of};
+ghost use Rattle.varisat_theory.specs.promises.Literals.{variable_of, opposite};
+ghost use Rattle.varisat_literals.specs.promises.Numbers.{polarity_of};
 ghost use Rattle.varisat_prop.specs.Parts.{IsMadeTrue, value_in, no_values, is_true_value, without_value};
 
 use crate::prop::lit_value::LitValue;

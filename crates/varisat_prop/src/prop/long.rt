@@ -1,6 +1,6 @@
 //! Propagation of long clauses.
 ghost use Rattle.std.specs.Prelude.{◌≡◌, ◌<◌, ◌≤◌, ◌+◌, ◌-◌, ◌++◌, length, take, drop, OnOk, IfOk, MatchOption};
-ghost use Rattle.varisat_theory.specs.Literals.{opposite};
+ghost use Rattle.varisat_theory.specs.promises.Literals.{opposite};
 ghost use Rattle.varisat_clause.specs.Stored.{IsClauseRef, literals_at};
 ghost use Rattle.varisat_clause.specs.Stores.{IsSound};
 ghost use Rattle.varisat_clause.specs.Collected.{live_clauses};

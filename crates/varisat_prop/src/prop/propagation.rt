@@ -1,7 +1,7 @@
 //! Unit propagation over the queue of the trail.
 ghost use Rattle.std.specs.Prelude.{◌≡◌, ◌<◌, true, false, [], length, OnOk, IfOk};
-ghost use Rattle.varisat_theory.specs.Membership.{◌∈◌, IsDistinct};
-ghost use Rattle.varisat_theory.specs.Literals.{Literal, Clause, opposite};
+ghost use Rattle.varisat_theory.specs.promises.Membership.{◌∈◌, IsDistinct};
+ghost use Rattle.varisat_theory.specs.promises.Literals.{Literal, Clause, opposite};
 ghost use Rattle.varisat_clause.specs.Stored.{literals_of};
 ghost use Rattle.varisat_clause.specs.Stores.{IsSound};
 ghost use Rattle.varisat_clause.specs.Collected.{live_clauses};

@@ -1,6 +1,6 @@
 //! The trail: what was decided and propagated, in that order.
 ghost use Rattle.std.specs.Prelude.{◌≡◌, ◌<◌, ◌≤◌, ◌+◌, ◌++◌, ◌∷◌, ◌↔◌, IsTrue, [], length, slice_index, slice_get, Option, Some, None, MatchOption, OnOk, not};
-ghost use Rattle.varisat_theory.specs.Literals.{variable_of};
+ghost use Rattle.varisat_theory.specs.promises.Literals.{variable_of};
 ghost use Rattle.varisat_prop.specs.Parts.{empty_trail, backtracked, top_level_count};
 ghost use Rattle.varisat_prop.specs.Leaving.{leaves, staying};
 

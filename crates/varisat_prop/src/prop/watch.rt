@@ -1,9 +1,9 @@
 //! Watch lists, by which propagation finds the clauses that a literal may have made false or unit. A clause is watched
 //! by its first two literals: it stands in the lists of their opposites.
 ghost use Rattle.std.specs.Prelude.{◌≡◌, ◌<◌, ◌*◌, ◌≤◌, ◌-◌, ◌++◌, ◌∷◌, true, false, [], length, replicate, OnOk};
-ghost use Rattle.varisat_theory.specs.Membership.{◌∈◌};
-ghost use Rattle.varisat_theory.specs.Literals.{Literal, opposite};
-ghost use Rattle.varisat_literals.specs.Numbers.{variable_limit};
+ghost use Rattle.varisat_theory.specs.promises.Membership.{◌∈◌};
+ghost use Rattle.varisat_theory.specs.promises.Literals.{Literal, opposite};
+ghost use Rattle.varisat_literals.specs.promises.Numbers.{variable_limit};
 ghost use Rattle.varisat_prop.specs.Watches.{no_watches, watches_of, with_watches};
 ghost use Rattle.varisat_prop.specs.Visits.{WatchesClause};
 

@@ -1,7 +1,7 @@
 //! Clauses that are loaded.
 ghost use Rattle.std.specs.Prelude.{◌≤◌, OnOk};
 ghost use Rattle.varisat_search.specs.Contexts.{IsReady};
-ghost use Rattle.varisat_literals.specs.Numbers.{variable_limit};
+ghost use Rattle.varisat_literals.specs.promises.Numbers.{variable_limit};
 
 use super::searches::{implies, load_numbers, loaded};
 use std::alloc::{Allocator, Global};

@@ -1,7 +1,7 @@
 //! Names that come into use, modes that are set, hidden variables that come back, solver variables that are taken away,
 //! and the model of global variables.
 ghost use Rattle.std.specs.Prelude.{◌≡◌, ◌≤◌, ◌<◌, false, length, IsTrue};
-ghost use Rattle.varisat_names.specs.VarData.{data_at};
+ghost use Rattle.varisat_names.specs.promises.VarData.{data_at};
 ghost use Rattle.varisat_search.specs.Contexts.{IsReady};
 
 use super::searches::loaded;

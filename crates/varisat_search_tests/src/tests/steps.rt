@@ -1,7 +1,7 @@
 //! Steps of a search, and what their conflicts teach.
 ghost use Rattle.std.specs.Prelude.{◌≤◌};
 ghost use Rattle.varisat_search.specs.Contexts.{IsReady};
-ghost use Rattle.varisat_literals.specs.Numbers.{variable_limit};
+ghost use Rattle.varisat_literals.specs.promises.Numbers.{variable_limit};
 
 use super::searches::{are, loaded, loaded_conflict, prefer_lower_true, step};
 use linked_list_allocator::LocalHeap;

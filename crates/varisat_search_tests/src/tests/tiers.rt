@@ -1,7 +1,7 @@
 //! Glue, tiers and activities of clauses, as conflicts leave them.
 ghost use Rattle.std.specs.Prelude.{◌≤◌, OnOk, IfOk};
 ghost use Rattle.varisat_search.specs.Contexts.{IsReady};
-ghost use Rattle.varisat_literals.specs.Numbers.{variable_limit};
+ghost use Rattle.varisat_literals.specs.promises.Numbers.{variable_limit};
 
 use super::searches::{loaded, prefer_lower_true, step, unless_refused};
 use linked_list_allocator::LocalHeap;

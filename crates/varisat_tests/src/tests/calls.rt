@@ -1,6 +1,6 @@
 //! Lists of calls with their answers, and the texts of refusals.
 ghost use Rattle.std.specs.Prelude.{IfSome};
-ghost use Rattle.varisat.specs.Runs.{AreReady};
+ghost use Rattle.varisat.specs.promises.Runs.{AreReady};
 
 use crate::readers::in_pieces;
 use crate::settings::rare_and_frequent;

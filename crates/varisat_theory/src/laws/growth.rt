@@ -1,6 +1,6 @@
 //! What stays where there is more.
 
-ghost use Rattle.varisat_theory.specs.Laws.{BeginningDerives, ConflictGrows, DerivationGrows, DerivationsJoin, FollowsGrows, MoreCovers, RefutationStays, UnitsAreKnown};
+ghost use Rattle.varisat_theory.specs.inside.Laws.{BeginningDerives, ConflictGrows, DerivationGrows, DerivationsJoin, FollowsGrows, MoreCovers, RefutationStays, UnitsAreKnown};
 
 /// A conflict stays under more clauses, stronger ones and more known literals.
 pub fn conflict_grows()

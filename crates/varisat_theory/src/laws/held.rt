@@ -1,6 +1,6 @@
 //! What depends on the held clauses alone, and not on their order or spelling.
 
-ghost use Rattle.varisat_theory.specs.Laws.{SameClausesAdd, SameClausesDelete, SameClausesDrop, SameClausesIsEquality, SameLinesDerive, SameLinesRefute};
+ghost use Rattle.varisat_theory.specs.inside.Laws.{SameClausesAdd, SameClausesDelete, SameClausesDrop, SameClausesIsEquality, SameLinesDerive, SameLinesRefute};
 
 /// To hold the same clauses is an equality.
 pub fn same_clauses_is_equality()

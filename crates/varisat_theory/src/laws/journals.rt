@@ -1,6 +1,6 @@
 //! What a proof is told, entry by entry.
 
-ghost use Rattle.varisat_theory.specs.JournalLaws.{JournalAddsNew, JournalDerives, JournalIsDetermined, JournalIsRenamed, JournalIsSound, JournalsJoin};
+ghost use Rattle.varisat_theory.specs.inside.JournalLaws.{JournalAddsNew, JournalDerives, JournalIsDetermined, JournalIsRenamed, JournalIsSound, JournalsJoin};
 
 /// Journals join and are cut, and what counts adds up.
 pub fn journals_join()

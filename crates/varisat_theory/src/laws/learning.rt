@@ -1,6 +1,6 @@
 //! What conflict analysis, minimization and cores rest on.
 
-ghost use Rattle.varisat_theory.specs.Laws.{CompletenessStays, CoreConflicts, CoreFails, CoreFollows, CoreOnExample, ImpliedFollows, ImpliedIsKnown, LearnedFollows, LearnedIsNew, LearnedOnExample, MinimizedFollows, ResolventFollows, ShorterFollows, TrailConflicts};
+ghost use Rattle.varisat_theory.specs.inside.Laws.{CompletenessStays, CoreConflicts, CoreFails, CoreFollows, CoreOnExample, ImpliedFollows, ImpliedIsKnown, LearnedFollows, LearnedIsNew, LearnedOnExample, MinimizedFollows, ResolventFollows, ShorterFollows, TrailConflicts};
 
 /// What is implied may be taken as known. The others here are uses of this law.
 pub fn implied_is_known()

@@ -1,6 +1,6 @@
 //! The Luby sequence and the restart points.
 
-ghost use Rattle.varisat_theory.specs.Laws.{CallPoints, LubyIsDetermined, LubyRules, LubyStarts, RestartPoints, RestartsStart, SmallTermsSum, WalkIsLuby};
+ghost use Rattle.varisat_theory.specs.inside.Laws.{CallPoints, LubyIsDetermined, LubyRules, LubyStarts, RestartPoints, RestartsStart, SmallTermsSum, WalkIsLuby};
 
 /// The two rules of the sequence.
 pub fn luby_rules()

@@ -1,6 +1,6 @@
 //! The rank of a trail, and the number of steps of a call.
 
-ghost use Rattle.varisat_theory.specs.Laws.{BoundIsAPower, CallIsBounded, DistinctIsShort, IntervalsAreBounded, ProgressIsBounded, RankIsBounded, RankRises, RanksAreSteady, RisingIsShort, StepRaisesRank, UnitsComeFirst};
+ghost use Rattle.varisat_theory.specs.inside.Laws.{BoundIsAPower, CallIsBounded, DistinctIsShort, IntervalsAreBounded, ProgressIsBounded, RankIsBounded, RankRises, RanksAreSteady, RisingIsShort, StepRaisesRank, UnitsComeFirst};
 
 /// A trail's rank is below 2^(n+1).
 pub fn rank_is_bounded()

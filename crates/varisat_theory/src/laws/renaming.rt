@@ -1,6 +1,6 @@
 //! What stays under other names for the variables.
 
-ghost use Rattle.varisat_theory.specs.Laws.{ConflictIsNamedBack, ConflictIsRenamed, DerivationIsRenamed, FollowsIsRenamed, RefutationIsRenamed, SatisfactionIsRenamed};
+ghost use Rattle.varisat_theory.specs.inside.Laws.{ConflictIsNamedBack, ConflictIsRenamed, DerivationIsRenamed, FollowsIsRenamed, RefutationIsRenamed, SatisfactionIsRenamed};
 
 /// A renamed clause is satisfied where the clause is, read back.
 pub fn satisfaction_is_renamed()

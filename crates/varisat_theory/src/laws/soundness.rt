@@ -1,6 +1,6 @@
 //! What propagation and derivations say of satisfying assignments, and the forms that they have.
 
-ghost use Rattle.varisat_theory.specs.Laws.{AnswersExclude, AssignedSatisfies, ConflictIsPropagation, ConflictIsSound, DerivationIsLineByLine, DerivationIsSound, DratIsSound, FollowsEntails, PresentIsDetermined, RatIsSound, RefutationIsSound, SaturationHasNoConflict, SetsAreSatisfiedAlike};
+ghost use Rattle.varisat_theory.specs.inside.Laws.{AnswersExclude, AssignedSatisfies, ConflictIsPropagation, ConflictIsSound, DerivationIsLineByLine, DerivationIsSound, DratIsSound, FollowsEntails, PresentIsDetermined, RatIsSound, RefutationIsSound, SaturationHasNoConflict, SetsAreSatisfiedAlike};
 
 /// Where propagation conflicts, nothing satisfies the clauses and the base.
 pub fn conflict_is_sound()

@@ -1,7 +1,7 @@
 //! What the lines of a step, of a call and of loading do to the clauses that a proof holds, and what that says of the
 //! accepted ones.
 
-ghost use Rattle.varisat_theory.specs.StepLaws.{PartsJoin, PartsJoinStep, StepIsPart, MovesProve, UnitIsProved, UnitsAreProved, SatisfiedIsDeleted, LearnedIsDeleted, ClauseIsShortened, VariableIsRetired, ClauseIsLearned, FreshIsNew, EmptyIsAdded, ContradictionIsFound, ModelIsFound, CoreIsFound, LoadedIsKept, LoadedIsUnit, LoadedIsDischarged, LoadedIsDeleted, LoadedIsContradicted, PartsJoinLoad, NoStepIsMade, StepIsMade, NewAreAdded, StepsOfCall, PartsJoinSteps, StepsRefute, FirstAccounts, PartAccounts, StepAccounts, StepsAccount, LoadAccounts, VerdictsAreRight, CountedDerives, KeptAreHeld, NamesAreCovered, NamesStayCovered, NamesAreLoaded, DetachedAreCovered, NamesAreSatisfied};
+ghost use Rattle.varisat_theory.specs.inside.StepLaws.{PartsJoin, PartsJoinStep, StepIsPart, MovesProve, UnitIsProved, UnitsAreProved, SatisfiedIsDeleted, LearnedIsDeleted, ClauseIsShortened, VariableIsRetired, ClauseIsLearned, FreshIsNew, EmptyIsAdded, ContradictionIsFound, ModelIsFound, CoreIsFound, LoadedIsKept, LoadedIsUnit, LoadedIsDischarged, LoadedIsDeleted, LoadedIsContradicted, PartsJoinLoad, NoStepIsMade, StepIsMade, NewAreAdded, StepsOfCall, PartsJoinSteps, StepsRefute, FirstAccounts, PartAccounts, StepAccounts, StepsAccount, LoadAccounts, VerdictsAreRight, CountedDerives, KeptAreHeld, NamesAreCovered, NamesStayCovered, NamesAreLoaded, DetachedAreCovered, NamesAreSatisfied};
 
 /// Two parts of a step in turn are one.
 pub fn parts_join()

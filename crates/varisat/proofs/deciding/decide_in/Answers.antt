@@ -1,12 +1,12 @@
 -- The calls of a new solver, each from the state that the one before leads to.
 use Rattle.std.proofs.Common.{sym, ap, ◌∙◌, subst}
-use Rattle.varisat_solver.specs.States.{Ledger}
-use Rattle.varisat_solver.specs.Summaries.{Represents}
-use Rattle.varisat.specs.Decided.{concluded}
-use Rattle.varisat.specs.Proven.{prepared, Fails, AsRead, AsClosed}
+use Rattle.varisat_solver.specs.promises.States.{Ledger}
+use Rattle.varisat_solver.specs.promises.Summaries.{Represents}
+use Rattle.varisat.specs.promises.Decided.{concluded}
+use Rattle.varisat.specs.promises.Proven.{prepared, Fails, AsRead, AsClosed}
 use Rattle.varisat_trace.proofs.Broken.{passed-on}
 use Rattle.varisat.proofs.ProgramProves.{fails-reported, finds-valid, proven}
-use Rattle.varisat_solver.proofs.LoggedJournals.{proof-of}
+use Rattle.varisat_solver.proofs.entries.LoggedJournals.{proof-of}
 use Rattle.varisat.proofs.deciding.decide_in.Goals as goal
 
 pub returns-in_err-add_dimacs_cnf-clause-fails : goal.returns-in_err-add_dimacs_cnf-clause-fails

@@ -1,4 +1,4 @@
-use Rattle.varisat_solver.proofs.StepEntries.{again-is-no-step}
+use Rattle.varisat_solver.proofs.entries.StepEntries.{again-is-no-step}
 use Rattle.varisat.proofs.laws.again_is_no_step.Goals as goal
 
 pub returns : goal.returns

@@ -1,6 +1,6 @@
 -- Where all words are literals, the text is the command of their clause or list. Where one is none, no command is spelled so.
 use Rattle.std.proofs.Common.{◌++◌, ap, sym, ◌∙◌, map}
-use Rattle.varisat_literals.specs.Numbers.{literal_text}
+use Rattle.varisat_literals.specs.promises.Numbers.{literal_text}
 use Rattle.varisat.proofs.LineLemmas.{words_behind, none_left, clause_read, list_read, no_clause, no_list}
 use Rattle.varisat.proofs.line.parse_literals.Goals as goal
 

@@ -1,8 +1,8 @@
 -- The words read so far are the literals; the others are still to be read.
 use Rattle.std.proofs.Common.{◌≡◌, ◌<◌, ◌^◌, ◌++◌, map}
 use Rattle.std.specs.List.{All}
-use Rattle.varisat_literals.specs.Numbers.{literal_text}
-use Rattle.varisat.specs.Lines.{words_of}
+use Rattle.varisat_literals.specs.promises.Numbers.{literal_text}
+use Rattle.varisat.specs.promises.Lines.{words_of}
 use Rattle.varisat.proofs.LineLemmas.{words_left, bytes_left}
 use Rattle.varisat.proofs.line.parse_literals.Given as goal
 

@@ -1,6 +1,6 @@
 -- The text is one of the three spellings.
 use Rattle.std.proofs.Common.{rules, refl}
-use Rattle.varisat.specs.Lines.{ProofText, ProofBinary, ProofMarked, MeansCommand}
+use Rattle.varisat.specs.promises.Lines.{ProofText, ProofBinary, ProofMarked, MeansCommand}
 use Rattle.varisat.proofs.line.parse_proof.Goals as goal
 
 pub returns-then-eq-clause-command : goal.returns-then-eq-clause-command

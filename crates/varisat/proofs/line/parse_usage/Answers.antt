@@ -1,6 +1,6 @@
 -- What stands behind the command's name is the text of a variable.
 use Rattle.std.proofs.Common.{refl}
-use Rattle.varisat.specs.Lines.{Sample, Witness, Hide}
+use Rattle.varisat.specs.promises.Lines.{Sample, Witness, Hide}
 use Rattle.varisat.proofs.LineLemmas.{sample_read, witness_read, hide_read}
 use Rattle.varisat.proofs.line.parse_usage.Goals as goal
 

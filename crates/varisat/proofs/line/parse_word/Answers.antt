@@ -1,6 +1,6 @@
 -- A word that is a command is that of its call.
 use Rattle.std.proofs.Common.{rules, refl}
-use Rattle.varisat.specs.Lines.{Add, Assume, New, Solve, Model, Core, Steps, Since, Close, Observe, SelfCheck, MeansCommand}
+use Rattle.varisat.specs.promises.Lines.{Add, Assume, New, Solve, Model, Core, Steps, Since, Close, Observe, SelfCheck, MeansCommand}
 use Rattle.varisat.proofs.line.parse_word.Goals as goal
 
 pub returns-then-eq-clause-command : goal.returns-then-eq-clause-command

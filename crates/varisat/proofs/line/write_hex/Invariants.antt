@@ -1,7 +1,7 @@
 -- The bytes so far are written.
 use Rattle.std.proofs.Common.{take}
 use Rattle.std.specs.Io.KnownBytes.{Appends}
-use Rattle.varisat.specs.Lines.{hex_text}
+use Rattle.varisat.specs.promises.Lines.{hex_text}
 use Rattle.varisat.proofs.line.write_hex.Given as goal
 
 abbrev pub invariant-loop-byte : goal.invariant-loop-byte

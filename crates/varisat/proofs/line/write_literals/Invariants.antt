@@ -1,7 +1,7 @@
 -- The literals so far are written.
 use Rattle.std.proofs.Common.{◌∷◌, flat_map, take}
 use Rattle.std.specs.Io.KnownBytes.{Appends}
-use Rattle.varisat_literals.specs.Numbers.{literal_text}
+use Rattle.varisat_literals.specs.promises.Numbers.{literal_text}
 use Rattle.varisat.proofs.line.write_literals.Given as goal
 
 abbrev pub invariant-loop-literal : goal.invariant-loop-literal

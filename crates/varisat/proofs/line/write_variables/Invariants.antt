@@ -1,7 +1,7 @@
 -- The variables so far are written.
 use Rattle.std.proofs.Common.{◌∷◌, flat_map, take}
 use Rattle.std.specs.Io.KnownBytes.{Appends}
-use Rattle.varisat_literals.specs.Numbers.{variable_text}
+use Rattle.varisat_literals.specs.promises.Numbers.{variable_text}
 use Rattle.varisat.proofs.line.write_variables.Given as goal
 
 abbrev pub invariant-loop-variable : goal.invariant-loop-variable

@@ -1,6 +1,6 @@
 -- A command of a line asks for a call that is ready.
 use Rattle.std.proofs.Common.{IfSome, subst}
-use Rattle.varisat.specs.Lines.{Command, AsksFor, MeansCommand}
+use Rattle.varisat.specs.promises.Lines.{Command, AsksFor, MeansCommand}
 use Rattle.varisat.proofs.LineLemmas.{asked-ready}
 use Rattle.varisat.proofs.program.answer_line.Goals as goal
 

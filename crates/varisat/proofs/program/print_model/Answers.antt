@@ -2,8 +2,8 @@
 use Rattle.std.proofs.Common.{refl, ◌∙◌, sym, append_assoc, append-nil, ◌++◌, codes, []}
 use Rattle.varisat_formula.proofs.TargetParts.{put_part, puts_behind}
 use Rattle.varisat_proof.proofs.PrintedTexts.{failed-part}
-use Rattle.varisat.specs.Lines.{literals_text}
-use Rattle.varisat.specs.Decided.{model_text}
+use Rattle.varisat.specs.promises.Lines.{literals_text}
+use Rattle.varisat.specs.promises.Decided.{model_text}
 use Rattle.varisat.proofs.program.print_model.Goals as goal
 
 pub returns-in_err-put : goal.returns-in_err-put

@@ -1,6 +1,6 @@
 -- The number stands behind the space, and each call that fails took a beginning of its part.
 use Rattle.std.proofs.Common.{◌≡◌, ◌∷◌, [], refl, sym, ap, codes, append-nil, rules}
-use Rattle.varisat_literals.specs.Numbers.{literal_text}
+use Rattle.varisat_literals.specs.promises.Numbers.{literal_text}
 use Rattle.varisat_formula.proofs.TargetParts.{puts_behind}
 use Rattle.varisat_proof.proofs.PrintedTexts.{put-once, failed-part}
 use Rattle.varisat.proofs.program.put_literal.Goals as goal

@@ -1,9 +1,9 @@
 -- The literals stand behind each other, and each call that fails took a beginning of its part.
 use Rattle.std.proofs.Common.{◌∷◌, ◌++◌, ap, ◌∙◌, append_assoc, codes, flat_map, take, sym}
-use Rattle.varisat_literals.specs.Numbers.{literal_text}
+use Rattle.varisat_literals.specs.promises.Numbers.{literal_text}
 use Rattle.varisat_formula.proofs.TargetParts.{puts_behind}
 use Rattle.varisat_proof.proofs.PrintedTexts.{put-once, failed-part}
-use Rattle.varisat.specs.Lines.{literals_text}
+use Rattle.varisat.specs.promises.Lines.{literals_text}
 use Rattle.varisat.proofs.PrintedLists.{behind-item, all-taken}
 use Rattle.varisat.proofs.program.put_literals.Goals as goal
 

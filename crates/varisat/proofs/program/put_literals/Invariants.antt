@@ -1,6 +1,6 @@
 -- The literals so far are put.
 use Rattle.std.proofs.Common.{◌≡◌, ◌∷◌, ◌++◌, flat_map, take}
-use Rattle.varisat_literals.specs.Numbers.{literal_text}
+use Rattle.varisat_literals.specs.promises.Numbers.{literal_text}
 use Rattle.varisat.proofs.program.put_literals.Given as goal
 
 abbrev pub invariant-loop-literal : goal.invariant-loop-literal

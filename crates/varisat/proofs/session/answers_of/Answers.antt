@@ -1,6 +1,6 @@
 use Rattle.std.proofs.Common.{ap, sym, ◌∙◌}
-use Rattle.varisat_solver.specs.States.{Ledger, empty_state}
-use Rattle.varisat_solver.proofs.LoggedJournals.{journal-of}
+use Rattle.varisat_solver.specs.promises.States.{Ledger, empty_state}
+use Rattle.varisat_solver.proofs.entries.LoggedJournals.{journal-of}
 use Rattle.varisat.proofs.RunsLogged.{run-counts}
 use Rattle.varisat.proofs.Histories.{of-ok, run-is-true}
 use Rattle.varisat.proofs.FewSteps.{answers-stay-few}

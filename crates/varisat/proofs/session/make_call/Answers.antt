@@ -1,5 +1,5 @@
 use Rattle.std.proofs.Common.{List, ℕ, subst}
-use Rattle.varisat_solver.specs.Calls.{AddsClause, Assumes}
+use Rattle.varisat_solver.specs.promises.Calls.{AddsClause, Assumes}
 use Rattle.varisat.proofs.session.make_call.Goals as goal
 
 pub returns-in-AddClause : goal.returns-in-AddClause

@@ -1,9 +1,9 @@
 use Rattle.std.proofs.Common.{◌≡◌, refl, ◌++◌, ◌∷◌, [], sym, ◌∙◌, ap, subst, arith, length, append_assoc, rules}
 use Rattle.std.proofs.lemmas.List.{nil_from_length, append-nil}
 use Rattle.std.specs.Vec.Iter.{into_iter_items}
-use Rattle.varisat_solver.specs.States.{Ledger}
-use Rattle.varisat.specs.Runs.{Run, AreReady}
-use Rattle.varisat_solver.proofs.LoggedJournals.{journal-of}
+use Rattle.varisat_solver.specs.promises.States.{Ledger}
+use Rattle.varisat.specs.promises.Runs.{Run, AreReady}
+use Rattle.varisat_solver.proofs.entries.LoggedJournals.{journal-of}
 use Rattle.varisat.proofs.RunsLogged.{run-push, ready-next}
 use Rattle.varisat.proofs.FewSteps.{run-stays-few}
 use Rattle.varisat.proofs.StoryAnswers.{run-is-answered}

@@ -1,9 +1,9 @@
 use Rattle.std.proofs.Common.{◌≡◌, ◌≤◌, ◌+◌, ◌++◌, length, vec_len}
 use Rattle.std.specs.Prelude.{vec_capacity}
 use Rattle.std.specs.Vec.Iter.{into_iter_items, into_iter_len}
-use Rattle.varisat_solver.specs.States.{State}
-use Rattle.varisat_solver.specs.Summaries.{Represents}
-use Rattle.varisat.specs.Runs.{Run}
+use Rattle.varisat_solver.specs.promises.States.{State}
+use Rattle.varisat_solver.specs.promises.Summaries.{Represents}
+use Rattle.varisat.specs.promises.Runs.{Run}
 use Rattle.varisat.proofs.session.run.Given as goal
 
 abbrev pub invariant-loop-call : goal.invariant-loop-call

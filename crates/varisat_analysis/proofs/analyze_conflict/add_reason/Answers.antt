@@ -1,5 +1,5 @@
 use Rattle.std.proofs.Common.{length, sym, ap, ◌∙◌, subst, arith}
-use Rattle.varisat_theory.specs.Propagation.{IsFalse}
+use Rattle.varisat_theory.specs.promises.Propagation.{IsFalse}
 use Rattle.varisat_prop.specs.Changes.{NamesClause, causes_of}
 use Rattle.varisat_analysis.specs.Marks.{marking}
 use Rattle.varisat_analysis.proofs.WellFormedViews.{reason-read, inside-true, names-clause, causes-false}

@@ -1,6 +1,6 @@
 use Rattle.std.proofs.lemmas.Grind.{common_steps}
 use Rattle.std.proofs.Common.{length, ◌∙◌, arith}
-use Rattle.varisat_prop.proofs.ReadElements.{element}
+use Rattle.varisat_prop.proofs.views.ReadElements.{element}
 use Rattle.varisat_analysis.proofs.AnalysisFlags.{cleared-more}
 use Rattle.varisat_analysis.proofs.BumpedVariables.{item-below}
 use Rattle.varisat_analysis.proofs.analyze_conflict.clear_flags.Goals as goal

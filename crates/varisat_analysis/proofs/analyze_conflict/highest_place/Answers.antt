@@ -1,6 +1,6 @@
 use Rattle.std.proofs.lemmas.Grind.{common_steps}
 use Rattle.std.proofs.Common.{length, ap, arith}
-use Rattle.varisat_prop.proofs.ReadElements.{item-∈}
+use Rattle.varisat_prop.proofs.views.ReadElements.{item-∈}
 use Rattle.varisat_analysis.proofs.analyze_conflict.highest_place.Goals as goal
 
 pub level-level-requires : goal.level-level-requires

@@ -1,5 +1,5 @@
 use Rattle.std.proofs.Common.{subst, arith, length, ◌<◌, ◌≡◌}
-use Rattle.varisat_theory.specs.Membership.{◌∈◌}
+use Rattle.varisat_theory.specs.promises.Membership.{◌∈◌}
 use Rattle.varisat_analysis.proofs.AnalysisResult.{none-left}
 use Rattle.varisat_analysis.proofs.analyze_conflict.learn_and_clear.Goals as goal
 

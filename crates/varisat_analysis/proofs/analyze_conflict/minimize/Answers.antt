@@ -1,5 +1,5 @@
 use Rattle.std.proofs.Common.{◌≡◌, ◌+◌, ◌<◌, length, sym, ◌∙◌, subst, arith}
-use Rattle.varisat_prop.proofs.ReadElements.{element}
+use Rattle.varisat_prop.proofs.views.ReadElements.{element}
 use Rattle.varisat_analysis.specs.Marks.{marking}
 use Rattle.varisat_analysis.specs.Redundancy.{FindsRedundancy}
 use Rattle.varisat_analysis.proofs.AnalysisMarks.{can-still}

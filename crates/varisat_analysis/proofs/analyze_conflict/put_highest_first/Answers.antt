@@ -1,5 +1,5 @@
 use Rattle.std.proofs.Common.{ℕ, ◌<◌, ◌≤◌, length, get_or, ap, ◌∙◌, subst, arith}
-use Rattle.varisat_prop.proofs.ReadElements.{element, item-∈}
+use Rattle.varisat_prop.proofs.views.ReadElements.{element, item-∈}
 use Rattle.varisat_prop.specs.View.{level_of}
 use Rattle.varisat_analysis.proofs.WellFormedViews.{level-read}
 use Rattle.varisat_analysis.proofs.AnalysisResult.{fronted-now, level-fronted}

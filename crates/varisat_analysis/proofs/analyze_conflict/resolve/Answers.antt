@@ -1,6 +1,6 @@
 use Rattle.std.proofs.lemmas.Grind.{common_steps}
 use Rattle.std.proofs.Common.{◌-◌, ◌+◌, false, length, length-set, refl, sym, ap, ◌∙◌, subst, arith}
-use Rattle.varisat_theory.specs.Propagation.{IsFalse}
+use Rattle.varisat_theory.specs.promises.Propagation.{IsFalse}
 use Rattle.varisat_prop.specs.Changes.{NamesPlace, named_in}
 use Rattle.varisat_analysis.specs.Marks.{marking}
 use Rattle.varisat_analysis.proofs.WellFormedViews.{named-place}

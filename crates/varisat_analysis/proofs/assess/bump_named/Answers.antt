@@ -1,12 +1,12 @@
 use Rattle.std.proofs.Common.{◌≡◌, List, take_all, get_or, sym, ◌∙◌, subst, refl}
-use Rattle.varisat_theory.specs.Membership.{◌∈◌}
-use Rattle.varisat_theory.specs.Literals.{Literal}
+use Rattle.varisat_theory.specs.promises.Membership.{◌∈◌}
+use Rattle.varisat_theory.specs.promises.Literals.{Literal}
 use Rattle.varisat_clause.specs.Stored.{IsClauseRef}
 use Rattle.varisat_clause.specs.Stores.{Store}
 use Rattle.varisat_clause.specs.Collected.{live_clauses}
 use Rattle.varisat_prop.specs.declared.prop.graph.Conflict.{Conflict}
 use Rattle.varisat_prop.specs.declared.prop.graph.Conflict.TheVariants as conflict
-use Rattle.varisat_prop.proofs.ReadElements.{item-∈}
+use Rattle.varisat_prop.proofs.views.ReadElements.{item-∈}
 use Rattle.varisat_analysis.specs.Bumps.{literals_among}
 use Rattle.varisat_analysis.specs.HeaderChanges.{SameButHeaders}
 use Rattle.varisat_analysis.proofs.BumpedVariables.{name-snoc, in-among}

@@ -1,5 +1,5 @@
 use Rattle.std.proofs.Common.{◌∙◌, ap, arith, take_all}
-use Rattle.varisat_prop.proofs.ReadElements.{item-∈}
+use Rattle.varisat_prop.proofs.views.ReadElements.{item-∈}
 use Rattle.varisat_analysis.specs.Bumps.{bumped_each}
 use Rattle.varisat_analysis.proofs.BumpedVariables.{bumped-next}
 use Rattle.varisat_analysis.proofs.bumps.bump_each.Goals as goal

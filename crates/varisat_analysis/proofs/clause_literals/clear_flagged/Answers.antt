@@ -1,5 +1,5 @@
 use Rattle.std.proofs.Common.{◌+◌, set, false, sym, subst, arith}
-use Rattle.varisat_prop.proofs.ReadElements.{element, item-∈}
+use Rattle.varisat_prop.proofs.views.ReadElements.{element, item-∈}
 use Rattle.varisat_analysis.proofs.CopiedLiterals.{Cleared, cleared-start, cleared-next, cleared-end, flag-inside}
 use Rattle.varisat_analysis.proofs.clause_literals.clear_flagged.Goals as goal
 

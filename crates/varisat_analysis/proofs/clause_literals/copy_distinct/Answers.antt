@@ -1,8 +1,8 @@
 use Rattle.std.proofs.Common.{◌≡◌, ℕ, ◌++◌, [], ◌∷◌, slice_index_or, set, true, false, IsTrue, ◌↔◌, length-set, take_all, sym, ap, ◌∙◌, subst, arith}
-use Rattle.varisat_theory.specs.Membership.{◌∈◌, SameSet}
-use Rattle.varisat_theory.specs.Literals.{opposite}
+use Rattle.varisat_theory.specs.promises.Membership.{◌∈◌, SameSet}
+use Rattle.varisat_theory.specs.promises.Literals.{opposite}
 use Rattle.varisat_analysis.specs.Flags.{AreFlagged}
-use Rattle.varisat_prop.proofs.ReadElements.{element, item-∈}
+use Rattle.varisat_prop.proofs.views.ReadElements.{element, item-∈}
 use Rattle.varisat_analysis.proofs.CopiedLiterals.{copied-more, copied-same, flagged-more, flagged-none, tautology-more}
 use Rattle.varisat_analysis.proofs.clause_literals.copy_distinct.Goals as goal
 

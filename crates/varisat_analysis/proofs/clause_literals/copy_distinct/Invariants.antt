@@ -1,6 +1,6 @@
 use Rattle.std.proofs.Common.{take, IsTrue, ◌↔◌}
-use Rattle.varisat_theory.specs.Membership.{SameSet, IsDistinct}
-use Rattle.varisat_theory.specs.Searches.{IsTautology}
+use Rattle.varisat_theory.specs.promises.Membership.{SameSet, IsDistinct}
+use Rattle.varisat_theory.specs.promises.Searches.{IsTautology}
 use Rattle.varisat_analysis.specs.Flags.{AreFlagged}
 use Rattle.varisat_analysis.proofs.clause_literals.copy_distinct.Given as goal
 

@@ -1,7 +1,7 @@
 use Rattle.std.proofs.lemmas.Grind.{common_steps}
 use Rattle.std.proofs.Common.{refl, arith}
 use Rattle.varisat_prop.specs.Parts.{IsMadeTrue}
-use Rattle.varisat_prop.proofs.ReadElements.{item-∈}
+use Rattle.varisat_prop.proofs.views.ReadElements.{item-∈}
 use Rattle.varisat_analysis.proofs.FoundLiterals.{one-found, none-so-far}
 use Rattle.varisat_analysis.proofs.clause_literals.is_satisfied.Goals as goal
 

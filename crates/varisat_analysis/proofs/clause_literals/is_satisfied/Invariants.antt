@@ -1,5 +1,5 @@
 use Rattle.std.proofs.Common.{ℕ, take}
-use Rattle.varisat_theory.specs.Membership.{◌∈◌}
+use Rattle.varisat_theory.specs.promises.Membership.{◌∈◌}
 use Rattle.varisat_prop.specs.Parts.{IsMadeTrue}
 use Rattle.varisat_analysis.proofs.clause_literals.is_satisfied.Given as goal
 

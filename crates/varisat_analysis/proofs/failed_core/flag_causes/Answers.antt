@@ -1,5 +1,5 @@
 use Rattle.std.proofs.Common.{◌∙◌, arith}
-use Rattle.varisat_prop.proofs.ReadElements.{item-∈}
+use Rattle.varisat_prop.proofs.views.ReadElements.{item-∈}
 use Rattle.varisat_analysis.proofs.WellFormedViews.{read-inside, level-read}
 use Rattle.varisat_analysis.proofs.CoreWalk.{flags-start, flags-skip, flags-set, flags-end, cause-flag}
 use Rattle.varisat_analysis.proofs.failed_core.flag_causes.Goals as goal

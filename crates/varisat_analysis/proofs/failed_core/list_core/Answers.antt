@@ -1,6 +1,6 @@
 use Rattle.std.proofs.Common.{length, ⊎_elim, refl, sym, ◌∙◌, subst, arith}
-use Rattle.varisat_theory.specs.Membership.{◌∈◌}
-use Rattle.varisat_theory.specs.Literals.{opposite}
+use Rattle.varisat_theory.specs.promises.Membership.{◌∈◌}
+use Rattle.varisat_theory.specs.promises.Literals.{opposite}
 use Rattle.varisat_analysis.proofs.CoreWalk.{true-flag, core-start, core-clear, core-end, pass-true, pass-skip, pass-next, at-start}
 use Rattle.varisat_analysis.proofs.failed_core.list_core.Goals as goal
 

@@ -1,5 +1,5 @@
 use Rattle.std.proofs.Common.{◌≡◌, ◌++◌, false, length, length-set, set, sym, ap, ◌∙◌, subst, arith}
-use Rattle.varisat_theory.specs.Propagation.{IsFalse}
+use Rattle.varisat_theory.specs.promises.Propagation.{IsFalse}
 use Rattle.varisat_clause.specs.Collected.{live_clauses}
 use Rattle.varisat_prop.specs.Changes.{NamesClause, causes_of}
 use Rattle.varisat_prop.specs.View.{node_of}

@@ -1,5 +1,5 @@
 use Rattle.std.proofs.Common.{◌≡◌, ◌+◌, true, false, take, take_all, get_or, set, sym, subst, arith}
-use Rattle.varisat_prop.proofs.ReadElements.{item-∈}
+use Rattle.varisat_prop.proofs.views.ReadElements.{item-∈}
 use Rattle.varisat_analysis.specs.Bumps.{level_in}
 use Rattle.varisat_analysis.proofs.BumpedVariables.{item-snoc}
 use Rattle.varisat_analysis.proofs.CountedLevels.{level-is, has-node, level-flagged, Counts, counts-none, counts-old, counts-new, counts-all, counts-only}

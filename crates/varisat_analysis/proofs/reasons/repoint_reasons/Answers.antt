@@ -1,7 +1,7 @@
 use Rattle.std.proofs.lemmas.Grind.{common_steps}
 use Rattle.std.proofs.Common.{◌≡◌, ◌<◌, ◌+◌, length, drop, get_or, sym, ap, ◌∙◌, subst, arith}
-use Rattle.varisat_theory.specs.Literals.{variable_of}
-use Rattle.varisat_theory.proofs.Places.{∈-get_or}
+use Rattle.varisat_theory.specs.promises.Literals.{variable_of}
+use Rattle.varisat_theory.proofs.clauses.Places.{∈-get_or}
 use Rattle.varisat_clause.specs.Stored.{StoredClause, IsClauseRef, no_clause, stored_at}
 use Rattle.varisat_clause.specs.Stores.{stored_clauses}
 use Rattle.varisat_clause.specs.Collected.{live_clauses}

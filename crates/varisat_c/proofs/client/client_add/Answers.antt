@@ -1,7 +1,7 @@
 use Rattle.std.proofs.Common.{subst}
 use Rattle.std.proofs.Math.Facts.{to_z-of_z}
-use Rattle.varisat_client.specs.Pasts.{AddsNumber}
-use Rattle.varisat_client.specs.Clients.{Client, Moves}
+use Rattle.varisat_client.specs.promises.Pasts.{AddsNumber}
+use Rattle.varisat_client.specs.inside.Clients.{Client, Moves}
 use Rattle.varisat_c.proofs.client.client_add.Goals as goal
 
 pub returns : goal.returns

@@ -1,7 +1,7 @@
 use Rattle.std.proofs.Common.{subst}
 use Rattle.std.proofs.Math.Facts.{to_z-of_z}
-use Rattle.varisat_client.specs.Pasts.{AssumesNumber}
-use Rattle.varisat_client.specs.Clients.{Client, Moves}
+use Rattle.varisat_client.specs.promises.Pasts.{AssumesNumber}
+use Rattle.varisat_client.specs.inside.Clients.{Client, Moves}
 use Rattle.varisat_c.proofs.client.client_assume.Goals as goal
 
 pub returns : goal.returns

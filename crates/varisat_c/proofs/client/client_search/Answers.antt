@@ -1,5 +1,5 @@
 use Rattle.std.proofs.Common.{subst}
-use Rattle.varisat_client.specs.Clients.{Client, Moves}
+use Rattle.varisat_client.specs.inside.Clients.{Client, Moves}
 use Rattle.varisat_c.specs.Ends.{SearchesBy}
 use Rattle.varisat_c.proofs.SearchEnds.{returned-by}
 use Rattle.varisat_c.proofs.client.client_search.Goals as goal

@@ -1,7 +1,7 @@
 use Rattle.std.proofs.Common.{◌≡◌, [], ◌∷◌, ◌++◌, map, sym, ap, subst, ◌∙◌, append_assoc}
 use Rattle.std.proofs.lemmas.List.{map-append}
 use Rattle.varisat_plain.proofs.Scans.{answers_false}
-use Rattle.varisat_proof.specs.Verified.{AreGiven}
+use Rattle.varisat_proof.specs.promises.Verified.{AreGiven}
 use Rattle.varisat_proof.proofs.VerifiedTexts.{given_more, next_among}
 use Rattle.varisat_calls.proofs.checks.are_given.Goals as goal
 

@@ -1,5 +1,5 @@
 use Rattle.std.proofs.Common.{◌≡◌, ◌++◌, map}
-use Rattle.varisat_proof.specs.Verified.{AreGiven}
+use Rattle.varisat_proof.specs.promises.Verified.{AreGiven}
 use Rattle.varisat_calls.proofs.checks.are_given.Given as goal
 
 abbrev pub invariant-loop-clause : goal.invariant-loop-clause

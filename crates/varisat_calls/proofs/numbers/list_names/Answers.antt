@@ -1,6 +1,6 @@
 use Rattle.std.proofs.Common.{true, map, ap, rules, SFits, w32, ◌∙◌}
 use Rattle.std.proofs.Math.Facts.{to_z-of_z}
-use Rattle.varisat_theory.specs.Literals.{literal_of}
+use Rattle.varisat_theory.specs.promises.Literals.{literal_of}
 use Rattle.varisat_calls.specs.Numbers.{returned_number}
 use Rattle.varisat_calls.proofs.Reading.{read-more, take-whole}
 use Rattle.varisat_calls.proofs.numbers.list_names.Goals as goal

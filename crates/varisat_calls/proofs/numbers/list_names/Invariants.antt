@@ -1,5 +1,5 @@
 use Rattle.std.proofs.Common.{◌≡◌, true, map, take}
-use Rattle.varisat_theory.specs.Literals.{literal_of}
+use Rattle.varisat_theory.specs.promises.Literals.{literal_of}
 use Rattle.varisat_calls.specs.Numbers.{returned_number}
 use Rattle.varisat_calls.proofs.numbers.list_names.Given as goal
 

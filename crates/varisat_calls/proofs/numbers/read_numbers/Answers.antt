@@ -1,6 +1,6 @@
 use Rattle.std.proofs.Common.{◌≡◌, ℤ, pos, get_or, sym, ap, rules, SFits, to_z, of_z, w32, ◌∙◌}
 use Rattle.std.proofs.Math.Facts.{to_z-of_z}
-use Rattle.varisat_literals.specs.Numbers.{literal_numbered}
+use Rattle.varisat_literals.specs.promises.Numbers.{literal_numbered}
 use Rattle.varisat_calls.proofs.Reading.{get-any, read-more, absent-more, is-entry}
 use Rattle.varisat_calls.proofs.numbers.read_numbers.Goals as goal
 

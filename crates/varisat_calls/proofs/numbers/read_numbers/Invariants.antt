@@ -1,6 +1,6 @@
 use Rattle.std.proofs.Common.{◌≡◌, pos, map, take}
-use Rattle.varisat_theory.specs.Membership.{◌∈◌}
-use Rattle.varisat_literals.specs.Numbers.{literal_numbered}
+use Rattle.varisat_theory.specs.promises.Membership.{◌∈◌}
+use Rattle.varisat_literals.specs.promises.Numbers.{literal_numbered}
 use Rattle.varisat_calls.proofs.numbers.read_numbers.Given as goal
 
 abbrev pub invariant-loop-number : goal.invariant-loop-number

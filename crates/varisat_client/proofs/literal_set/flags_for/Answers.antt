@@ -1,7 +1,7 @@
 use Rattle.std.proofs.Common.{◌<◌, ◌≤◌, ◌^◌, take, sym, subst, arith}
-use Rattle.varisat_theory.proofs.Places.{∈-take_all}
-use Rattle.varisat_solver.proofs.ReadPlaces.{take-item}
-use Rattle.varisat_client.specs.LiteralSets.{HaveFlags}
+use Rattle.varisat_theory.proofs.clauses.Places.{∈-take_all}
+use Rattle.varisat_solver.proofs.calls.ReadPlaces.{take-item}
+use Rattle.varisat_client.specs.inside.LiteralSets.{HaveFlags}
 use Rattle.varisat_client.proofs.SetFlags.{below-push}
 use Rattle.varisat_client.proofs.literal_set.flags_for.Goals as goal
 use Rattle.varisat_client.proofs.literal_set.flags_for.Goals.{then-count-code, else-count-code}

@@ -1,5 +1,5 @@
 use Rattle.std.proofs.Common.{◌≤◌, ◌^◌, take}
-use Rattle.varisat_client.specs.LiteralSets.{HaveFlags}
+use Rattle.varisat_client.specs.inside.LiteralSets.{HaveFlags}
 use Rattle.varisat_client.proofs.literal_set.flags_for.Given as goal
 
 abbrev pub invariant-loop-lit : goal.invariant-loop-lit

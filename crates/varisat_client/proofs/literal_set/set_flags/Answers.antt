@@ -1,7 +1,7 @@
 use Rattle.std.proofs.Common.{take, set, true, sym, subst, arith, length-set, ◌∙◌}
-use Rattle.varisat_prop.proofs.ReadElements.{item-∈}
-use Rattle.varisat_solver.proofs.ReadPlaces.{take-item}
-use Rattle.varisat_client.specs.LiteralSets.{IsSetOf}
+use Rattle.varisat_prop.proofs.views.ReadElements.{item-∈}
+use Rattle.varisat_solver.proofs.calls.ReadPlaces.{take-item}
+use Rattle.varisat_client.specs.inside.LiteralSets.{IsSetOf}
 use Rattle.varisat_client.proofs.SetFlags.{set-push}
 use Rattle.varisat_client.proofs.literal_set.set_flags.Goals as goal
 

@@ -1,7 +1,7 @@
 use Rattle.std.proofs.Common.{refl}
 use Rattle.varisat.proofs.Histories.{of-ok}
-use Rattle.varisat_client.specs.Pasts.{empty_past}
-use Rattle.varisat_client.specs.Given.{none_given}
+use Rattle.varisat_client.specs.promises.Pasts.{empty_past}
+use Rattle.varisat_client.specs.promises.Given.{none_given}
 use Rattle.varisat_client.proofs.Given.{are-decided}
 use Rattle.varisat_client.proofs.session.answers_of.Goals as goal
 

@@ -1,8 +1,8 @@
 use Rattle.std.proofs.Common.{rules, w32, refl, sym, subst}
 use Rattle.std.proofs.Math.Facts.{to_z-of_z}
 use mir.Val.{SFits}
-use Rattle.varisat_client.specs.Pasts.{Past, AddsNumber, AssumesNumber, ReturnsValue, ReturnsFailed}
-use Rattle.varisat_client.specs.Clients.{RepresentsPast}
+use Rattle.varisat_client.specs.promises.Pasts.{Past, AddsNumber, AssumesNumber, ReturnsValue, ReturnsFailed}
+use Rattle.varisat_client.specs.inside.Clients.{RepresentsPast}
 use Rattle.varisat_client.proofs.session.make_call.Goals as goal
 
 pub returns-in-Add : goal.returns-in-Add

@@ -1,7 +1,7 @@
 use Rattle.std.proofs.Common.{◌≡◌, refl, ◌++◌, ◌∷◌, [], sym, ◌∙◌, ap, subst, arith, length, append_assoc, rules}
 use Rattle.std.proofs.lemmas.List.{nil_from_length, append-nil}
 use Rattle.std.specs.Vec.Iter.{into_iter_items}
-use Rattle.varisat_client.specs.Runs.{MakeInTurn}
+use Rattle.varisat_client.specs.promises.Runs.{MakeInTurn}
 use Rattle.varisat_client.proofs.Runs.{run-push}
 use Rattle.varisat_client.proofs.session.run.Goals as goal
 

@@ -1,8 +1,8 @@
 use Rattle.std.proofs.Common.{◌≡◌, ◌≤◌, ◌+◌, ◌++◌, length, vec_len}
 use Rattle.std.specs.Prelude.{vec_capacity}
 use Rattle.std.specs.Vec.Iter.{into_iter_items, into_iter_len}
-use Rattle.varisat_client.specs.Clients.{Moves}
-use Rattle.varisat_client.specs.Runs.{MakeInTurn}
+use Rattle.varisat_client.specs.inside.Clients.{Moves}
+use Rattle.varisat_client.specs.promises.Runs.{MakeInTurn}
 use Rattle.varisat_client.proofs.session.run.Given as goal
 
 abbrev pub invariant-loop-call : goal.invariant-loop-call

@@ -1,5 +1,5 @@
 use Rattle.std.proofs.Common.{⊎_elim, sym, ap, ◌∙◌, arith}
-use Rattle.varisat_theory.proofs.Places.{∈-take_more, ∈-take_all}
+use Rattle.varisat_theory.proofs.clauses.Places.{∈-take_more, ∈-take_all}
 use Rattle.varisat_maxsat.specs.declared.charge.Charge.{Charge}
 use Rattle.varisat_maxsat.proofs.charge.least_weight.Goals as goal
 

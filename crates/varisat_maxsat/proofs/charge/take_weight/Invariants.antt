@@ -1,5 +1,5 @@
 use Rattle.std.proofs.Common.{take}
-use Rattle.varisat_maxsat.specs.Charges.{TakesWeight}
+use Rattle.varisat_maxsat.specs.inside.Charges.{TakesWeight}
 use Rattle.varisat_maxsat.proofs.charge.take_weight.Given as goal
 
 abbrev pub invariant-loop-charge : goal.invariant-loop-charge

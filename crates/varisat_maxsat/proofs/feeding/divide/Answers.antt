@@ -1,8 +1,8 @@
 use Rattle.std.proofs.Common.{rules, w32, ◌+◌, sym, ap, ◌∙◌, subst, take}
 use Rattle.std.proofs.Math.Facts.{to_z-of_z}
 use mir.Val.{SFits}
-use Rattle.varisat_client.specs.Pasts.{ReturnsFailed}
-use Rattle.varisat_maxsat.specs.Charges.{IsSplit}
+use Rattle.varisat_client.specs.promises.Pasts.{ReturnsFailed}
+use Rattle.varisat_maxsat.specs.inside.Charges.{IsSplit}
 use Rattle.varisat_maxsat.proofs.Given.{divides-failed, divides-kept}
 use Rattle.varisat_maxsat.proofs.feeding.divide.Goals as goal
 use Rattle.varisat_maxsat.proofs.feeding.divide.Goals.{then-has_failed+in_ok-push, else-has_failed+in_ok-push-2}

@@ -1,7 +1,7 @@
 use Rattle.std.proofs.Common.{take}
-use Rattle.varisat_client.specs.Pasts.{Past}
-use Rattle.varisat_maxsat.specs.Charges.{IsSplit}
-use Rattle.varisat_maxsat.specs.Reductions.{IsReady}
+use Rattle.varisat_client.specs.promises.Pasts.{Past}
+use Rattle.varisat_maxsat.specs.inside.Charges.{IsSplit}
+use Rattle.varisat_maxsat.specs.inside.Reductions.{IsReady}
 use Rattle.varisat_maxsat.proofs.feeding.divide.Given as goal
 
 abbrev pub invariant-loop-charge : goal.invariant-loop-charge

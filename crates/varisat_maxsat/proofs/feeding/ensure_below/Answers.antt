@@ -1,6 +1,6 @@
 use Rattle.std.proofs.Common.{◌<◌, ⊎_elim, sym, ◌∙◌, subst, arith}
-use Rattle.varisat_theory.specs.Literals.{variable_of}
-use Rattle.varisat_theory.proofs.Places.{∈-take_more}
+use Rattle.varisat_theory.specs.promises.Literals.{variable_of}
+use Rattle.varisat_theory.proofs.clauses.Places.{∈-take_more}
 use Rattle.varisat_maxsat.proofs.feeding.ensure_below.Goals as goal
 
 pub loop-literal-preserved : goal.loop-literal-preserved

@@ -1,5 +1,5 @@
 use Rattle.std.proofs.Common.{take}
-use Rattle.varisat_maxsat.specs.Charges.{AreBelow}
+use Rattle.varisat_maxsat.specs.inside.Charges.{AreBelow}
 use Rattle.varisat_maxsat.proofs.feeding.ensure_below.Given as goal
 
 abbrev pub invariant-loop-literal : goal.invariant-loop-literal

@@ -2,8 +2,8 @@ use Rattle.std.proofs.Common.{rules, w32, subst}
 use Rattle.std.proofs.Math.Facts.{to_z-of_z}
 use Rattle.std.proofs.lemmas.List.{take_all}
 use mir.Val.{SFits}
-use Rattle.varisat_client.specs.Pasts.{Past, AddsNumber}
-use Rattle.varisat_client.specs.Clients.{RepresentsPast}
+use Rattle.varisat_client.specs.promises.Pasts.{Past, AddsNumber}
+use Rattle.varisat_client.specs.inside.Clients.{RepresentsPast}
 use Rattle.varisat_maxsat.proofs.Given.{gives-none, gives-next, gives-all}
 use Rattle.varisat_maxsat.proofs.feeding.give.Goals as goal
 

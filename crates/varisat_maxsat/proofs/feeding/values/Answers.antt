@@ -2,8 +2,8 @@ use Rattle.std.proofs.Common.{◌≡◌, ℤ, ◌+◌, true, ◌↔◌, rules, w
 use Rattle.std.proofs.lemmas.Bool.{eqb-true}
 use Rattle.std.proofs.Math.Facts.{to_z-of_z}
 use mir.Val.{SFits}
-use Rattle.varisat_client.specs.Pasts.{ReturnsValue}
-use Rattle.varisat_maxsat.specs.Charges.{AreValues}
+use Rattle.varisat_client.specs.promises.Pasts.{ReturnsValue}
+use Rattle.varisat_maxsat.specs.inside.Charges.{AreValues}
 use Rattle.varisat_maxsat.proofs.Given.{values-next}
 use Rattle.varisat_maxsat.proofs.feeding.values.Goals as goal
 

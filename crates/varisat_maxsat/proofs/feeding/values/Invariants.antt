@@ -1,7 +1,7 @@
-use Rattle.varisat_theory.specs.Literals.{Assignment, MakesTrue}
-use Rattle.varisat_client.specs.Pasts.{Past}
-use Rattle.varisat_maxsat.specs.Charges.{AreValues}
-use Rattle.varisat_maxsat.specs.Reductions.{IsReady}
+use Rattle.varisat_theory.specs.promises.Literals.{Assignment, MakesTrue}
+use Rattle.varisat_client.specs.promises.Pasts.{Past}
+use Rattle.varisat_maxsat.specs.inside.Charges.{AreValues}
+use Rattle.varisat_maxsat.specs.inside.Reductions.{IsReady}
 use Rattle.varisat_maxsat.proofs.feeding.values.Given as goal
 
 abbrev pub invariant-loop-index : goal.invariant-loop-index

@@ -1,6 +1,6 @@
 use Rattle.std.proofs.Common.{◌≡◌, ◌∙◌, ◌++◌, ◌∷◌, [], sym, ap, subst, map, append_assoc, append-nil}
 use Rattle.std.proofs.lemmas.List.{map-append}
-use Rattle.varisat_maxsat.specs.Reductions.{ReducesTo}
+use Rattle.varisat_maxsat.specs.inside.Reductions.{ReducesTo}
 use Rattle.varisat_maxsat.proofs.Standing.{hard-next}
 use Rattle.varisat_maxsat.proofs.problem.add_all_hard.Goals as goal
 

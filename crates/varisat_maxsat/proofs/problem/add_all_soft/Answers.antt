@@ -1,7 +1,7 @@
 use Rattle.std.proofs.Common.{◌≡◌, ◌<◌, ◌∙◌, ◌+◌, ◌++◌, ◌∷◌, [], refl, sym, ap, subst, map, take, length, append_assoc, append-nil, arith}
 use Rattle.std.proofs.lemmas.List.{map-append, length-append, take_all}
-use Rattle.varisat_maxsat.specs.Problems.{paired}
-use Rattle.varisat_maxsat.specs.Reductions.{ReducesTo}
+use Rattle.varisat_maxsat.specs.promises.Problems.{paired}
+use Rattle.varisat_maxsat.specs.inside.Reductions.{ReducesTo}
 use Rattle.varisat_maxsat.proofs.Standing.{soft-next, clause-room}
 use Rattle.varisat_maxsat.proofs.problem.add_all_soft.Goals as goal
 

@@ -1,6 +1,6 @@
 use Rattle.std.proofs.Common.{◌≡◌, ◌++◌, map, take, length}
-use Rattle.varisat_maxsat.specs.Problems.{Problem, paired}
-use Rattle.varisat_maxsat.specs.Reductions.{ReducesTo}
+use Rattle.varisat_maxsat.specs.promises.Problems.{Problem, paired}
+use Rattle.varisat_maxsat.specs.inside.Reductions.{ReducesTo}
 use Rattle.varisat_maxsat.proofs.problem.add_all_soft.Given as goal
 
 abbrev pub invariant-loop-clause : goal.invariant-loop-clause

@@ -1,5 +1,5 @@
 use Rattle.std.proofs.Common.{◌≡◌, ◌++◌, take}
-use Rattle.varisat_maxsat.specs.Printed.{value_digits}
+use Rattle.varisat_maxsat.specs.inside.Printed.{value_digits}
 use Rattle.varisat_maxsat.proofs.program.put_values.Given as goal
 
 abbrev pub invariant-loop-value : goal.invariant-loop-value

@@ -1,5 +1,5 @@
 use Rattle.std.proofs.Common.{refl, subst}
-use Rattle.varisat_maxsat.specs.Printed.{Answers, Read, Refused}
+use Rattle.varisat_maxsat.specs.inside.Printed.{Answers, Read, Refused}
 use Rattle.varisat_maxsat.proofs.program.solve_lines.Goals as goal
 
 pub returns-in-Ok : goal.returns-in-Ok

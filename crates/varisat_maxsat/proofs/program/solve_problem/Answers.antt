@@ -1,7 +1,7 @@
 use Rattle.std.proofs.Common.{subst, MatchOption}
-use Rattle.varisat_theory.specs.Literals.{IsSatisfiable}
-use Rattle.varisat_maxsat.specs.Problems.{IsOptimum}
-use Rattle.varisat_maxsat.specs.Printed.{Optimum}
+use Rattle.varisat_theory.specs.promises.Literals.{IsSatisfiable}
+use Rattle.varisat_maxsat.specs.promises.Problems.{IsOptimum}
+use Rattle.varisat_maxsat.specs.inside.Printed.{Optimum}
 use Rattle.varisat_maxsat.proofs.program.solve_problem.Goals as goal
 
 pub returns-in-Ok-Some : goal.returns-in-Ok-Some

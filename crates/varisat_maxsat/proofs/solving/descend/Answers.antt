@@ -1,5 +1,5 @@
 use Rattle.std.proofs.Common.{◌≡◌, true, false, sym, subst}
-use Rattle.varisat_maxsat.specs.Reductions.{ReducesTo, ReducesToAfter, IsRelaxed}
+use Rattle.varisat_maxsat.specs.inside.Reductions.{ReducesTo, ReducesToAfter, IsRelaxed}
 use Rattle.varisat_maxsat.proofs.Standing.{stands-still, not-true, not-false}
 use Rattle.varisat_maxsat.proofs.solving.descend.Goals as goal
 use Rattle.varisat_maxsat.proofs.solving.descend.Goals.{then-branch+else-threshold-eq0, else-branch+in_ok-relax+else-not-branch}

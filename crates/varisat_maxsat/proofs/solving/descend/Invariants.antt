@@ -1,5 +1,5 @@
-use Rattle.varisat_maxsat.specs.Problems.{Problem}
-use Rattle.varisat_maxsat.specs.Reductions.{ReducesTo}
+use Rattle.varisat_maxsat.specs.promises.Problems.{Problem}
+use Rattle.varisat_maxsat.specs.inside.Reductions.{ReducesTo}
 use Rattle.varisat_maxsat.proofs.solving.descend.Given as goal
 
 abbrev pub invariant-turns : goal.invariant-turns

@@ -1,6 +1,6 @@
 use Rattle.std.proofs.Common.{subst}
-use Rattle.varisat_maxsat.specs.Problems.{starting}
-use Rattle.varisat_maxsat.specs.Reductions.{ReducesTo}
+use Rattle.varisat_maxsat.specs.promises.Problems.{starting}
+use Rattle.varisat_maxsat.specs.inside.Reductions.{ReducesTo}
 use Rattle.varisat_maxsat.proofs.Standing.{if-ok}
 use Rattle.varisat_maxsat.proofs.solving.optimize.Goals as goal
 

@@ -1,5 +1,5 @@
 use Rattle.std.proofs.Common.{sym, subst}
-use Rattle.varisat_maxsat.specs.Problems.{IsOptimum}
+use Rattle.varisat_maxsat.specs.promises.Problems.{IsOptimum}
 use Rattle.varisat_maxsat.proofs.solving.optimum_of.Goals as goal
 
 pub returns : goal.returns

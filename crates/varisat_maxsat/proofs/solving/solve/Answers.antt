@@ -1,5 +1,5 @@
 use Rattle.std.proofs.Common.{◌≡◌, true, false, subst}
-use Rattle.varisat_maxsat.specs.Reductions.{Ends}
+use Rattle.varisat_maxsat.specs.inside.Reductions.{Ends}
 use Rattle.varisat_maxsat.proofs.Standing.{not-true, not-false}
 use Rattle.varisat_maxsat.proofs.solving.solve.Goals as goal
 

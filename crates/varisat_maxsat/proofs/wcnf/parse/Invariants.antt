@@ -1,5 +1,5 @@
 use Rattle.std.proofs.Common.{◌≡◌, ◌+◌, ◌≤◌, length, Ok}
-use Rattle.varisat_maxsat.specs.Texts.{after_lines, wcnf}
+use Rattle.varisat_maxsat.specs.inside.Texts.{after_lines, wcnf}
 use Rattle.varisat_maxsat.proofs.Reading.{lines_left, bytes_left}
 use Rattle.varisat_maxsat.proofs.wcnf.parse.Given as goal
 

@@ -1,7 +1,7 @@
 use Rattle.std.proofs.Common.{◌≡◌, ◌==◌, true, false, rules, tests, Some, None}
 use Rattle.std.proofs.lemmas.List.{take_rest}
 use Rattle.std.proofs.lemmas.Iterator.{IsFirst-from_position, YieldsList-from_slice}
-use Rattle.varisat_formula.specs.Dimacs.{is_line_feed}
+use Rattle.varisat_formula.specs.promises.Dimacs.{is_line_feed}
 use Rattle.varisat_maxsat.proofs.Reading.{cut_at, uncut}
 use Rattle.varisat_maxsat.proofs.wcnf.split_line.Goals as goal
 

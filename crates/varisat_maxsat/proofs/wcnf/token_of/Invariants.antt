@@ -1,5 +1,5 @@
 use Rattle.std.proofs.Common.{◌≡◌, take}
-use Rattle.varisat_formula.specs.Machine.{no_word, word_from}
+use Rattle.varisat_formula.specs.inside.Machine.{no_word, word_from}
 use Rattle.varisat_maxsat.proofs.wcnf.token_of.Given as goal
 
 abbrev pub invariant-loop-byte : goal.invariant-loop-byte

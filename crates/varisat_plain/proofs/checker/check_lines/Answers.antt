@@ -1,4 +1,4 @@
-use Rattle.varisat_plain.specs.Checking.{clause_lists}
+use Rattle.varisat_plain.specs.promises.Checking.{clause_lists}
 use Rattle.varisat_plain.proofs.Checking.{checked_start, on_refutation, on_derivation, on_taken, on_unproved, on_absent, conflict_there, calm_there}
 use Rattle.varisat_plain.proofs.checker.check_lines.Goals as goal
 

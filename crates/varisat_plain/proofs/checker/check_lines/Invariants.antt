@@ -1,5 +1,5 @@
 use Rattle.std.proofs.Common.{map, take}
-use Rattle.varisat_plain.specs.Checking.{clause_lists, line_of}
+use Rattle.varisat_plain.specs.promises.Checking.{clause_lists, line_of}
 use Rattle.varisat_plain.proofs.Checking.{Checked}
 use Rattle.varisat_plain.proofs.checker.check_lines.Given as goal
 

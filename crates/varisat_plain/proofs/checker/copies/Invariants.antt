@@ -1,5 +1,5 @@
 use Rattle.std.proofs.Common.{◌≡◌, take}
-use Rattle.varisat_plain.specs.Checking.{clause_lists}
+use Rattle.varisat_plain.specs.promises.Checking.{clause_lists}
 use Rattle.varisat_plain.proofs.checker.copies.Given as goal
 
 abbrev pub invariant-loop-clause : goal.invariant-loop-clause

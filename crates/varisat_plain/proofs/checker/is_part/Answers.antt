@@ -1,5 +1,5 @@
 use Rattle.std.proofs.Common.{get_or}
-use Rattle.varisat_theory.proofs.Places.{∈-get_or}
+use Rattle.varisat_theory.proofs.clauses.Places.{∈-get_or}
 use Rattle.varisat_plain.proofs.Scans.{answers_true, answers_false, refused, granted, part_more, part_all}
 use Rattle.varisat_plain.proofs.checker.is_part.Goals as goal
 

@@ -1,5 +1,5 @@
 use Rattle.std.proofs.Common.{sym, subst}
-use Rattle.varisat_theory.specs.Membership.{SameSet}
+use Rattle.varisat_theory.specs.promises.Membership.{SameSet}
 use Rattle.varisat_plain.proofs.Scans.{refused, granted, list_at, absent_more, absent_all}
 use Rattle.varisat_plain.proofs.checker.place_of.Goals as goal
 

@@ -1,5 +1,5 @@
 use Rattle.std.proofs.Common.{take}
-use Rattle.varisat_plain.specs.Checking.{IsAbsent, clause_lists}
+use Rattle.varisat_plain.specs.promises.Checking.{IsAbsent, clause_lists}
 use Rattle.varisat_plain.proofs.checker.place_of.Given as goal
 
 abbrev pub invariant-loop-i : goal.invariant-loop-i

@@ -1,4 +1,4 @@
-use Rattle.varisat_plain.specs.Checking.{clause_lists}
+use Rattle.varisat_plain.specs.promises.Checking.{clause_lists}
 use Rattle.varisat_plain.proofs.Checking.{absent_line, deleted_line}
 use Rattle.varisat_plain.proofs.checker.take_line.Goals as goal
 

@@ -1,7 +1,7 @@
 use Rattle.std.proofs.Common.{◌≡◌, ℕ, ◌+◌, List, length, take, sym, ap, ◌∙◌, subst, arith}
-use Rattle.varisat_theory.specs.Membership.{◌∈◌}
-use Rattle.varisat_plain.specs.Checking.{clause_lists}
-use Rattle.varisat_theory.specs.Propagation.{Clash}
+use Rattle.varisat_theory.specs.promises.Membership.{◌∈◌}
+use Rattle.varisat_plain.specs.promises.Checking.{clause_lists}
+use Rattle.varisat_theory.specs.promises.Propagation.{Clash}
 use Rattle.varisat_plain.proofs.Scans.{answers_true, answers_false, refused, granted, list_in, list_at, lists_short}
 use Rattle.varisat_plain.proofs.PropagationRounds.{reaches_false, reaches_end, round_pass, round_write, quiet_known, quiet_open, leaves_along, all_complete}
 use Rattle.varisat_plain.proofs.propagation.conflicts.Goals as goal

@@ -1,5 +1,5 @@
 use Rattle.std.proofs.Common.{take}
-use Rattle.varisat_plain.specs.Checking.{clause_lists}
+use Rattle.varisat_plain.specs.promises.Checking.{clause_lists}
 use Rattle.varisat_plain.proofs.PropagationRounds.{Reaches, Round, unknown}
 use Rattle.varisat_plain.proofs.propagation.conflicts.Given as goal
 

@@ -1,6 +1,6 @@
 use Rattle.std.proofs.Common.{get_or, subst}
-use Rattle.varisat_theory.specs.Membership.{◌∈◌}
-use Rattle.varisat_theory.proofs.Places.{∈-get_or}
+use Rattle.varisat_theory.specs.promises.Membership.{◌∈◌}
+use Rattle.varisat_theory.proofs.clauses.Places.{∈-get_or}
 use Rattle.varisat_plain.proofs.Scans.{answers_true, answers_false, refused, granted, clash_more, clash_none}
 use Rattle.varisat_plain.proofs.propagation.has_clash.Goals as goal
 

@@ -1,6 +1,6 @@
 use Rattle.std.proofs.Common.{ℕ, take}
-use Rattle.varisat_theory.specs.Literals.{opposite}
-use Rattle.varisat_theory.specs.Membership.{◌∈◌}
+use Rattle.varisat_theory.specs.promises.Literals.{opposite}
+use Rattle.varisat_theory.specs.promises.Membership.{◌∈◌}
 use Rattle.varisat_plain.proofs.propagation.has_clash.Given as goal
 
 abbrev pub invariant-loop-l : goal.invariant-loop-l

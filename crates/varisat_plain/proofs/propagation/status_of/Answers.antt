@@ -1,6 +1,6 @@
 use Rattle.std.proofs.Common.{get_or, Some, subst}
-use Rattle.varisat_theory.specs.Membership.{◌∈◌}
-use Rattle.varisat_theory.proofs.Places.{∈-get_or}
+use Rattle.varisat_theory.specs.promises.Membership.{◌∈◌}
+use Rattle.varisat_theory.proofs.clauses.Places.{∈-get_or}
 use Rattle.varisat_plain.proofs.Scans.{refused, granted}
 use Rattle.varisat_plain.proofs.ClauseStatuses.{Seen, seen_first, seen_again, seen_false, seen_end_none, seen_end_some}
 use Rattle.varisat_plain.proofs.propagation.status_of.Goals as goal

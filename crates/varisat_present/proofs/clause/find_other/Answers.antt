@@ -1,6 +1,6 @@
 use Rattle.std.proofs.Common.{◌⊎◌, ◌≡◌, ℕ, subst}
-use Rattle.varisat_theory.specs.Literals.{opposite}
-use Rattle.varisat_theory.specs.Membership.{◌∈◌}
+use Rattle.varisat_theory.specs.promises.Literals.{opposite}
+use Rattle.varisat_theory.specs.promises.Membership.{◌∈◌}
 use Rattle.std.proofs.lemmas.List.{get_or_read}
 use Rattle.varisat_present.proofs.Elements.{element_in}
 use Rattle.varisat_present.proofs.KnownGrowth.{other_more, other_all}

@@ -1,5 +1,5 @@
 use Rattle.std.proofs.Common.{take}
-use Rattle.varisat_theory.specs.Propagation.{LeavesOnly}
+use Rattle.varisat_theory.specs.promises.Propagation.{LeavesOnly}
 use Rattle.varisat_present.proofs.clause.find_other.Given as goal
 
 abbrev pub invariant-loop-l : goal.invariant-loop-l

@@ -1,5 +1,5 @@
 use Rattle.std.proofs.Common.{subst}
-use Rattle.varisat_theory.specs.Membership.{◌∈◌}
+use Rattle.varisat_theory.specs.promises.Membership.{◌∈◌}
 use Rattle.varisat_plain.proofs.Scans.{granted}
 use Rattle.varisat_present.proofs.KnownGrowth.{complete_left, complete_open}
 use Rattle.varisat_present.proofs.clause.is_quiet.Goals as goal

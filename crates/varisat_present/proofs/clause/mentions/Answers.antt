@@ -1,6 +1,6 @@
 use Rattle.std.proofs.lemmas.Grind.{common_steps}
 use Rattle.std.proofs.Common.{sym, ap, ◌∙◌, arith}
-use Rattle.varisat_theory.specs.Literals.{variable_of}
+use Rattle.varisat_theory.specs.promises.Literals.{variable_of}
 use Rattle.std.proofs.lemmas.List.{get_or_read}
 use Rattle.varisat_present.proofs.Mentions.{mentioned, not_mentioned}
 use Rattle.varisat_present.proofs.clause.mentions.Goals as goal

@@ -1,5 +1,5 @@
 use Rattle.std.proofs.Common.{◌≡◌, take, false}
-use Rattle.varisat_theory.specs.Held.{mentions}
+use Rattle.varisat_theory.specs.promises.Held.{mentions}
 use Rattle.varisat_present.proofs.clause.mentions.Given as goal
 
 abbrev pub invariant-loop-l : goal.invariant-loop-l

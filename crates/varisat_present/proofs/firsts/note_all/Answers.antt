@@ -1,6 +1,6 @@
 use Rattle.std.proofs.Common.{◌∙◌, arith, take_all, subst}
 use Rattle.std.proofs.lemmas.List.{get_or_read}
-use Rattle.varisat_present.specs.Resolving.{AreNoted}
+use Rattle.varisat_present.specs.promises.Resolving.{AreNoted}
 use Rattle.varisat_present.proofs.FirstPlaces.{lowered_none, lowered_on, noted_far, noted_more}
 use Rattle.varisat_present.proofs.firsts.note_all.Goals as goal
 

@@ -1,5 +1,5 @@
 use Rattle.std.proofs.Common.{take}
-use Rattle.varisat_present.specs.Resolving.{AreLowered, AreNoted}
+use Rattle.varisat_present.specs.promises.Resolving.{AreLowered, AreNoted}
 use Rattle.varisat_present.proofs.firsts.note_all.Given as goal
 
 abbrev pub invariant-loop-l : goal.invariant-loop-l

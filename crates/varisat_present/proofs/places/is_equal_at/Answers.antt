@@ -1,5 +1,5 @@
 use Rattle.std.proofs.Common.{subst}
-use Rattle.varisat_theory.specs.Membership.{SameSet}
+use Rattle.varisat_theory.specs.promises.Membership.{SameSet}
 use Rattle.varisat_plain.proofs.Scans.{refused, granted}
 use Rattle.varisat_present.proofs.PlacedClauses.{same_clause}
 use Rattle.varisat_present.proofs.places.is_equal_at.Goals as goal

@@ -1,5 +1,5 @@
 use Rattle.std.proofs.Common.{◌∙◌, sym, ap}
-use Rattle.varisat_theory.specs.Held.{mentions}
+use Rattle.varisat_theory.specs.promises.Held.{mentions}
 use Rattle.varisat_present.proofs.PlacedClauses.{same_clause}
 use Rattle.varisat_present.proofs.places.mentions_at.Goals as goal
 

@@ -1,6 +1,6 @@
 use Rattle.std.proofs.Common.{Bool, subst}
-use Rattle.varisat_present.specs.Places.{present}
-use Rattle.varisat_present.specs.Knowing.{TakesBase}
+use Rattle.varisat_present.specs.inside.Places.{present}
+use Rattle.varisat_present.specs.inside.Knowing.{TakesBase}
 use Rattle.varisat_present.proofs.KeptLiterals.{sees_clash, sees_found}
 use Rattle.varisat_present.proofs.present.ask_watches.Goals as goal
 

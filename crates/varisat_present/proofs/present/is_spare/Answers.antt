@@ -1,5 +1,5 @@
 use Rattle.std.proofs.Common.{inl, rules}
-use Rattle.varisat_present.specs.Places.{present}
+use Rattle.varisat_present.specs.inside.Places.{present}
 use Rattle.varisat_present.proofs.KeptLiterals.{spare_left}
 use Rattle.varisat_present.proofs.present.is_spare.Goals as goal
 

@@ -1,4 +1,4 @@
-use Rattle.varisat_present.specs.Places.{present}
+use Rattle.varisat_present.specs.inside.Places.{present}
 use Rattle.varisat_present.proofs.KeptLiterals.{propagated_already, propagated_found}
 use Rattle.varisat_present.proofs.present.propagate_to_end.Goals as goal
 

@@ -1,6 +1,6 @@
 use Rattle.std.proofs.Common.{◌++◌, ap, ◌∙◌}
-use Rattle.varisat_theory.specs.Literals.{opposites}
-use Rattle.varisat_theory.specs.Rat.{but_for}
+use Rattle.varisat_theory.specs.promises.Literals.{opposites}
+use Rattle.varisat_theory.specs.promises.Rat.{but_for}
 use Rattle.varisat_plain.proofs.Scans.{refused, granted}
 use Rattle.varisat_present.proofs.RatPlaces.{no_clause, not_held, asked}
 use Rattle.varisat_present.proofs.present.resolvent_conflicts.Goals as goal

@@ -1,8 +1,8 @@
 use Rattle.std.proofs.Common.{List, [], refl, sym, ◌∙◌, subst, arith}
-use Rattle.varisat_theory.specs.Literals.{Literal}
-use Rattle.varisat_theory.specs.Propagation.{HasClash}
-use Rattle.varisat_present.specs.Places.{present}
-use Rattle.varisat_present.specs.Knowing.{AreImplied}
+use Rattle.varisat_theory.specs.promises.Literals.{Literal}
+use Rattle.varisat_theory.specs.promises.Propagation.{HasClash}
+use Rattle.varisat_present.specs.inside.Places.{present}
+use Rattle.varisat_present.specs.inside.Knowing.{AreImplied}
 use Rattle.varisat_present.proofs.RatPlaces.{conflict_on, conflict_all, one_does_not, restored}
 use Rattle.varisat_present.proofs.present.resolvents_conflict.Goals as goal
 

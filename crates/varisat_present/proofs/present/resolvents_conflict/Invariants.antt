@@ -1,6 +1,6 @@
 use Rattle.std.proofs.Common.{◌≡◌, take}
-use Rattle.varisat_present.specs.Places.{present}
-use Rattle.varisat_present.specs.Resolving.{AllConflict}
+use Rattle.varisat_present.specs.inside.Places.{present}
+use Rattle.varisat_present.specs.promises.Resolving.{AllConflict}
 use Rattle.varisat_present.proofs.present.resolvents_conflict.Given as goal
 
 abbrev pub invariant-loop-place : goal.invariant-loop-place

@@ -1,5 +1,5 @@
 use Rattle.std.proofs.Common.{◌++◌, [], ◌∷◌, ◌∙◌, ℕ, inl, inr, refl, ap, subst}
-use Rattle.varisat_theory.specs.Membership.{◌∈◌}
+use Rattle.varisat_theory.specs.promises.Membership.{◌∈◌}
 use Rattle.varisat_plain.proofs.Scans.{refused, granted}
 use Rattle.varisat_present.proofs.KnownGrowth.{complete_left, complete_open}
 use Rattle.varisat_present.proofs.propagation.pass_clause.Goals as goal

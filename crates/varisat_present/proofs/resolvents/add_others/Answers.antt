@@ -1,6 +1,6 @@
 use Rattle.std.proofs.Common.{sym, ap, ◌∙◌}
 use Rattle.std.proofs.lemmas.List.{take_all, get_or_read}
-use Rattle.varisat_theory.specs.Literals.{opposite}
+use Rattle.varisat_theory.specs.promises.Literals.{opposite}
 use Rattle.varisat_present.proofs.RatPlaces.{others_same, others_more, others_all}
 use Rattle.varisat_present.proofs.resolvents.add_others.Goals as goal
 

@@ -1,6 +1,6 @@
 use Rattle.std.proofs.Common.{◌≡◌, ◌++◌, take}
-use Rattle.varisat_theory.specs.Literals.{opposites}
-use Rattle.varisat_theory.specs.Rat.{but_for}
+use Rattle.varisat_theory.specs.promises.Literals.{opposites}
+use Rattle.varisat_theory.specs.promises.Rat.{but_for}
 use Rattle.varisat_present.proofs.resolvents.add_others.Given as goal
 
 abbrev pub invariant-loop-l : goal.invariant-loop-l

@@ -1,6 +1,6 @@
 use Rattle.std.proofs.Common.{ap, ◌∙◌}
 use Rattle.std.proofs.lemmas.List.{take_all, get_or_read}
-use Rattle.varisat_theory.specs.Literals.{opposite, opposites}
+use Rattle.varisat_theory.specs.promises.Literals.{opposite, opposites}
 use Rattle.varisat_plain.proofs.Scans.{opposites_more}
 use Rattle.varisat_present.proofs.resolvents.negated.Goals as goal
 

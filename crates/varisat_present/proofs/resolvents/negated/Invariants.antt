@@ -1,5 +1,5 @@
 use Rattle.std.proofs.Common.{◌≡◌, take}
-use Rattle.varisat_theory.specs.Literals.{opposites}
+use Rattle.varisat_theory.specs.promises.Literals.{opposites}
 use Rattle.varisat_present.proofs.resolvents.negated.Given as goal
 
 abbrev pub invariant-loop-l : goal.invariant-loop-l

@@ -1,5 +1,5 @@
 use Rattle.std.proofs.Common.{subst}
-use Rattle.varisat_theory.specs.Membership.{◌∈◌}
+use Rattle.varisat_theory.specs.promises.Membership.{◌∈◌}
 use Rattle.std.proofs.lemmas.List.{get_or_read}
 use Rattle.varisat_present.proofs.Elements.{element_in}
 use Rattle.varisat_plain.proofs.Scans.{answers_true, answers_false, refused, granted, part_more, part_all}

@@ -1,4 +1,4 @@
-use Rattle.varisat_proof.specs.Lines.{encoding_of}
+use Rattle.varisat_proof.specs.promises.Lines.{encoding_of}
 use Rattle.varisat_proof.proofs.GrammarLaws.{accepted_once, not_both, fault_once, accepted_or_faulty, written_is_accepted}
 use Rattle.varisat_proof.proofs.laws.bytes_mean_one_thing.Goals as goal
 

@@ -1,5 +1,5 @@
 use Rattle.std.proofs.Common.{inl, refl}
-use Rattle.varisat_proof.specs.Verified.{sources_of}
+use Rattle.varisat_proof.specs.promises.Verified.{sources_of}
 use Rattle.varisat_proof.proofs.VerifiedTexts.{drat_status, drat_unsatisfiable}
 use Rattle.varisat_proof.proofs.program.check_drat_lines.Goals as goal
 

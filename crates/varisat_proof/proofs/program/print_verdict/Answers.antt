@@ -1,4 +1,4 @@
-use Rattle.varisat_proof.specs.Verified.{verdict_status, verdict_text}
+use Rattle.varisat_proof.specs.promises.Verified.{verdict_status, verdict_text}
 use Rattle.varisat_proof.proofs.PrintedTexts.{ends-printed, ends-failed}
 use Rattle.varisat_proof.proofs.program.print_verdict.Goals as goal
 

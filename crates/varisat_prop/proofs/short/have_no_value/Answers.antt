@@ -1,9 +1,9 @@
 use Rattle.std.proofs.Common.{◌≡◌, true, take_all, ⊎_elim, sym, ◌∙◌, subst}
-use Rattle.varisat_theory.specs.Membership.{◌∈◌}
-use Rattle.varisat_theory.proofs.Places.{∈-take_more}
+use Rattle.varisat_theory.specs.promises.Membership.{◌∈◌}
+use Rattle.varisat_theory.proofs.clauses.Places.{∈-take_more}
 use Rattle.varisat_prop.specs.Simplified.{is_unassigned}
-use Rattle.varisat_prop.proofs.ReadElements.{element, item-∈}
-use Rattle.varisat_prop.proofs.SimplifiedPairs.{each-unassigned, one-assigned}
+use Rattle.varisat_prop.proofs.views.ReadElements.{element, item-∈}
+use Rattle.varisat_prop.proofs.pairs.SimplifiedPairs.{each-unassigned, one-assigned}
 use Rattle.varisat_prop.proofs.short.have_no_value.Goals as goal
 
 pub returns-then-not-has_no_value : goal.returns-then-not-has_no_value

@@ -1,5 +1,5 @@
 use Rattle.std.proofs.Common.{◌≡◌, ℕ, true, take}
-use Rattle.varisat_theory.specs.Membership.{◌∈◌}
+use Rattle.varisat_theory.specs.promises.Membership.{◌∈◌}
 use Rattle.varisat_prop.specs.Simplified.{is_unassigned}
 use Rattle.varisat_prop.proofs.short.have_no_value.Given as goal
 

@@ -1,7 +1,7 @@
 use Rattle.std.proofs.lemmas.Grind.{common_steps}
 use Rattle.std.proofs.Common.{List, refl, ◌∙◌, subst, arith}
-use Rattle.varisat_theory.specs.Membership.{◌∈◌}
-use Rattle.varisat_theory.specs.Literals.{Literal}
+use Rattle.varisat_theory.specs.promises.Membership.{◌∈◌}
+use Rattle.varisat_theory.specs.promises.Literals.{Literal}
 use Rattle.varisat_search.specs.Contexts.{view}
 use Rattle.varisat_analysis.proofs.AssignedLevels.{can-count}
 use Rattle.varisat_search.proofs.assess.assess_learned.Goals as goal

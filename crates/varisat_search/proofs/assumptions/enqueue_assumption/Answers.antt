@@ -1,21 +1,21 @@
 use Rattle.std.proofs.Common.{◌≡◌, ◌<◌, inl, inr, ⊎_elim, true, length, take, sym, ◌∙◌, subst, arith, Some, refl, ap}
 use Rattle.std.proofs.lemmas.List.{get_or-take, length-take-le}
-use Rattle.varisat_theory.specs.Membership.{◌∈◌}
-use Rattle.varisat_theory.specs.Literals.{value}
-use Rattle.varisat_theory.proofs.Places.{∈-get_or}
+use Rattle.varisat_theory.specs.promises.Membership.{◌∈◌}
+use Rattle.varisat_theory.specs.promises.Literals.{value}
+use Rattle.varisat_theory.proofs.clauses.Places.{∈-get_or}
 use Rattle.varisat_prop.specs.View.{View, WellFormed}
-use Rattle.varisat_prop.proofs.TrailValues.{on-trail, fits-node}
+use Rattle.varisat_prop.proofs.trails.TrailValues.{on-trail, fits-node}
 use Rattle.varisat_search.specs.AssumptionParts.{AssumptionParts, HasAssumptions, TakesOutTrue, HasFailed, IsNextAssumption}
 use Rattle.varisat_search.specs.TakenOut.{AreImpliedBefore}
-use Rattle.varisat_search.proofs.AssumedTruths.{trail-is-true}
+use Rattle.varisat_search.proofs.learning.AssumedTruths.{trail-is-true}
 use Rattle.varisat_prop.specs.Changes.{decided_on}
 use Rattle.varisat_search.specs.declared.context.Context.{Context}
 use Rattle.varisat_search.specs.Contexts.{view, IsReady}
 use Rattle.varisat_search.specs.Steps.{IsFree}
 use Rattle.varisat_search.specs.Decisions.{SameDecidable}
 use Rattle.varisat_vsids.specs.Activities.{Activities}
-use Rattle.varisat_search.proofs.Frames.{forward-same}
-use Rattle.varisat_search.proofs.NextAssumption.{left-implied, left-implied-with, none-ready, next-inside, failed-ready, has-failed, next-free, next-same, next-ready}
+use Rattle.varisat_search.proofs.stepping.Frames.{forward-same}
+use Rattle.varisat_search.proofs.assuming.NextAssumption.{left-implied, left-implied-with, none-ready, next-inside, failed-ready, has-failed, next-free, next-same, next-ready}
 use Rattle.varisat_search.proofs.assumptions.enqueue_assumption.Given.{Over}
 use Rattle.varisat_search.proofs.assumptions.enqueue_assumption.Goals.{After-next_assumption, In-Some, In_ok-decide_lit}
 use Rattle.varisat_search.proofs.assumptions.enqueue_assumption.Goals as goal

@@ -1,10 +1,10 @@
 use Rattle.std.proofs.Common.{◌≡◌, ◌*◌, false, replicate, length, sym, ap, ◌∙◌, subst}
-use Rattle.varisat_theory.specs.Membership.{◌∈◌}
-use Rattle.varisat_theory.specs.Literals.{opposite}
+use Rattle.varisat_theory.specs.promises.Membership.{◌∈◌}
+use Rattle.varisat_theory.specs.promises.Literals.{opposite}
 use Rattle.varisat_prop.specs.View.{View, WellFormed}
-use Rattle.varisat_prop.proofs.TrailValues.{on-trail}
+use Rattle.varisat_prop.proofs.trails.TrailValues.{on-trail}
 use Rattle.varisat_search.specs.Contexts.{view}
-use Rattle.varisat_search.proofs.Frames.{shown}
+use Rattle.varisat_search.proofs.stepping.Frames.{shown}
 use Rattle.varisat_search.proofs.assumptions.find_failed_core.Goals as goal
 
 pub find_core-requires : goal.find_core-requires

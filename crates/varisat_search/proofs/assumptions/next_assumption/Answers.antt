@@ -3,9 +3,9 @@ use Rattle.std.specs.List.{swap_remove, slice_get}
 use Rattle.std.proofs.lemmas.List.{get_or-take, length-take-le}
 use Rattle.std.proofs.lemmas.Option.{slice_get_within, slice_get-get_or, get_or_from_slice_get}
 use Rattle.std.proofs.lemmas.Bool.{cases_lt}
-use Rattle.varisat_theory.specs.Membership.{◌∈◌, ◌⊆◌}
-use Rattle.varisat_theory.proofs.Members.{equal_or_not}
-use Rattle.varisat_theory.proofs.Places.{∈-get_or, place_in, place_in_take}
+use Rattle.varisat_theory.specs.promises.Membership.{◌∈◌, ◌⊆◌}
+use Rattle.varisat_theory.proofs.clauses.Members.{equal_or_not}
+use Rattle.varisat_theory.proofs.clauses.Places.{∈-get_or, place_in, place_in_take}
 use Rattle.varisat_prop.specs.Parts.{IsMadeTrue}
 use Rattle.varisat_search.specs.AssumptionParts.{AssumptionParts, TakesOutTrue}
 use Rattle.std.proofs.lemmas.Grind.{common_steps}

@@ -5,13 +5,13 @@ use Rattle.varisat_prop.specs.View.{View, node_of, level_of, decision_at, is_cla
 use Rattle.varisat_search.specs.Seen.{is_fixed, is_proved, search_of}
 use Rattle.varisat_search.specs.Steps.{IsCut}
 use Rattle.std.proofs.lemmas.Bool.{cases_lt}
-use Rattle.varisat_theory.specs.Membership.{◌∈◌, ◌⊆◌}
-use Rattle.varisat_theory.specs.Literals.{variable_of}
+use Rattle.varisat_theory.specs.promises.Membership.{◌∈◌, ◌⊆◌}
+use Rattle.varisat_theory.specs.promises.Literals.{variable_of}
 use Rattle.varisat_search.specs.declared.context.Context.{Context}
 use Rattle.varisat_search.specs.AssumptionParts.{AssumptionParts}
 use Rattle.varisat_search.specs.Contexts.{view}
-use Rattle.varisat_search.proofs.AssumptionLevels.{has-undecided}
-use Rattle.varisat_search.proofs.ReadyAfter.{backtracked-ready, ready-with}
+use Rattle.varisat_search.proofs.assuming.AssumptionLevels.{has-undecided}
+use Rattle.varisat_search.proofs.stepping.ReadyAfter.{backtracked-ready, ready-with}
 use Rattle.varisat_search.proofs.assumptions.set_assumptions.Goals as goal
 
 -- What a proof sees stays where all decisions are undone.

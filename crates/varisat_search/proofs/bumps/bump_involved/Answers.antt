@@ -1,5 +1,5 @@
 use Rattle.std.proofs.Common.{◌≡◌, ℕ, Bool, List, length, ap, ap₂, ◌∙◌, subst, arith}
-use Rattle.varisat_theory.specs.Membership.{◌∈◌}
+use Rattle.varisat_theory.specs.promises.Membership.{◌∈◌}
 use Rattle.varisat_vsids.specs.Activities.{Activities, decayed}
 use Rattle.varisat_search.specs.Contexts.{view}
 use Rattle.varisat_analysis.specs.Bumps.{bumped_each}

@@ -2,7 +2,7 @@ use Rattle.std.proofs.Common.{◌≡◌, sym, ◌∙◌, subst}
 use Rattle.varisat_prop.specs.View.{View, WellFormed, PropagatedBeforeDecisions}
 use Rattle.varisat_prop.specs.Changes.{IsConflicting}
 use Rattle.varisat_search.specs.Contexts.{view}
-use Rattle.varisat_search.proofs.Frames.{shown}
+use Rattle.varisat_search.proofs.stepping.Frames.{shown}
 use Rattle.varisat_search.proofs.cdcl.analyze.Goals as goal
 
 pub analyze_conflict-requires : goal.analyze_conflict-requires

@@ -1,18 +1,18 @@
 use Rattle.varisat_trace.proofs.Broken.{breaks-on}
-use Rattle.varisat_search.proofs.StepErrors.{ends-unfilled, ends-after, trace-unfilled, trace-broken, step-passed}
-use Rattle.varisat_search.proofs.Frames.{schedule-through}
+use Rattle.varisat_search.proofs.stepping.StepErrors.{ends-unfilled, ends-after, trace-unfilled, trace-broken, step-passed}
+use Rattle.varisat_search.proofs.stepping.Frames.{schedule-through}
 use Rattle.varisat_search.specs.StepErrors.{step_error_of_trace}
 use Rattle.varisat_search.specs.Frames.{ChangesRootSimplified}
 use Rattle.std.proofs.Common.{◌≡◌, ◌∙◌, Ok, Err, List, [], ◌++◌, ⊎_elim, length, refl, sym, ap, subst, arith}
-use Rattle.varisat_theory.specs.Derivations.{Line}
-use Rattle.varisat_theory.specs.Outcomes.{Steps}
+use Rattle.varisat_theory.specs.promises.Derivations.{Line}
+use Rattle.varisat_theory.specs.inside.Outcomes.{Steps}
 use Rattle.varisat_search.specs.declared.context.Context.{Context}
 use Rattle.varisat_search.specs.Progress.{outcome_at, AddOne, AddOneIfUnknown, MakesStep}
 use Rattle.varisat_search.specs.declared.state.SatState.TheVariants as verdict
 use Rattle.varisat_search.specs.RootSimplified.{HasRootNews, KeepsFixed, SimplifiesRoot, SimplifiesRootFirst, LearnsAlone}
 use Rattle.varisat_search.specs.Contexts.{view, KeepsSchedule}
 use Rattle.varisat_search.specs.Seen.{search_of}
-use Rattle.varisat_search.proofs.MadeSteps.{made-are, made-with, no-core-entry, learned-no-core, made-settled, made-at-once}
+use Rattle.varisat_search.proofs.stepping.MadeSteps.{made-are, made-with, no-core-entry, learned-no-core, made-settled, made-at-once}
 use Rattle.varisat_trace.specs.Traces.{TakesLines, TakesStep, AdmitsFor}
 use Rattle.varisat_trace.proofs.Traced.{step-lines, step-more, holds_on}
 use Rattle.varisat_search.proofs.cdcl.conflict_step.Given.{Over}

@@ -1,25 +1,25 @@
 use Rattle.std.proofs.Common.{◌≡◌, ◌<◌, Bool, true, false, MatchBool, length, inr, refl, sym, ap, subst, ◌∙◌, arith}
-use Rattle.varisat_theory.specs.Membership.{◌∈◌}
-use Rattle.varisat_theory.specs.Literals.{Literal}
-use Rattle.varisat_theory.specs.Propagation.{IsComplete}
+use Rattle.varisat_theory.specs.promises.Membership.{◌∈◌}
+use Rattle.varisat_theory.specs.promises.Literals.{Literal}
+use Rattle.varisat_theory.specs.promises.Propagation.{IsComplete}
 use Rattle.varisat_prop.specs.View.{View, kept, WellFormed, GrowsTrail}
 use Rattle.varisat_prop.specs.Changes.{decided_on}
-use Rattle.varisat_prop.proofs.EnqueueAssignment.{decided-grows, decided-well}
+use Rattle.varisat_prop.proofs.trails.EnqueueAssignment.{decided-grows, decided-well}
 use Rattle.varisat_search.specs.declared.context.Context.{Context}
 use Rattle.varisat_search.specs.AssumptionParts.{AssumptionParts, HasAssumptions, ComesToNext}
 use Rattle.varisat_search.specs.Contexts.{view, KeepsSchedule, IsReady}
 use Rattle.varisat_search.specs.Frames.{ChangesDecided, ChangesDecisions}
 use Rattle.varisat_search.specs.Decisions.{AreDecidable, CanDecide, SameDecidable}
 use Rattle.varisat_search.specs.Steps.{IsFree}
-use Rattle.varisat_search.proofs.AssumptionLevels.{has-grown}
-use Rattle.varisat_search.proofs.AssumptionContexts.{still-assumable}
-use Rattle.varisat_search.proofs.ReadyAfter.{decided-ready, ready-with}
-use Rattle.varisat_search.proofs.StepOutcome.{decided-longer}
+use Rattle.varisat_search.proofs.assuming.AssumptionLevels.{has-grown}
+use Rattle.varisat_search.proofs.assuming.AssumptionContexts.{still-assumable}
+use Rattle.varisat_search.proofs.stepping.ReadyAfter.{decided-ready, ready-with}
+use Rattle.varisat_search.proofs.stepping.StepOutcome.{decided-longer}
 use Rattle.std.proofs.lemmas.Grind.{common_steps}
-use Rattle.varisat_prop.proofs.ViewGrowth.{grows-refl}
+use Rattle.varisat_prop.proofs.views.ViewGrowth.{grows-refl}
 use Rattle.varisat_search.specs.RootSimplified.{FixesNone}
-use Rattle.varisat_search.proofs.FixedLiterals.{fixed-decided, fixed-still}
-use Rattle.varisat_search.proofs.Frames.{schedule-through, forward-through, searches-fails}
+use Rattle.varisat_search.proofs.stepping.FixedLiterals.{fixed-decided, fixed-still}
+use Rattle.varisat_search.proofs.stepping.Frames.{schedule-through, forward-through, searches-fails}
 use Rattle.varisat_search.proofs.cdcl.decide.Given.{Over}
 use Rattle.varisat_search.proofs.cdcl.decide.Goals.{After-enqueue_assumption}
 use Rattle.varisat_search.proofs.cdcl.decide.Goals as goal

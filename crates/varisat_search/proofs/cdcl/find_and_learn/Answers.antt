@@ -1,10 +1,10 @@
 use Rattle.varisat_trace.proofs.Broken.{breaks-not}
-use Rattle.varisat_search.proofs.StepErrors.{ends-unfilled, ends-after, memory-unfilled, trace-unfilled, memory-broken, trace-broken, step-passed, model-steps}
-use Rattle.varisat_search.proofs.Frames.{schedule-through}
+use Rattle.varisat_search.proofs.stepping.StepErrors.{ends-unfilled, ends-after, memory-unfilled, trace-unfilled, memory-broken, trace-broken, step-passed, model-steps}
+use Rattle.varisat_search.proofs.stepping.Frames.{schedule-through}
 use Rattle.varisat_search.specs.StepErrors.{step_error_of_trace}
 use Rattle.std.proofs.Common.{◌≡◌, ◌∙◌, MatchResult, List, inl, inr, ⊎_elim, sym, subst}
-use Rattle.varisat_theory.specs.Literals.{Clause}
-use Rattle.varisat_theory.specs.Propagation.{IsComplete, Conflicts}
+use Rattle.varisat_theory.specs.promises.Literals.{Clause}
+use Rattle.varisat_theory.specs.promises.Propagation.{IsComplete, Conflicts}
 use Rattle.varisat_prop.specs.View.{kept}
 use Rattle.varisat_search.specs.declared.error.StepError.TheVariants as step
 use Rattle.varisat_search.specs.declared.state.SatState.TheVariants as verdict
@@ -12,11 +12,11 @@ use Rattle.varisat_search.specs.AssumptionParts.{EndsAssumed}
 use Rattle.varisat_search.specs.Contexts.{view}
 use Rattle.varisat_search.specs.Conflicts.{Stops}
 use Rattle.varisat_search.specs.Progress.{AddOne, AddOneIfUnknown}
-use Rattle.varisat_search.proofs.AssumptionOutcomes.{error-is, core-steps, keeps-model, keeps-core}
-use Rattle.varisat_search.proofs.MadeSteps.{Finds, made-are, no-core-entry, learned-no-core, made-ended, made-learned}
+use Rattle.varisat_search.proofs.assuming.AssumptionOutcomes.{error-is, core-steps, keeps-model, keeps-core}
+use Rattle.varisat_search.proofs.stepping.MadeSteps.{Finds, made-are, no-core-entry, learned-no-core, made-ended, made-learned}
 use Rattle.varisat_search.specs.Seen.{search_of, outcome_of}
 use Rattle.varisat_trace.proofs.Traced.{step-lines, holds_still}
-use Rattle.varisat_search.proofs.StepWithoutLines.{grows_prove}
+use Rattle.varisat_search.proofs.stepping.StepWithoutLines.{grows_prove}
 use Rattle.varisat_search.proofs.cdcl.find_and_learn.Given.{Over}
 use Rattle.varisat_search.proofs.cdcl.find_and_learn.Goals.{In_ok-find_conflict}
 use Rattle.varisat_search.proofs.cdcl.find_and_learn.Goals as goal

@@ -1,17 +1,17 @@
 use Rattle.std.proofs.Common.{refl, arith}
 use Rattle.varisat_prop.specs.View.{GrowsTrail}
-use Rattle.varisat_prop.proofs.ViewGrowth.{grows-refl, grows-trans, grows-longer}
-use Rattle.varisat_prop.proofs.TrailValues.{trail-short}
+use Rattle.varisat_prop.proofs.views.ViewGrowth.{grows-refl, grows-trans, grows-longer}
+use Rattle.varisat_prop.proofs.trails.TrailValues.{trail-short}
 use Rattle.varisat_search.specs.declared.context.Context.{Context}
 use Rattle.varisat_search.specs.Contexts.{view, KeepsSchedule, IsReady}
 use Rattle.varisat_search.specs.Frames.{GoesForward}
-use Rattle.varisat_search.proofs.AssumedTruths.{takes-refl, takes-trans}
-use Rattle.varisat_search.proofs.DecidableVariables.{propagated-same}
+use Rattle.varisat_search.proofs.learning.AssumedTruths.{takes-refl, takes-trans}
+use Rattle.varisat_search.proofs.variables.DecidableVariables.{propagated-same}
 use Rattle.varisat_search.specs.RootSimplified.{HasRootNews, FixesNone}
-use Rattle.varisat_search.proofs.Frames.{schedule-nothing, schedule-through, forward-nothing, forward-through, searches-fails}
-use Rattle.varisat_search.proofs.FixedLiterals.{fixed-propagated, fixes-through}
-use Rattle.varisat_search.proofs.PropagatedContext.{propagated-ready}
-use Rattle.varisat_search.proofs.StepOutcome.{Finding, finding-begins, finding-propagated, not-err}
+use Rattle.varisat_search.proofs.stepping.Frames.{schedule-nothing, schedule-through, forward-nothing, forward-through, searches-fails}
+use Rattle.varisat_search.proofs.stepping.FixedLiterals.{fixed-propagated, fixes-through}
+use Rattle.varisat_search.proofs.stepping.PropagatedContext.{propagated-ready}
+use Rattle.varisat_search.proofs.stepping.StepOutcome.{Finding, finding-begins, finding-propagated, not-err}
 use Rattle.varisat_search.proofs.cdcl.find_conflict.Given.{Over}
 use Rattle.varisat_search.proofs.cdcl.find_conflict.Goals.{After-count}
 use Rattle.varisat_search.proofs.cdcl.find_conflict.Goals as goal

@@ -2,7 +2,7 @@ use Rattle.std.proofs.lemmas.Grind.{common_steps}
 use Rattle.std.proofs.Common.{rules, ℕ, ◌≤◌, List, length, subst, arith}
 use Rattle.varisat_clause.specs.Stores.{AddsStored}
 use Rattle.varisat_search.specs.Conflicts.{learned_at}
-use Rattle.varisat_search.proofs.LearnClause.{stored-learned}
+use Rattle.varisat_search.proofs.learning.LearnClause.{stored-learned}
 use Rattle.varisat_search.proofs.cdcl.keep_learned.Goals as goal
 
 pub returns-clause-reason : goal.returns-clause-reason

@@ -1,9 +1,9 @@
 use Rattle.varisat_trace.proofs.Broken.{breaks-on, breaks-not}
-use Rattle.varisat_search.proofs.StepErrors.{memory-broken, trace-broken, store-broken, if-full, ends-unfilled, memory-unfilled, trace-unfilled}
+use Rattle.varisat_search.proofs.stepping.StepErrors.{memory-broken, trace-broken, store-broken, if-full, ends-unfilled, memory-unfilled, trace-unfilled}
 use Rattle.std.proofs.Common.{◌≡◌, List, [], ◌∷◌, ◌++◌, refl, sym, ap, ◌∙◌, subst, length, arith}
-use Rattle.varisat_theory.specs.Literals.{Literal, Clause}
-use Rattle.varisat_theory.specs.Derivations.{Line, Add}
-use Rattle.varisat_search.proofs.ViewSearch.{view_reads}
+use Rattle.varisat_theory.specs.promises.Literals.{Literal, Clause}
+use Rattle.varisat_theory.specs.promises.Derivations.{Line, Add}
+use Rattle.varisat_search.proofs.stepping.ViewSearch.{view_reads}
 use Rattle.varisat_clause.specs.declared.header.Tier.TheVariants as tier
 use Rattle.varisat_clause.specs.Tiers.{is_tier}
 use Rattle.varisat_clause.specs.Headers.{Header}
@@ -21,8 +21,8 @@ use Rattle.varisat_analysis.specs.Assessments.{glue_of, assessed}
 use Rattle.varisat_search.specs.Conflicts.{IsStoredAsReason}
 use Rattle.varisat_vsids.specs.Activities.{Activities}
 use Rattle.varisat_analysis.proofs.BumpedClauses.{tier-redundant}
-use Rattle.varisat_search.proofs.Frames.{schedule-through, cut-activities}
-use Rattle.varisat_search.proofs.LearnContext.{analysis-ready, analysis-met, bumps-learned, Analyzed, analyzed-bumped, analyzed-well, analyzed-tracks, analyzed-clear, learned-assigned, analyzed-named, analyzed-assigned, with_store, analyzed-noted, noted-further, noted-saves, noted-bumps, analyzed-flags, Backtracked, learned-length, learned-count, saves-some, learned-listed, learned-paired, learned-tracks, Learning, learning-fits, learning-free, learning-node, learning-further, learning-activities, learning-fixed, refuted-undecided, refuted-further}
+use Rattle.varisat_search.proofs.stepping.Frames.{schedule-through, cut-activities}
+use Rattle.varisat_search.proofs.learning.LearnContext.{analysis-ready, analysis-met, bumps-learned, Analyzed, analyzed-bumped, analyzed-well, analyzed-tracks, analyzed-clear, learned-assigned, analyzed-named, analyzed-assigned, with_store, analyzed-noted, noted-further, noted-saves, noted-bumps, analyzed-flags, Backtracked, learned-length, learned-count, saves-some, learned-listed, learned-paired, learned-tracks, Learning, learning-fits, learning-free, learning-node, learning-further, learning-activities, learning-fixed, refuted-undecided, refuted-further}
 use Rattle.varisat_search.proofs.cdcl.learn_from_conflict.Given.{Over}
 use Rattle.varisat_search.proofs.cdcl.learn_from_conflict.Goals.{After-backtrack, In_ok-reason, In_ok-enqueue_assignment}
 use Rattle.varisat_search.proofs.cdcl.learn_from_conflict.Goals as goal

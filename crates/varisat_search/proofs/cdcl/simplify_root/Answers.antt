@@ -1,25 +1,25 @@
 use Rattle.varisat_trace.proofs.Broken.{error-broken, breaks-on, breaks-not}
 use Rattle.varisat_trace.specs.declared.tracer.TraceError.TheVariants.{Memory}
 use Rattle.std.proofs.Common.{◌≡◌, Ok, Err, MatchResult, List, [], ◌++◌, length, refl, sym, ap, ap₂, ◌∙◌, subst}
-use Rattle.varisat_theory.specs.Propagation.{IsComplete}
-use Rattle.varisat_theory.specs.Outcomes.{Proves}
-use Rattle.varisat_theory.specs.StepLaws.{unit_lines}
+use Rattle.varisat_theory.specs.promises.Propagation.{IsComplete}
+use Rattle.varisat_theory.specs.inside.Outcomes.{Proves}
+use Rattle.varisat_theory.specs.inside.StepLaws.{unit_lines}
 use Rattle.varisat_prop.specs.View.{kept}
 use Rattle.varisat_prop.specs.Changes.{IsConflicting}
 use Rattle.varisat_search.specs.declared.context.Context.{Context}
 use Rattle.varisat_search.specs.Contexts.{view, IsReady}
 use Rattle.varisat_search.specs.ProvedUnits.{implied_units, ProvesUnits}
 use Rattle.varisat_search.specs.Seen.{search_of}
-use Rattle.varisat_theory.specs.Derivations.{Line}
+use Rattle.varisat_theory.specs.promises.Derivations.{Line}
 use Rattle.varisat_search.specs.RootSimplified.{SimplifiesRoot}
 use Rattle.varisat_search.specs.Simplifications.{pair_lines, clause_lines}
 use Rattle.varisat_trace.specs.Traces.{TakesLines, AdmitsFor}
 use Rattle.varisat_trace.proofs.Traced.{lines-more, holds_on, holds_still}
-use Rattle.varisat_search.proofs.StepWithoutLines.{grows_prove}
-use Rattle.varisat_search.proofs.FixedLiterals.{none-was-conflicting}
-use Rattle.varisat_search.proofs.PropagatedContext.{propagated-ready}
-use Rattle.varisat_search.proofs.ProvedUnits.{units-all}
-use Rattle.varisat_search.proofs.RootSimplified.{ProvedAfter, goes-trans, goes-simplified, goes-to-units, simplifies_root-to-units, still-conflicting, settled-down}
+use Rattle.varisat_search.proofs.stepping.StepWithoutLines.{grows_prove}
+use Rattle.varisat_search.proofs.stepping.FixedLiterals.{none-was-conflicting}
+use Rattle.varisat_search.proofs.stepping.PropagatedContext.{propagated-ready}
+use Rattle.varisat_search.proofs.simplifying.ProvedUnits.{units-all}
+use Rattle.varisat_search.proofs.simplifying.RootSimplified.{ProvedAfter, goes-trans, goes-simplified, goes-to-units, simplifies_root-to-units, still-conflicting, settled-down}
 use Rattle.varisat_search.proofs.cdcl.simplify_root.Given.{Over}
 use Rattle.varisat_search.proofs.cdcl.simplify_root.Goals.{After-count}
 use Rattle.varisat_search.proofs.cdcl.simplify_root.Goals as goal

@@ -2,11 +2,11 @@ use Rattle.varisat_trace.proofs.Broken.{error-broken}
 use Rattle.std.proofs.lemmas.Grind.{common_steps}
 use Rattle.std.proofs.Common.{◌≡◌, List, [], Ok, length, ap, refl, arith}
 use Rattle.varisat_search.specs.Contexts.{view}
-use Rattle.varisat_theory.specs.Derivations.{Line}
+use Rattle.varisat_theory.specs.promises.Derivations.{Line}
 use Rattle.varisat_trace.specs.Traces.{TakesLines}
 use Rattle.varisat_search.specs.RootSimplified.{HasRootNews, SimplifiesRoot}
-use Rattle.varisat_search.proofs.FixedLiterals.{ready-complete, none-conflicting}
-use Rattle.varisat_search.proofs.RootSimplified.{goes-refl, goes-are}
+use Rattle.varisat_search.proofs.stepping.FixedLiterals.{ready-complete, none-conflicting}
+use Rattle.varisat_search.proofs.simplifying.RootSimplified.{goes-refl, goes-are}
 use Rattle.varisat_search.proofs.cdcl.simplify_root_if_news.Goals as goal
 use Rattle.varisat_search.proofs.cdcl.simplify_root_if_news.Goals.{then-current_level-gt0-via-then-current_level-gt0, then-current_level-gt0-via-else-current_level-gt0+then-fully_propagated}
 

@@ -1,5 +1,5 @@
 use Rattle.std.proofs.Common.{◌≡◌, Bool, false, List, [], length, sym, ap, ◌∙◌, refl}
-use Rattle.varisat_theory.specs.Literals.{Literal}
+use Rattle.varisat_theory.specs.promises.Literals.{Literal}
 use Rattle.varisat_clause.specs.Stored.{StoredClause}
 use Rattle.varisat_clause.specs.Stores.{Store, stored_clauses}
 use Rattle.varisat_clause.specs.Databases.{Database, Tracks}
@@ -11,8 +11,8 @@ use Rattle.varisat_search.specs.declared.context.Context.{Context}
 use Rattle.varisat_search.specs.Contexts.{view, IsReady}
 use Rattle.varisat_search.specs.Frames.{ChangesKept}
 use Rattle.varisat_analysis.specs.Collections.{repointed_each, Repacks}
-use Rattle.varisat_search.proofs.RepackedView.{packed-live, packed-below, view-repacks, repacks-may}
-use Rattle.varisat_search.proofs.ReadyAfter.{keeps-values, unwatched-ready, first-known}
+use Rattle.varisat_search.proofs.simplifying.RepackedView.{packed-live, packed-below, view-repacks, repacks-may}
+use Rattle.varisat_search.proofs.stepping.ReadyAfter.{keeps-values, unwatched-ready, first-known}
 use Rattle.varisat_clause.proofs.CollectedClauses.{packed-length}
 use Rattle.varisat_search.proofs.collect.collect.Given.{Over}
 use Rattle.varisat_search.proofs.collect.collect.Goals.{After-count}

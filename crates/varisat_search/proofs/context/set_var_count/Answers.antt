@@ -1,17 +1,17 @@
 use Rattle.std.proofs.Common.{◌≡◌, ℕ, ◌-◌, ◌≤◌, Bool, Option, None, ◌++◌, length, get_or, replicate, inl, inr, ⊎_elim, sym, ap, ◌∙◌, subst, arith, length-append, ◌*◌, false, [], refl}
 use Rattle.std.proofs.lemmas.List.{length-replicate}
-use Rattle.varisat_theory.specs.Membership.{◌∈◌}
+use Rattle.varisat_theory.specs.promises.Membership.{◌∈◌}
 use Rattle.varisat_prop.specs.View.{View, kept}
 use Rattle.varisat_vsids.specs.Activities.{Activities, is_available, raised_to}
 use Rattle.varisat_vsids.proofs.AvailableAfter.{is_available-raised_to, length-raised_to}
 use Rattle.varisat_search.specs.Decisions.{CanDecide, SameDecidable}
-use Rattle.varisat_search.proofs.SetVarCount.{get_or-padded, Grown, grown-flags, grown-propagated, grown-result}
-use Rattle.varisat_search.proofs.DecidableVariables.{can-decide}
+use Rattle.varisat_search.proofs.variables.SetVarCount.{get_or-padded, Grown, grown-flags, grown-propagated, grown-result}
+use Rattle.varisat_search.proofs.variables.DecidableVariables.{can-decide}
 use Rattle.std.proofs.lemmas.Grind.{common_steps}
 use Rattle.varisat_search.specs.Contexts.{view}
-use Rattle.varisat_prop.proofs.ViewGrowth.{append-nil}
-use Rattle.varisat_search.proofs.AssumptionLevels.{has-same-decisions}
-use Rattle.varisat_search.proofs.AssumptionContexts.{still-assumable}
+use Rattle.varisat_prop.proofs.views.ViewGrowth.{append-nil}
+use Rattle.varisat_search.proofs.assuming.AssumptionLevels.{has-same-decisions}
+use Rattle.varisat_search.proofs.assuming.AssumptionContexts.{still-assumable}
 use Rattle.varisat_search.proofs.context.set_var_count.Given.{Over}
 use Rattle.varisat_search.proofs.context.set_var_count.Goals.{In_ok-set_var_count-4}
 use Rattle.varisat_search.proofs.context.set_var_count.Goals as goal

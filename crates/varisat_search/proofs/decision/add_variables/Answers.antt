@@ -5,7 +5,7 @@ use Rattle.varisat_search.specs.Frames.{ChangesVariables}
 use Rattle.varisat_search.specs.Decisions.{IsDecidable, SameDecidableBut, AddsDecidable}
 use Rattle.varisat_search.specs.Seen.{search_of}
 use Rattle.varisat_vsids.specs.Activities.{Activities}
-use Rattle.varisat_search.proofs.DecidableVariables.{none-added, one-more-added}
+use Rattle.varisat_search.proofs.variables.DecidableVariables.{none-added, one-more-added}
 use Rattle.varisat_search.proofs.decision.add_variables.Goals as goal
 
 -- a change of activities alone keeps the rest as it was

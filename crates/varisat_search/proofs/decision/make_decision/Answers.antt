@@ -1,13 +1,13 @@
 use Rattle.std.proofs.Common.{◌≡◌, ◌<◌, Some, false, length, get_or, ⊎_elim, refl, sym, ap, ◌∙◌, subst, arith}
-use Rattle.varisat_theory.specs.Literals.{variable_of}
-use Rattle.varisat_literals.specs.Numbers.{polarity_of}
-use Rattle.varisat_prop.proofs.TrailValues.{fits-node}
+use Rattle.varisat_theory.specs.promises.Literals.{variable_of}
+use Rattle.varisat_literals.specs.promises.Numbers.{polarity_of}
+use Rattle.varisat_prop.proofs.trails.TrailValues.{fits-node}
 use Rattle.varisat_vsids.specs.Activities.{Activities}
 use Rattle.varisat_search.specs.declared.context.Context.{Context}
 use Rattle.varisat_search.specs.Contexts.{view}
 use Rattle.varisat_search.specs.Decisions.{TakesUnassigned, SameDecidable, CanDecide}
-use Rattle.varisat_search.proofs.DecidableVariables.{decided-same, none-same, decided-decidable, none-decidable}
-use Rattle.varisat_search.proofs.StepOutcome.{variable-literal, polarity-literal}
+use Rattle.varisat_search.proofs.variables.DecidableVariables.{decided-same, none-same, decided-decidable, none-decidable}
+use Rattle.varisat_search.proofs.stepping.StepOutcome.{variable-literal, polarity-literal}
 use Rattle.varisat_search.proofs.decision.make_decision.Given.{Over}
 use Rattle.varisat_search.proofs.decision.make_decision.Goals.{In_ok-decide_lit}
 use Rattle.varisat_search.proofs.decision.make_decision.Goals as goal

@@ -1,5 +1,5 @@
 use Rattle.std.specs.List.{count_by}
-use Rattle.varisat_search.proofs.TakenVariables.{Taking}
+use Rattle.varisat_search.proofs.variables.TakenVariables.{Taking}
 use Rattle.varisat_search.proofs.decision.take_unassigned.Given as goal
 
 abbrev pub invariant-taking : goal.invariant-taking

@@ -2,28 +2,28 @@ use Rattle.std.proofs.Common.{◌≡◌, Bool, true, false, not, ◌||◌, List,
 use Rattle.std.specs.Prelude.{cond}
 use Rattle.std.specs.List.{filter, list_any}
 use Rattle.std.proofs.lemmas.List.Elements.{filter-append}
-use Rattle.varisat_theory.specs.Membership.{◌∈◌, SameSet, IsDistinct}
-use Rattle.varisat_theory.specs.Literals.{Clause, variable_of, Literal}
-use Rattle.varisat_theory.specs.Derivations.{TakesOut}
-use Rattle.varisat_theory.specs.Held.{SameClauses}
-use Rattle.varisat_theory.specs.Searches.{Search, clauses_of, IsDischarged, Fits}
+use Rattle.varisat_theory.specs.promises.Membership.{◌∈◌, SameSet, IsDistinct}
+use Rattle.varisat_theory.specs.promises.Literals.{Clause, variable_of, Literal}
+use Rattle.varisat_theory.specs.promises.Derivations.{TakesOut}
+use Rattle.varisat_theory.specs.promises.Held.{SameClauses}
+use Rattle.varisat_theory.specs.promises.Searches.{Search, clauses_of, IsDischarged, Fits}
 use Rattle.varisat_prop.specs.Leaving.{leaves}
-use Rattle.varisat_prop.proofs.Leaving.{staying-was, was-staying, staying-shorter}
-use Rattle.varisat_prop.proofs.SimplifiedPairs.{filter-∈, ∈-filter}
+use Rattle.varisat_prop.proofs.views.Leaving.{staying-was, was-staying, staying-shorter}
+use Rattle.varisat_prop.proofs.pairs.SimplifiedPairs.{filter-∈, ∈-filter}
 use Rattle.varisat_search.specs.Forgotten.{AreStaying, search_without, clauses_without, IsWithout}
-use Rattle.varisat_search.proofs.DecidableVariables.{true-or-false}
-use Rattle.varisat_theory.proofs.Places.{place_in}
+use Rattle.varisat_search.proofs.variables.DecidableVariables.{true-or-false}
+use Rattle.varisat_theory.proofs.clauses.Places.{place_in}
 use Rattle.varisat_analysis.proofs.WellFormedViews.{inside-at}
 use Rattle.varisat_prop.specs.Parts.{TrailParts, Values}
 use Rattle.varisat_prop.specs.View.{View}
-use Rattle.varisat_prop.proofs.TrailValues.{fits-node}
+use Rattle.varisat_prop.proofs.trails.TrailValues.{fits-node}
 use Rattle.varisat_vsids.specs.Activities.{Activities}
 use Rattle.varisat_search.specs.declared.context.Context.{Context}
 use Rattle.varisat_search.specs.Contexts.{view}
 use Rattle.varisat_search.specs.Decisions.{IsDecidable}
 use Rattle.varisat_search.specs.Seen.{search_of}
-use Rattle.varisat_search.proofs.ViewSearch.{seen_clauses}
-use Rattle.varisat_search.proofs.ForgottenViews.{staying-distinct, without-decidable, without-settled-down, without-seen, without-view, without-ready}
+use Rattle.varisat_search.proofs.stepping.ViewSearch.{seen_clauses}
+use Rattle.varisat_search.proofs.variables.ForgottenViews.{staying-distinct, without-decidable, without-settled-down, without-seen, without-view, without-ready}
 use Rattle.varisat_search.proofs.forgetting.detach_variables.Given.{Over}
 use Rattle.varisat_search.proofs.forgetting.detach_variables.Goals.{After-remove_units, After-forget_activities}
 use Rattle.varisat_search.proofs.forgetting.detach_variables.Goals as goal

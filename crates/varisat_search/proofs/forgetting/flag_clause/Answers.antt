@@ -1,9 +1,9 @@
 use Rattle.std.proofs.lemmas.Grind.{common_steps}
 use Rattle.std.proofs.Common.{◌++◌, [], ◌∷◌, take, set, true, sym, ap, ◌∙◌, subst, arith}
 use Rattle.std.proofs.lemmas.List.{take_more}
-use Rattle.varisat_prop.proofs.ReadElements.{item-∈}
+use Rattle.varisat_prop.proofs.views.ReadElements.{item-∈}
 use Rattle.varisat_search.specs.Forgotten.{FlagsAlso}
-use Rattle.varisat_search.proofs.MentionedFlags.{clause-more}
+use Rattle.varisat_search.proofs.simplifying.MentionedFlags.{clause-more}
 use Rattle.varisat_search.proofs.forgetting.flag_clause.Goals as goal
 
 pub bounds-flags-index : goal.bounds-flags-index

@@ -1,6 +1,6 @@
 use Rattle.std.proofs.Common.{◌<◌, ◌+◌, nat_eq, [], length, get_or, subst, sym, ap, ◌∙◌, arith}
-use Rattle.varisat_theory.specs.Literals.{variable_of}
-use Rattle.varisat_search.proofs.MentionedFlags.{ImplyingBelow, is-empty, is-not-empty, below-empty, below-more, below-all}
+use Rattle.varisat_theory.specs.promises.Literals.{variable_of}
+use Rattle.varisat_search.proofs.simplifying.MentionedFlags.{ImplyingBelow, is-empty, is-not-empty, below-empty, below-more, below-all}
 use Rattle.varisat_search.proofs.forgetting.flag_implying.Goals.{then-not-is_empty, else-not-is_empty}
 use Rattle.varisat_search.proofs.forgetting.flag_implying.Goals as goal
 

@@ -1,4 +1,4 @@
-use Rattle.varisat_search.proofs.MentionedFlags.{ImplyingBelow}
+use Rattle.varisat_search.proofs.simplifying.MentionedFlags.{ImplyingBelow}
 use Rattle.varisat_search.proofs.forgetting.flag_implying.Given as goal
 
 abbrev pub invariant-loop-code : goal.invariant-loop-code

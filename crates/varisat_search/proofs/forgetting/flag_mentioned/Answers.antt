@@ -1,11 +1,11 @@
 use Rattle.std.proofs.Common.{◌≡◌, Bool, false, List, Option, length, replicate, take, drop, ◌++◌, subst, sym, ap, ◌∙◌, arith}
 use Rattle.std.proofs.lemmas.List.{length-replicate}
-use Rattle.varisat_theory.proofs.Members.{∈-append_left}
+use Rattle.varisat_theory.proofs.clauses.Members.{∈-append_left}
 use Rattle.varisat_clause.specs.Stored.{literals_of}
 use Rattle.varisat_prop.specs.View.{pairs_from}
 use Rattle.varisat_search.specs.Contexts.{view}
 use Rattle.varisat_search.specs.Forgotten.{FlagsMentioned, FlagsImplying}
-use Rattle.varisat_search.proofs.MentionedFlags.{all-flagged, lent-back, made-anew}
+use Rattle.varisat_search.proofs.simplifying.MentionedFlags.{all-flagged, lent-back, made-anew}
 use Rattle.varisat_search.proofs.forgetting.flag_mentioned.Given.{Over}
 use Rattle.varisat_search.proofs.forgetting.flag_mentioned.Goals.{After-deref_mut}
 use Rattle.varisat_search.proofs.forgetting.flag_mentioned.Goals as goal

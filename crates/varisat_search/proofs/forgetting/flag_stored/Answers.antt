@@ -1,12 +1,12 @@
 use Rattle.std.proofs.Common.{ℕ, List, [], ◌∷◌, inl, sym, ◌∙◌, subst, refl, arith}
-use Rattle.varisat_theory.specs.Membership.{◌∈◌}
+use Rattle.varisat_theory.specs.promises.Membership.{◌∈◌}
 use Rattle.varisat_clause.specs.Stored.{IsClauseRef, literals_at}
 use Rattle.varisat_clause.specs.Stores.{stored_clauses}
 use Rattle.varisat_clause.specs.Collected.{live_clauses}
 use Rattle.varisat_clause.proofs.StoredClauses.{kept-at}
 use Rattle.varisat_clause.proofs.LiveStore.{live-place, live-literals, are-live-rising}
 use Rattle.varisat_search.specs.Forgotten.{FlagsAlso}
-use Rattle.varisat_search.proofs.MentionedFlags.{FlagsBut, but-all, but-next, but-none}
+use Rattle.varisat_search.proofs.simplifying.MentionedFlags.{FlagsBut, but-all, but-next, but-none}
 use Rattle.varisat_search.proofs.forgetting.flag_stored.Given.{Over}
 use Rattle.varisat_search.proofs.forgetting.flag_stored.Goals.{In-Some}
 use Rattle.varisat_search.proofs.forgetting.flag_stored.Goals as goal

@@ -1,5 +1,5 @@
 use Rattle.varisat_clause.specs.Collected.{live_clauses}
-use Rattle.varisat_search.proofs.MentionedFlags.{FlagsBut}
+use Rattle.varisat_search.proofs.simplifying.MentionedFlags.{FlagsBut}
 use Rattle.varisat_search.proofs.forgetting.flag_stored.Given as goal
 
 abbrev pub invariant-loop-cref : goal.invariant-loop-cref

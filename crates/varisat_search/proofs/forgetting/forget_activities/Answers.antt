@@ -1,8 +1,8 @@
 use Rattle.std.proofs.Common.{◌≡◌, Bool, false, List, length, set, take, take_all, ◌∙◌, ap, arith, length-set}
 use Rattle.varisat_vsids.specs.Activities.{Activities, with_available}
-use Rattle.varisat_prop.proofs.Leaving.{cleared-length}
+use Rattle.varisat_prop.proofs.views.Leaving.{cleared-length}
 use Rattle.varisat_search.specs.Forgotten.{forgotten_activities}
-use Rattle.varisat_search.proofs.ForgottenValues.{activities-none, activities-on, activities-off}
+use Rattle.varisat_search.proofs.variables.ForgottenValues.{activities-none, activities-on, activities-off}
 use Rattle.varisat_search.proofs.forgetting.forget_activities.Goals as goal
 
 -- as many activities as before

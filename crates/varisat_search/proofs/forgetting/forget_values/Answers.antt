@@ -1,7 +1,7 @@
 use Rattle.std.proofs.Common.{Bool, false, List, length, set, None, take, take_all, ◌∙◌, ap, arith}
 use Rattle.varisat_prop.specs.Parts.{Values}
-use Rattle.varisat_prop.proofs.Leaving.{cleared-length}
-use Rattle.varisat_search.proofs.ForgottenValues.{forgotten_values, values-none, values-on, values-off}
+use Rattle.varisat_prop.proofs.views.Leaving.{cleared-length}
+use Rattle.varisat_search.proofs.variables.ForgottenValues.{forgotten_values, values-none, values-on, values-off}
 use Rattle.varisat_search.proofs.forgetting.forget_values.Goals as goal
 
 pub loop-index-init : goal.loop-index-init

@@ -1,7 +1,7 @@
 use Rattle.std.proofs.Common.{◌<◌, ◌+◌, length, sym, ap, ◌∙◌, subst, arith}
-use Rattle.varisat_theory.specs.Literals.{variable_of}
-use Rattle.varisat_prop.proofs.ReadElements.{element, item-∈}
-use Rattle.varisat_search.proofs.ForgottenViews.{NumberedTo, numbered-none, numbered-more, numbered-all}
+use Rattle.varisat_theory.specs.promises.Literals.{variable_of}
+use Rattle.varisat_prop.proofs.views.ReadElements.{element, item-∈}
+use Rattle.varisat_search.proofs.variables.ForgottenViews.{NumberedTo, numbered-none, numbered-more, numbered-all}
 use Rattle.varisat_search.proofs.forgetting.renumber.Goals as goal
 
 pub loop-place-init : goal.loop-place-init

@@ -1,4 +1,4 @@
-use Rattle.varisat_search.proofs.ForgottenViews.{NumberedTo}
+use Rattle.varisat_search.proofs.variables.ForgottenViews.{NumberedTo}
 use Rattle.varisat_search.proofs.forgetting.renumber.Given as goal
 
 abbrev pub invariant-loop-place : goal.invariant-loop-place

@@ -1,14 +1,14 @@
 use Rattle.std.proofs.Common.{◌≡◌, ◌+◌, ◌<◌, None, length, get_or, set, sym, ap, ◌∙◌, subst, arith}
-use Rattle.varisat_theory.specs.Literals.{variable_of}
+use Rattle.varisat_theory.specs.promises.Literals.{variable_of}
 use Rattle.varisat_vsids.specs.Activities.{Activities}
 use Rattle.varisat_prop.specs.Parts.{is_true_value}
 use Rattle.varisat_prop.specs.View.{literal_at}
-use Rattle.varisat_prop.proofs.LiteralValues.{made-inside}
-use Rattle.varisat_prop.proofs.ReadElements.{element}
+use Rattle.varisat_prop.proofs.trails.LiteralValues.{made-inside}
+use Rattle.varisat_prop.proofs.views.ReadElements.{element}
 use Rattle.varisat_search.specs.declared.context.Context.{Context}
 use Rattle.varisat_search.specs.Contexts.{view}
-use Rattle.varisat_search.proofs.Backtrack.{Cutting, cutting-step}
-use Rattle.varisat_search.proofs.BacktrackValues.{Saving, saving-step, Making, making-step}
+use Rattle.varisat_search.proofs.stepping.Backtrack.{Cutting, cutting-step}
+use Rattle.varisat_search.proofs.stepping.BacktrackValues.{Saving, saving-step, Making, making-step}
 use Rattle.varisat_search.proofs.levels.undo.Given.{Over}
 use Rattle.varisat_search.proofs.levels.undo.Goals.{After-var-var}
 use Rattle.varisat_search.proofs.levels.undo.Goals as goal

@@ -1,7 +1,7 @@
 use Rattle.std.proofs.Common.{◌≡◌}
 use Rattle.varisat_search.specs.Contexts.{view}
-use Rattle.varisat_search.proofs.Backtrack.{Cutting}
-use Rattle.varisat_search.proofs.BacktrackValues.{Saving, Making}
+use Rattle.varisat_search.proofs.stepping.Backtrack.{Cutting}
+use Rattle.varisat_search.proofs.stepping.BacktrackValues.{Saving, Making}
 use Rattle.varisat_search.proofs.levels.undo.Given as goal
 
 abbrev pub invariant-loop-place : goal.invariant-loop-place

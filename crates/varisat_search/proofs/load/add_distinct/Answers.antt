@@ -3,8 +3,8 @@ use Rattle.varisat_clause.specs.Headers.{Header}
 use Rattle.varisat_clause.proofs.LiveStore.{live-added}
 use Rattle.varisat_clause.proofs.StoreSound.{sound-is}
 use Rattle.varisat_clause.specs.Collected.{live_clauses}
-use Rattle.varisat_theory.specs.Membership.{◌∈◌, IsDistinct}
-use Rattle.varisat_theory.specs.Literals.{opposite}
+use Rattle.varisat_theory.specs.promises.Membership.{◌∈◌, IsDistinct}
+use Rattle.varisat_theory.specs.promises.Literals.{opposite}
 use Rattle.varisat_prop.specs.declared.prop.graph.Reason.TheVariants as reason
 use Rattle.varisat_prop.specs.Parts.{TrailParts}
 use Rattle.varisat_clause.specs.Stored.{StoredClause}
@@ -12,16 +12,16 @@ use Rattle.varisat_prop.specs.Pairs.{with_pair}
 use Rattle.varisat_prop.specs.View.{view_of}
 use Rattle.varisat_prop.specs.Watches.{IsPropagated}
 use Rattle.varisat_prop.specs.Visits.{WatchesClause}
-use Rattle.varisat_prop.proofs.DistinctPlaces.{distinct-places}
-use Rattle.varisat_prop.proofs.LongVisited.{listed}
-use Rattle.varisat_prop.proofs.TrailValues.{fits-node}
-use Rattle.varisat_prop.proofs.WatchKept.{propagated-enqueued}
-use Rattle.varisat_prop.proofs.LiteralValues.{made-none}
+use Rattle.varisat_prop.proofs.pairs.DistinctPlaces.{distinct-places}
+use Rattle.varisat_prop.proofs.watching.LongVisited.{listed}
+use Rattle.varisat_prop.proofs.trails.TrailValues.{fits-node}
+use Rattle.varisat_prop.proofs.watching.WatchKept.{propagated-enqueued}
+use Rattle.varisat_prop.proofs.trails.LiteralValues.{made-none}
 use Rattle.varisat_search.specs.Contexts.{view}
 use Rattle.varisat_search.specs.Loading.{IsHeadAfter, IsAdded}
 use Rattle.varisat_analysis.proofs.CopiedLiterals.{only-one, only-two, more-than-two}
-use Rattle.varisat_search.proofs.LoadView.{added-pair, added-long}
-use Rattle.varisat_search.proofs.LoadedQueue.{propagated-kept, propagated-kept-pair}
+use Rattle.varisat_search.proofs.loading.LoadView.{added-pair, added-long}
+use Rattle.varisat_search.proofs.loading.LoadedQueue.{propagated-kept, propagated-kept-pair}
 use Rattle.varisat_search.proofs.load.add_distinct.Given.{Over}
 use Rattle.varisat_search.proofs.load.add_distinct.Goals.{After-index-then-len-eq2, In_ok-add_binary_clause}
 use Rattle.varisat_search.proofs.load.add_distinct.Goals as goal

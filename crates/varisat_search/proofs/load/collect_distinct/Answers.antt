@@ -2,7 +2,7 @@ use Rattle.std.proofs.lemmas.Grind.{common_steps}
 use Rattle.std.proofs.Common.{◌≡◌, ◌*◌, false, length, drop, refl, sym, ap, ◌∙◌, arith}
 use Rattle.std.proofs.lemmas.List.{length-replicate}
 use Rattle.varisat_analysis.proofs.BumpedVariables.{clear-given-back}
-use Rattle.varisat_prop.proofs.LongVisited.{listed}
+use Rattle.varisat_prop.proofs.watching.LongVisited.{listed}
 use Rattle.varisat_analysis.proofs.CopiedLiterals.{own-list}
 use Rattle.varisat_search.proofs.load.collect_distinct.Goals as goal
 

@@ -1,8 +1,8 @@
 use Rattle.std.proofs.lemmas.Grind.{common_steps}
 use Rattle.std.proofs.Common.{refl, arith}
-use Rattle.varisat_theory.specs.Literals.{opposite}
+use Rattle.varisat_theory.specs.promises.Literals.{opposite}
 use Rattle.varisat_prop.specs.Parts.{IsMadeTrue}
-use Rattle.varisat_prop.proofs.ReadElements.{item-∈}
+use Rattle.varisat_prop.proofs.views.ReadElements.{item-∈}
 use Rattle.varisat_analysis.proofs.FoundLiterals.{one-found, none-so-far}
 use Rattle.varisat_search.proofs.load.has_false.Goals as goal
 

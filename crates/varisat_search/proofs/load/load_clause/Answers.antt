@@ -1,27 +1,27 @@
 use Rattle.std.proofs.Common.{◌≡◌, List, [], ◌∷◌, ◌++◌, ◌⊎◌, inl, inr, ⊎_elim, refl, sym, ap, ◌∙◌, subst, ◌*◌, ◌<◌, ◌≤◌, false, replicate, length, arith}
-use Rattle.varisat_theory.specs.Membership.{SameSet, IsDistinct, ◌∈◌}
-use Rattle.varisat_theory.specs.Literals.{Literal, Clause}
+use Rattle.varisat_theory.specs.promises.Membership.{SameSet, IsDistinct, ◌∈◌}
+use Rattle.varisat_theory.specs.promises.Literals.{Literal, Clause}
 use Rattle.varisat_prop.specs.View.{View}
 use Rattle.varisat_search.specs.declared.context.Context.{Context}
 use Rattle.varisat_search.specs.declared.state.SatState.{SatState}
 use Rattle.varisat_search.specs.Contexts.{view, KeepsSchedule}
 use Rattle.varisat_search.specs.Loading.{IsAdded, LoadsUnit}
-use Rattle.varisat_search.proofs.LoadView.{restarted-kept, Restarted, restarted}
-use Rattle.varisat_search.proofs.LoadContext.{Loading, loading-restarted, Loaded, loading-other, loading-propagated, loading-inside, loaded-tautology, loaded-satisfied, loaded-deleted, loaded-added}
+use Rattle.varisat_search.proofs.loading.LoadView.{restarted-kept, Restarted, restarted}
+use Rattle.varisat_search.proofs.loading.LoadContext.{Loading, loading-restarted, Loaded, loading-other, loading-propagated, loading-inside, loaded-tautology, loaded-satisfied, loaded-deleted, loaded-added}
 use Rattle.varisat_trace.proofs.Broken.{breaks-not}
-use Rattle.varisat_search.proofs.StepErrors.{ends-unfilled, memory-unfilled, trace-unfilled, memory-broken, trace-broken, store-broken, if-full}
-use Rattle.varisat_search.proofs.Frames.{schedule-through}
+use Rattle.varisat_search.proofs.stepping.StepErrors.{ends-unfilled, memory-unfilled, trace-unfilled, memory-broken, trace-broken, store-broken, if-full}
+use Rattle.varisat_search.proofs.stepping.Frames.{schedule-through}
 use Rattle.varisat_search.specs.StepErrors.{step_error_of_trace}
 use Rattle.varisat_search.specs.declared.error.StepError.TheVariants as step
 use Rattle.std.specs.List.Sorted.{IsPermutation}
 use Rattle.std.specs.Vec.{with_items}
 use Rattle.std.proofs.lemmas.Bool.{cases_lt}
 use Rattle.varisat_clause.specs.Databases.{Tracks}
-use Rattle.varisat_search.proofs.AssumptionContexts.{cut-assumed, cut-same-list}
-use Rattle.varisat_search.proofs.ClauseLengths.{clause-short}
-use Rattle.varisat_search.proofs.LoadedTrue.{can-delete-loaded}
+use Rattle.varisat_search.proofs.assuming.AssumptionContexts.{cut-assumed, cut-same-list}
+use Rattle.varisat_search.proofs.loading.ClauseLengths.{clause-short}
+use Rattle.varisat_search.proofs.loading.LoadedTrue.{can-delete-loaded}
 use Rattle.varisat_search.specs.Seen.{search_of}
-use Rattle.varisat_theory.specs.Derivations.{Line}
+use Rattle.varisat_theory.specs.promises.Derivations.{Line}
 use Rattle.varisat_trace.specs.Traces.{TakesLines}
 use Rattle.varisat_search.proofs.load.load_clause.Given.{Over}
 use Rattle.varisat_search.proofs.load.load_clause.Goals.{After-full_restart, After-collect_distinct, In_ok-collect_distinct, In_ok-trace_satisfied}

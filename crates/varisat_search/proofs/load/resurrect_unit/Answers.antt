@@ -3,11 +3,11 @@ use Rattle.std.specs.List.{slice_get}
 use Rattle.std.specs.Option.{option_eq}
 use Rattle.std.proofs.lemmas.Bool.{eqb-true, eq-eqb}
 use Rattle.std.proofs.lemmas.Option.{slice_get_within, slice_get_read}
-use Rattle.varisat_theory.specs.Membership.{◌∈◌}
-use Rattle.varisat_theory.specs.Literals.{Literal, opposite}
-use Rattle.varisat_theory.specs.Searches.{Search}
-use Rattle.varisat_theory.specs.Outcomes.{Unknown, Unsat, Loads}
-use Rattle.varisat_prop.proofs.TrailExtend.{get_or-last}
+use Rattle.varisat_theory.specs.promises.Membership.{◌∈◌}
+use Rattle.varisat_theory.specs.promises.Literals.{Literal, opposite}
+use Rattle.varisat_theory.specs.promises.Searches.{Search}
+use Rattle.varisat_theory.specs.inside.Outcomes.{Unknown, Unsat, Loads}
+use Rattle.varisat_prop.proofs.trails.TrailExtend.{get_or-last}
 use Rattle.varisat_search.specs.declared.context.Context.{Context}
 use Rattle.varisat_search.specs.declared.state.SatState.{SatState}
 use Rattle.varisat_search.specs.Contexts.{view, KeepsSchedule}
@@ -15,9 +15,9 @@ use Rattle.varisat_search.specs.Frames.{KeepsVariables}
 use Rattle.varisat_search.specs.Loading.{loaded_outcome}
 use Rattle.varisat_search.specs.Seen.{search_of}
 use Rattle.varisat_search.specs.Steps.{reopened_state}
-use Rattle.varisat_search.proofs.SkippedHead.{with_next_head}
-use Rattle.varisat_search.proofs.LeastHeld.{anything-with}
-use Rattle.varisat_search.proofs.LoadedTrue.{unit-loads}
+use Rattle.varisat_search.proofs.variables.SkippedHead.{with_next_head}
+use Rattle.varisat_search.proofs.learning.LeastHeld.{anything-with}
+use Rattle.varisat_search.proofs.loading.LoadedTrue.{unit-loads}
 use Rattle.varisat_search.proofs.load.resurrect_unit.Given.{Over}
 use Rattle.varisat_search.proofs.load.resurrect_unit.Goals.{After-queue_head}
 use Rattle.varisat_search.specs.declared.state.SatState.TheVariants as verdict

@@ -2,7 +2,7 @@ use Rattle.std.proofs.Common.{◌≡◌, ◌+◌, sym, ◌∙◌, subst}
 use Rattle.std.proofs.lemmas.Option.{MatchOption-at_some}
 use Rattle.varisat_prop.specs.Parts.{TrailParts}
 use Rattle.varisat_search.specs.Contexts.{IsReady}
-use Rattle.varisat_search.proofs.SkippedHead.{skipped-ready}
+use Rattle.varisat_search.proofs.variables.SkippedHead.{skipped-ready}
 use Rattle.varisat_search.proofs.load.skip_unmentioned.Goals as goal
 
 pub returns-clause-ready : goal.returns-clause-ready

@@ -1,5 +1,5 @@
 use Rattle.varisat_trace.proofs.Broken.{error-broken, breaks-in}
-use Rattle.varisat_search.proofs.LoadedTrue.{permuted-delete}
+use Rattle.varisat_search.proofs.loading.LoadedTrue.{permuted-delete}
 use Rattle.varisat_search.proofs.load.trace_satisfied.Goals as goal
 
 pub add_step-requires : goal.add_step-requires

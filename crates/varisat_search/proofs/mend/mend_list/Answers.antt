@@ -1,5 +1,5 @@
 use Rattle.std.proofs.Common.{◌≡◌, ◌<◌, ◌≤◌, length, get_or, ap, subst, arith}
-use Rattle.varisat_search.proofs.MendedLists.{mending-read, mending-at-dropped, mending-at-kept, mending-at-end}
+use Rattle.varisat_search.proofs.simplifying.MendedLists.{mending-read, mending-at-dropped, mending-at-kept, mending-at-end}
 use Rattle.varisat_search.proofs.mend.mend_list.Goals as goal
 
 pub mended_watch-requires-clause-place : goal.mended_watch-requires-clause-place

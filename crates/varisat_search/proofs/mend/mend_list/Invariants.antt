@@ -1,6 +1,6 @@
 use Rattle.std.proofs.Common.{◌-◌, length}
 use Rattle.varisat_clause.specs.Collected.{live_clauses}
-use Rattle.varisat_search.proofs.MendedLists.{MendingAt}
+use Rattle.varisat_search.proofs.simplifying.MendedLists.{MendingAt}
 use Rattle.varisat_search.proofs.mend.mend_list.Given as goal
 
 abbrev pub invariant-watches : goal.invariant-watches

@@ -1,17 +1,17 @@
 use Rattle.std.proofs.Common.{◌≡◌, ◌-◌, ◌+◌, ◌<◌, ◌++◌, List, [], ◌∷◌, length, get_or, take, ⊎_elim, sym, ap, ◌∙◌, subst, arith, length-set}
 use Rattle.std.proofs.lemmas.Bool.{eqb-true}
 use Rattle.std.proofs.lemmas.List.{take_more, get_or-take, length-take}
-use Rattle.varisat_theory.specs.Membership.{◌∈◌}
-use Rattle.varisat_theory.specs.Literals.{Literal}
-use Rattle.varisat_theory.proofs.Places.{∈-get_or, ∈-take_more}
+use Rattle.varisat_theory.specs.promises.Membership.{◌∈◌}
+use Rattle.varisat_theory.specs.promises.Literals.{Literal}
+use Rattle.varisat_theory.proofs.clauses.Places.{∈-get_or, ∈-take_more}
 use Rattle.varisat_clause.specs.Stored.{IsClauseRef}
 use Rattle.varisat_clause.specs.Stores.{stored_clauses}
 use Rattle.varisat_clause.specs.Collected.{live_clauses}
 use Rattle.varisat_prop.specs.declared.prop.watch_list.Watch.{Watch}
 use Rattle.varisat_prop.specs.Watches.{Watches, with_watches}
-use Rattle.varisat_prop.proofs.ReadElements.{element, item-∈}
+use Rattle.varisat_prop.proofs.views.ReadElements.{element, item-∈}
 use Rattle.varisat_search.specs.MendedLists.{AreMended, MendsLists}
-use Rattle.varisat_search.proofs.MendedLists.{lists-again, lists-next}
+use Rattle.varisat_search.proofs.simplifying.MendedLists.{lists-again, lists-next}
 use Rattle.varisat_search.proofs.mend.mend_lists.Goals as goal
 
 pub literals-preserved-then-eq : goal.literals-preserved-then-eq

@@ -1,10 +1,10 @@
 use Rattle.std.proofs.Common.{length, refl, sym, ap, ◌∙◌, subst, arith}
-use Rattle.varisat_theory.specs.Membership.{◌∈◌}
-use Rattle.varisat_theory.specs.Literals.{Clause}
+use Rattle.varisat_theory.specs.promises.Membership.{◌∈◌}
+use Rattle.varisat_theory.specs.promises.Literals.{Clause}
 use Rattle.varisat_clause.specs.Headers.{Header}
 use Rattle.varisat_clause.proofs.DatabaseTracks.{long-at}
 use Rattle.varisat_clause.proofs.LiveStore.{live-literals}
-use Rattle.varisat_search.proofs.MendedLists.{still-live, not-live}
+use Rattle.varisat_search.proofs.simplifying.MendedLists.{still-live, not-live}
 use Rattle.varisat_search.proofs.mend.mended_watch.Goals as goal
 
 pub returns-then-deleted : goal.returns-then-deleted

@@ -1,5 +1,5 @@
 use Rattle.std.proofs.Common.{◌≡◌, ℕ, ◌<◌, Bool, Option, None, List, length, get_or}
-use Rattle.varisat_names.specs.Variables.{Tables}
+use Rattle.varisat_names.specs.promises.Variables.{Tables}
 use Rattle.varisat_search.specs.GlobalModels.{global_value}
 use Rattle.varisat_search.proofs.model.reconstruct_global_model.Given as goal
 

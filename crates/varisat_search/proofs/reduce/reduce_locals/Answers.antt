@@ -1,7 +1,7 @@
 use Rattle.varisat_trace.proofs.Broken.{error-broken, breaks-not}
 use Rattle.varisat_trace.specs.declared.tracer.TraceError.TheVariants.{Memory}
 use Rattle.std.proofs.Common.{◌≡◌, ◌/◌, ℕ, List, length, refl, sym, ap, ◌∙◌, subst, arith, ◌≢◌, Bool, true, false, not, nat_eq, cond, [], ◌∷◌, ◌++◌, map, inl, inr, ⊎_elim, append_assoc, zero, suc, ◌&&◌}
-use Rattle.varisat_theory.specs.Derivations.{Line, Delete}
+use Rattle.varisat_theory.specs.promises.Derivations.{Line, Delete}
 use Rattle.varisat_clause.specs.declared.header.Tier.TheVariants.{Local}
 use Rattle.varisat_clause.specs.Stores.{stored_clauses, HoldsClauses, Store, IsSound}
 use Rattle.varisat_trace.proofs.Traced.{can_take}
@@ -11,24 +11,24 @@ use Rattle.varisat_search.specs.declared.context.Context.{Context}
 use Rattle.varisat_search.specs.Contexts.{view}
 use Rattle.varisat_clause.specs.Reductions.{ListsTier, AreRanked, unmarked_places, all_deleted, ReducesLocals}
 use Rattle.varisat_analysis.specs.Reductions.{Discards, reason_marked, reasons_marked}
-use Rattle.varisat_search.proofs.HeaderChanges.{store-view}
-use Rattle.varisat_search.proofs.DiscardedClauses.{reduces-discards, reduces-gone, gone-out}
+use Rattle.varisat_search.proofs.simplifying.HeaderChanges.{store-view}
+use Rattle.varisat_search.proofs.simplifying.DiscardedClauses.{reduces-discards, reduces-gone, gone-out}
 use Rattle.varisat_search.specs.DueReductions.{DropsLocals}
-use Rattle.varisat_search.proofs.DueReductions.{discards-keep}
-use Rattle.varisat_search.proofs.ReadyAfter.{first-known, discards-ready}
+use Rattle.varisat_search.proofs.stepping.DueReductions.{discards-keep}
+use Rattle.varisat_search.proofs.stepping.ReadyAfter.{first-known, discards-ready}
 use Rattle.varisat_search.proofs.reduce.reduce_locals.Given.{Over}
 use Rattle.varisat_search.proofs.reduce.reduce_locals.Goals.{After-delete_unmarked, After-count}
 use Rattle.varisat_trace.specs.Traces.{TakesLines}
 use Rattle.std.specs.List.{filter}
-use Rattle.varisat_theory.specs.Membership.{◌∈◌, IsDistinct}
-use Rattle.varisat_theory.specs.Searches.{KeptClause, Search}
-use Rattle.varisat_theory.specs.Outcomes.{Proves}
-use Rattle.varisat_theory.proofs.StepParts.{no_part, parts_join}
-use Rattle.varisat_theory.proofs.StepChanges.{learned_is_deleted}
+use Rattle.varisat_theory.specs.promises.Membership.{◌∈◌, IsDistinct}
+use Rattle.varisat_theory.specs.promises.Searches.{KeptClause, Search}
+use Rattle.varisat_theory.specs.inside.Outcomes.{Proves}
+use Rattle.varisat_theory.proofs.steps.StepParts.{no_part, parts_join}
+use Rattle.varisat_theory.proofs.steps.StepChanges.{learned_is_deleted}
 use Rattle.varisat_clause.specs.Stored.{StoredClause, literals_at, stored_at, IsClauseRef, AreRising, header_at}
 use Rattle.varisat_clause.proofs.StoredClauses.{same-self, is-same, is-other, stored-∈, stored-found}
 use Rattle.varisat_clause.proofs.DatabaseTracks.{place-is, true-or-false, same-tier}
-use Rattle.varisat_prop.proofs.SimplifiedPairs.{filter-∈, ∈-filter}
+use Rattle.varisat_prop.proofs.pairs.SimplifiedPairs.{filter-∈, ∈-filter}
 use Rattle.varisat_analysis.specs.HeaderChanges.{kept_clause}
 use Rattle.varisat_analysis.proofs.DeletedPlaces.{filter-rising, one-placed, one-gone, deleted-stays, unmarked-∈}
 use Rattle.varisat_clause.specs.declared.header.Tier.{Tier}
@@ -39,7 +39,7 @@ use Rattle.varisat_clause.proofs.LocalReduction.{live-not-deleted}
 use Rattle.varisat_prop.specs.View.{View, WellFormed, pairs_from}
 use Rattle.varisat_analysis.proofs.MarkedReasons.{mark-place, mark-held}
 use Rattle.varisat_analysis.proofs.SameButHeaders.{headers-place, headers-kept}
-use Rattle.varisat_search.proofs.TracedClauses.{live-there}
+use Rattle.varisat_search.proofs.simplifying.TracedClauses.{live-there}
 use Rattle.varisat_clause.specs.declared.header.Tier.TheVariants as tier
 use Rattle.varisat_search.proofs.reduce.reduce_locals.Goals as goal
 

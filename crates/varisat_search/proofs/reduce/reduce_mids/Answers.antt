@@ -12,7 +12,7 @@ use Rattle.varisat_analysis.specs.HeaderChanges.{SameButHeaders, ChangesHeaders}
 use Rattle.varisat_analysis.proofs.SameButHeaders.{held_clause, live-map}
 use Rattle.varisat_search.specs.declared.context.Context.{Context}
 use Rattle.varisat_search.specs.Contexts.{view}
-use Rattle.varisat_search.proofs.HeaderChanges.{store-view, headers-ready}
+use Rattle.varisat_search.proofs.simplifying.HeaderChanges.{store-view, headers-ready}
 use Rattle.varisat_search.proofs.reduce.reduce_mids.Given.{Over}
 use Rattle.varisat_search.proofs.reduce.reduce_mids.Goals.{In_ok-reduce_mids}
 use Rattle.varisat_clause.specs.declared.header.Tier.TheVariants as tier

@@ -4,7 +4,7 @@ use Rattle.varisat_search.specs.declared.context.Context.{Context}
 use Rattle.varisat_search.specs.Contexts.{view}
 use Rattle.varisat_search.specs.Frames.{ChangesRestarted}
 use Rattle.varisat_search.specs.Seen.{search_of}
-use Rattle.varisat_search.proofs.RestartSteps.{begun-view}
+use Rattle.varisat_search.proofs.stepping.RestartSteps.{begun-view}
 use Rattle.varisat_trace.specs.Traces.{AdmitsFor}
 use Rattle.varisat_trace.proofs.Traced.{holds_on, holds_still}
 use Rattle.varisat_search.proofs.schedule.begin_step.Given.{Over}

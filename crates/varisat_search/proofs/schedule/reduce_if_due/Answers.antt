@@ -1,14 +1,14 @@
 use Rattle.varisat_trace.proofs.Broken.{error-broken, breaks-on, breaks-not}
 use Rattle.varisat_trace.specs.declared.tracer.TraceError.TheVariants.{Memory}
 use Rattle.std.proofs.Common.{◌≡◌, ◌*◌, List, [], ◌++◌, length, ⊎_elim, sym, ap, ◌∙◌, subst}
-use Rattle.varisat_theory.specs.Derivations.{Line}
-use Rattle.varisat_prop.proofs.ViewGrowth.{append-nil}
+use Rattle.varisat_theory.specs.promises.Derivations.{Line}
+use Rattle.varisat_prop.proofs.views.ViewGrowth.{append-nil}
 use Rattle.varisat_search.proofs.schedule.reduce_if_due.Given.{Over}
 use Rattle.varisat_search.proofs.schedule.reduce_if_due.Goals.{In_ok-collect_garbage}
 use Rattle.std.proofs.lemmas.Bool.{cases_lt}
 use Rattle.varisat_search.specs.declared.context.Context.{Context}
 use Rattle.varisat_search.specs.DueReductions.{ReducesIfDue}
-use Rattle.varisat_search.proofs.DueReductions.{repacks-keep, keeps-are, keeps-same, keeps-trans}
+use Rattle.varisat_search.proofs.stepping.DueReductions.{repacks-keep, keeps-are, keeps-same, keeps-trans}
 use Rattle.varisat_search.proofs.schedule.reduce_if_due.Goals as goal
 use Rattle.varisat_trace.specs.Traces.{TakesLines}
 

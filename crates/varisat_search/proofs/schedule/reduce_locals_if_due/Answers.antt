@@ -2,7 +2,7 @@ use Rattle.varisat_trace.proofs.Broken.{error-broken}
 use Rattle.std.proofs.Common.{refl}
 use Rattle.varisat_trace.specs.Traces.{TakesLines}
 use Rattle.varisat_search.specs.DueReductions.{ReducesLocalsIfDue}
-use Rattle.varisat_search.proofs.DueReductions.{keeps-are, keeps-none, keeps-refl}
+use Rattle.varisat_search.proofs.stepping.DueReductions.{keeps-are, keeps-none, keeps-refl}
 use Rattle.varisat_search.proofs.schedule.reduce_locals_if_due.Goals as goal
 
 pub returns-in_ok-reduce_locals-clause-keeps : goal.returns-in_ok-reduce_locals-clause-keeps

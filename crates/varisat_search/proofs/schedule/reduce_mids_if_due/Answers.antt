@@ -1,7 +1,7 @@
 use Rattle.std.proofs.Common.{◌≡◌, [], ap, refl}
 use Rattle.varisat_search.specs.declared.context.Context.{Context}
 use Rattle.varisat_search.specs.DueReductions.{ReducesMidsIfDue}
-use Rattle.varisat_search.proofs.DueReductions.{headers-keep, keeps-are, keeps-none, keeps-refl}
+use Rattle.varisat_search.proofs.stepping.DueReductions.{headers-keep, keeps-are, keeps-none, keeps-refl}
 use Rattle.varisat_search.proofs.schedule.reduce_mids_if_due.Goals as goal
 
 pub returns-in_ok-reduce_mids-clause-keeps : goal.returns-in_ok-reduce_mids-clause-keeps

@@ -5,9 +5,9 @@ use Rattle.varisat_search.specs.declared.context.Context.{Context}
 use Rattle.varisat_search.specs.Contexts.{view}
 use Rattle.varisat_search.specs.Frames.{begun_plan}
 use Rattle.varisat_search.specs.Restarts.{RestartsIfDue}
-use Rattle.varisat_search.proofs.AssumptionContexts.{own-levels}
-use Rattle.varisat_search.proofs.Frames.{cut-activities}
-use Rattle.varisat_search.proofs.ReadyAfter.{backtracked-ready, ready-with}
+use Rattle.varisat_search.proofs.assuming.AssumptionContexts.{own-levels}
+use Rattle.varisat_search.proofs.stepping.Frames.{cut-activities}
+use Rattle.varisat_search.proofs.stepping.ReadyAfter.{backtracked-ready, ready-with}
 use Rattle.varisat_search.proofs.schedule.restart_if_due.Given.{Over}
 use Rattle.varisat_search.proofs.schedule.restart_if_due.Goals.{After-restart}
 use Rattle.varisat_search.proofs.schedule.restart_if_due.Goals as goal

@@ -1,8 +1,8 @@
 use Rattle.std.proofs.Common.{◌≡◌, if◌then◌else◌, nat_eq, ℕ, suc, ◌+◌, ◌*◌, ◌<◌, ◌≤◌, Bool, true, false, List, [], ◌++◌, length, subst, ◌∙◌, ap, refl}
-use Rattle.varisat_theory.specs.Rank.{rank}
-use Rattle.varisat_theory.specs.Derivations.{Line}
-use Rattle.varisat_theory.specs.Outcomes.{Outcome, Steps, Proves}
-use Rattle.varisat_theory.proofs.StepAccounts.{part_step}
+use Rattle.varisat_theory.specs.inside.Rank.{rank}
+use Rattle.varisat_theory.specs.promises.Derivations.{Line}
+use Rattle.varisat_theory.specs.inside.Outcomes.{Outcome, Steps, Proves}
+use Rattle.varisat_theory.proofs.steps.StepAccounts.{part_step}
 use Rattle.varisat_prop.specs.View.{View, kinds}
 use Rattle.varisat_schedule.specs.CallSteps.{IsPlannedStep}
 use Rattle.varisat_search.specs.declared.context.Context.{Context}
@@ -13,17 +13,17 @@ use Rattle.varisat_search.specs.DueReductions.{KeepsSearch, ReducesIfDue, GoesBy
 use Rattle.varisat_search.specs.Restarts.{RestartsIfDue, SavesIfDue, RestartsAndRemembers}
 use Rattle.varisat_search.specs.Seen.{search_of}
 use Rattle.varisat_search.specs.Steps.{Remembers}
-use Rattle.varisat_search.proofs.AssumptionSteps.{keeps-after-part}
-use Rattle.varisat_search.proofs.DecidableVariables.{same-trans}
-use Rattle.varisat_search.proofs.DueReductions.{rises-over, keeps-are}
-use Rattle.varisat_search.proofs.RestartSteps.{begun-view, begun-steps, begun-rises}
+use Rattle.varisat_search.proofs.assuming.AssumptionSteps.{keeps-after-part}
+use Rattle.varisat_search.proofs.variables.DecidableVariables.{same-trans}
+use Rattle.varisat_search.proofs.stepping.DueReductions.{rises-over, keeps-are}
+use Rattle.varisat_search.proofs.stepping.RestartSteps.{begun-view, begun-steps, begun-rises}
 use Rattle.varisat_trace.proofs.Broken.{breaks-on}
-use Rattle.varisat_search.proofs.StepErrors.{trace-broken, step-passed}
+use Rattle.varisat_search.proofs.stepping.StepErrors.{trace-broken, step-passed}
 use Rattle.varisat_schedule.specs.Plans.{Plan, step_begun}
-use Rattle.varisat_theory.specs.Luby.{luby, saturated}
+use Rattle.varisat_theory.specs.inside.Luby.{luby, saturated}
 use Rattle.varisat_search.specs.Progress.{outcome_at}
 use Rattle.varisat_search.specs.RootSimplified.{SimplifiesThenSteps, SimplifiesRootFirst, LearnsAlone}
-use Rattle.varisat_search.proofs.MadeSteps.{made-with}
+use Rattle.varisat_search.proofs.stepping.MadeSteps.{made-with}
 use Rattle.varisat_trace.specs.Traces.{TakesLines, TakesStep}
 use Rattle.varisat_trace.proofs.Traced.{step-more}
 use Rattle.varisat_search.proofs.schedule.schedule_step.Goals as goal

@@ -1,14 +1,14 @@
 use Rattle.std.proofs.lemmas.Grind.{common_steps}
 -- The variable took a solver variable, which the search has.
 use Rattle.std.proofs.Common.{◌≡◌, Some, None, List, length, sym, ap, ◌∙◌, subst, arith}
-use Rattle.varisat_theory.specs.Searches.{IsLiteralOf}
-use Rattle.varisat_names.specs.VarMap.{at}
-use Rattle.varisat_names.specs.VarData.{data_at}
+use Rattle.varisat_theory.specs.promises.Searches.{IsLiteralOf}
+use Rattle.varisat_names.specs.promises.VarMap.{at}
+use Rattle.varisat_names.specs.promises.VarData.{data_at}
 use Rattle.varisat_names.specs.declared.variables.data.VarData.{VarData}
 use Rattle.varisat_search.specs.declared.context.Context.{Context}
 use Rattle.varisat_search.specs.Contexts.{view}
 use Rattle.varisat_search.specs.Decisions.{AddsDecidable}
-use Rattle.varisat_search.proofs.SolverVariables.{taken-decidable, taken-small, taken-room, in-use-all, solver-case}
+use Rattle.varisat_search.proofs.variables.SolverVariables.{taken-decidable, taken-small, taken-room, in-use-all, solver-case}
 use Rattle.varisat_search.proofs.solver_variables.solver_from_global.Goals as goal
 
 pub add_variables-requires : goal.add_variables-requires

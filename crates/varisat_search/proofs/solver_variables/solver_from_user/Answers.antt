@@ -1,5 +1,5 @@
 -- The name was named, and its global variable is live.
-use Rattle.varisat_search.proofs.SolverVariables.{has-named}
+use Rattle.varisat_search.proofs.variables.SolverVariables.{has-named}
 use Rattle.varisat_search.proofs.solver_variables.solver_from_user.Goals as goal
 
 pub solver_from_global-requires-clause-variables : goal.solver_from_global-requires-clause-variables

@@ -2,12 +2,12 @@ use Rattle.std.proofs.lemmas.Grind.{common_steps}
 -- One more literal's name has a solver variable.
 use Rattle.std.proofs.Common.{◌≡◌, ◌++◌, ◌∷◌, [], ◌+◌, sym, ap, ◌∙◌, subst, take, drop, refl, arith}
 use Rattle.std.proofs.lemmas.List.{take_more}
-use Rattle.varisat_theory.specs.Literals.{variable_of, literal_of}
-use Rattle.varisat_names.specs.Maps.{chain}
-use Rattle.varisat_names.specs.VarMap.{at}
-use Rattle.varisat_names.specs.Variables.{IsNamed}
+use Rattle.varisat_theory.specs.promises.Literals.{variable_of, literal_of}
+use Rattle.varisat_names.specs.promises.Maps.{chain}
+use Rattle.varisat_names.specs.promises.VarMap.{at}
+use Rattle.varisat_names.specs.promises.Variables.{IsNamed}
 use Rattle.varisat_search.specs.SolverVariables.{HasRoomFor, Searched, NameHasSolver, HaveSolversInTurn, AreOver}
-use Rattle.varisat_search.proofs.SolverVariables.{solver-here, solver-stays, room-left, in-turn-push, over-more, over-push, sign-is, drop-item}
+use Rattle.varisat_search.proofs.variables.SolverVariables.{solver-here, solver-stays, room-left, in-turn-push, over-more, over-push, sign-is, drop-item}
 use Rattle.varisat_search.proofs.solver_variables.solver_from_user_lits.Goals as goal
 
 pub solver_from_user-requires-clause-room : goal.solver_from_user-requires-clause-room

@@ -1,6 +1,6 @@
 use Rattle.std.proofs.Common.{take, drop}
-use Rattle.varisat_names.specs.Maps.{chain}
-use Rattle.varisat_names.specs.VarMap.{at}
+use Rattle.varisat_names.specs.promises.Maps.{chain}
+use Rattle.varisat_names.specs.promises.VarMap.{at}
 use Rattle.varisat_search.specs.Contexts.{KeepsSchedule}
 use Rattle.varisat_search.specs.SolverVariables.{HasRoomFor, HasVariables, HaveSolversInTurn, AreOver}
 use Rattle.varisat_search.proofs.solver_variables.solver_from_user_lits.Given as goal

@@ -4,11 +4,11 @@ use Rattle.varisat_clause.specs.Reductions.{unmarked_places}
 use Rattle.varisat_clause.proofs.LocalReduction.{drop-place, element}
 use Rattle.std.proofs.lemmas.Grind.{common_steps}
 use Rattle.varisat_trace.proofs.Broken.{lines-broken, breaks-on, breaks-in}
-use Rattle.varisat_theory.specs.Literals.{Clause}
-use Rattle.varisat_theory.specs.Derivations.{Line, Delete}
+use Rattle.varisat_theory.specs.promises.Literals.{Clause}
+use Rattle.varisat_theory.specs.promises.Derivations.{Line, Delete}
 use Rattle.varisat_clause.specs.Headers.{Header}
 use Rattle.varisat_clause.specs.Stores.{stored_clauses}
-use Rattle.varisat_prop.proofs.ReadElements.{item-∈}
+use Rattle.varisat_prop.proofs.views.ReadElements.{item-∈}
 use Rattle.varisat_trace.proofs.TracedParts.{TracesPart, part-same, part-able, part-next}
 use Rattle.varisat_search.specs.Deletions.{deletion_lines, unmarked_deletions}
 use Rattle.varisat_search.proofs.trace.trace_deletions.Given.{Over}

@@ -1,5 +1,5 @@
 use Rattle.varisat_trace.proofs.TracedLists.{TracesTo}
-use Rattle.varisat_search.proofs.TracedClauses.{list_lines, numbered}
+use Rattle.varisat_search.proofs.simplifying.TracedClauses.{list_lines, numbered}
 use Rattle.varisat_search.proofs.trace.trace_each_pair.Given as goal
 
 abbrev pub invariant-lits : goal.invariant-lits

@@ -1,5 +1,5 @@
 use Rattle.varisat_trace.proofs.TracedLists.{TracesTo}
-use Rattle.varisat_search.proofs.TracedClauses.{pair_line}
+use Rattle.varisat_search.proofs.simplifying.TracedClauses.{pair_line}
 use Rattle.varisat_search.proofs.trace.trace_pairs_with.Given as goal
 
 abbrev pub invariant-loop-other : goal.invariant-loop-other

@@ -1,5 +1,5 @@
 use Rattle.varisat_trace.proofs.TracedLists.{TracesTo}
-use Rattle.varisat_search.proofs.TracedClauses.{unit_line}
+use Rattle.varisat_search.proofs.simplifying.TracedClauses.{unit_line}
 use Rattle.varisat_search.proofs.trace.trace_units.Given as goal
 
 abbrev pub invariant-loop-lit : goal.invariant-loop-lit

@@ -1,8 +1,8 @@
 use Rattle.std.proofs.lemmas.Grind.{common_steps}
 use Rattle.std.proofs.Common.{ℕ, List, take, length, ap, ◌∙◌, arith}
-use Rattle.varisat_prop.proofs.ReadElements.{item-∈}
+use Rattle.varisat_prop.proofs.views.ReadElements.{item-∈}
 use Rattle.varisat_search.specs.Simplifications.{with_pairs}
-use Rattle.varisat_search.proofs.SimplifiedKept.{longer-pair, joined-count, joined-on, next-taken}
+use Rattle.varisat_search.proofs.simplifying.SimplifiedKept.{longer-pair, joined-count, joined-on, next-taken}
 use Rattle.varisat_search.proofs.unit_simplify.add_pairs.Goals as goal
 
 pub add_binary_clause-requires-clause-first : goal.add_binary_clause-requires-clause-first

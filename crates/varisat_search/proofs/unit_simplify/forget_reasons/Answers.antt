@@ -1,9 +1,9 @@
 use Rattle.std.proofs.Common.{◌+◌, List, [], ◌∷◌, ◌++◌, take, take_all, get_or, set, sym, ap, ◌∙◌, subst, arith}
-use Rattle.varisat_theory.specs.Literals.{Literal, variable_of}
+use Rattle.varisat_theory.specs.promises.Literals.{Literal, variable_of}
 use Rattle.varisat_prop.specs.View.{no_node}
-use Rattle.varisat_prop.proofs.ReadElements.{element, item-∈}
+use Rattle.varisat_prop.proofs.views.ReadElements.{element, item-∈}
 use Rattle.varisat_analysis.proofs.BumpedVariables.{take-snoc}
-use Rattle.varisat_search.proofs.ProvedUnits.{as_unit, HasUnitsTo, units-none, units-more}
+use Rattle.varisat_search.proofs.simplifying.ProvedUnits.{as_unit, HasUnitsTo, units-none, units-more}
 use Rattle.varisat_search.proofs.unit_simplify.forget_reasons.Goals as goal
 
 pub loop-lit-init : goal.loop-lit-init

@@ -1,5 +1,5 @@
 use Rattle.std.proofs.Common.{take}
-use Rattle.varisat_search.proofs.ProvedUnits.{HasUnitsTo}
+use Rattle.varisat_search.proofs.simplifying.ProvedUnits.{HasUnitsTo}
 use Rattle.varisat_search.proofs.unit_simplify.forget_reasons.Given as goal
 
 abbrev pub invariant-loop-lit : goal.invariant-loop-lit

@@ -1,7 +1,7 @@
 use Rattle.std.proofs.lemmas.Grind.{common_steps}
 use Rattle.std.proofs.Common.{◌≢◌, None, get_or, arith}
-use Rattle.varisat_theory.specs.Literals.{variable_of}
-use Rattle.varisat_prop.proofs.ReadElements.{item-∈}
+use Rattle.varisat_theory.specs.promises.Literals.{variable_of}
+use Rattle.varisat_prop.proofs.views.ReadElements.{item-∈}
 use Rattle.varisat_analysis.proofs.FoundLiterals.{one-found, none-so-far}
 use Rattle.varisat_search.proofs.unit_simplify.has_assigned.Goals as goal
 

@@ -1,6 +1,6 @@
 use Rattle.std.proofs.Common.{ℕ, ◌≢◌, None, get_or, take}
-use Rattle.varisat_theory.specs.Membership.{◌∈◌}
-use Rattle.varisat_theory.specs.Literals.{variable_of}
+use Rattle.varisat_theory.specs.promises.Membership.{◌∈◌}
+use Rattle.varisat_theory.specs.promises.Literals.{variable_of}
 use Rattle.varisat_search.proofs.unit_simplify.has_assigned.Given as goal
 
 abbrev pub invariant-loop-lit : goal.invariant-loop-lit

@@ -1,15 +1,15 @@
 use Rattle.varisat_trace.proofs.Broken.{error-broken}
 use Rattle.std.proofs.lemmas.Grind.{common_steps}
 use Rattle.std.proofs.Common.{◌<◌, List, length, refl, sym, subst, arith, ◌≡◌, ℕ, zero, suc, Bool, true, false, not, [], ◌∷◌, ◌++◌, get_or, inl, inr, ⊎_elim, ap, ◌∙◌, length-append}
-use Rattle.varisat_theory.specs.Membership.{◌∈◌}
-use Rattle.varisat_theory.specs.Literals.{Literal, variable_of, opposite}
-use Rattle.varisat_theory.specs.StepLaws.{unit_lines}
-use Rattle.varisat_theory.proofs.Places.{place_in, ∈-get_or}
+use Rattle.varisat_theory.specs.promises.Membership.{◌∈◌}
+use Rattle.varisat_theory.specs.promises.Literals.{Literal, variable_of, opposite}
+use Rattle.varisat_theory.specs.inside.StepLaws.{unit_lines}
+use Rattle.varisat_theory.proofs.clauses.Places.{place_in, ∈-get_or}
 use Rattle.varisat_search.specs.declared.context.Context.{Context}
 use Rattle.varisat_search.specs.Contexts.{view}
 use Rattle.varisat_search.specs.Seen.{search_of}
 use Rattle.varisat_search.specs.ProvedUnits.{HaveUnits, ProvesUnits, implied_units, units_in}
-use Rattle.varisat_search.proofs.ProvedUnits.{none-left, units-ready, level-zero, unit-node, zero-level, units-well}
+use Rattle.varisat_search.proofs.simplifying.ProvedUnits.{none-left, units-ready, level-zero, unit-node, zero-level, units-well}
 use Rattle.varisat_trace.specs.Traces.{TakesLines, CanTake}
 use Rattle.varisat_trace.proofs.Traced.{can_take}
 use Rattle.varisat_analysis.proofs.WellFormedViews.{inside-at, reason-kept, reason-first, reason-before}
@@ -17,21 +17,21 @@ use Rattle.varisat_search.proofs.unit_simplify.prove_units.Given.{Over}
 use Rattle.varisat_search.proofs.unit_simplify.prove_units.Goals.{After-forget_reasons}
 use Rattle.std.specs.Prelude.{cond}
 use Rattle.std.specs.List.{filter}
-use Rattle.varisat_theory.specs.Propagation.{LeavesOnly}
-use Rattle.varisat_theory.specs.Searches.{KeptClause, Search, clauses_of}
-use Rattle.varisat_theory.specs.Outcomes.{Proves}
-use Rattle.varisat_theory.proofs.Members.{∈-append_left, ∈-append_right}
-use Rattle.varisat_theory.proofs.SearchFits.{same_equal, clause_from}
-use Rattle.varisat_theory.proofs.StepChanges.{moves_prove}
-use Rattle.varisat_theory.proofs.StepRetirements.{units_are_proved}
-use Rattle.varisat_theory.proofs.StepParts.{parts_join}
+use Rattle.varisat_theory.specs.promises.Propagation.{LeavesOnly}
+use Rattle.varisat_theory.specs.promises.Searches.{KeptClause, Search, clauses_of}
+use Rattle.varisat_theory.specs.inside.Outcomes.{Proves}
+use Rattle.varisat_theory.proofs.clauses.Members.{∈-append_left, ∈-append_right}
+use Rattle.varisat_theory.proofs.steps.SearchFits.{same_equal, clause_from}
+use Rattle.varisat_theory.proofs.steps.StepChanges.{moves_prove}
+use Rattle.varisat_theory.proofs.steps.StepRetirements.{units_are_proved}
+use Rattle.varisat_theory.proofs.steps.StepParts.{parts_join}
 use Rattle.varisat_prop.specs.View.{View, IsTrueIn, literal_at, node_of, node_at, level_of, IsOnTrailBefore, WellFormed, is_clause}
-use Rattle.varisat_prop.proofs.ViewGrowth.{append-nil}
-use Rattle.varisat_prop.proofs.SimplifiedPairs.{filter-∈}
-use Rattle.varisat_prop.proofs.TrailValues.{trail-true}
+use Rattle.varisat_prop.proofs.views.ViewGrowth.{append-nil}
+use Rattle.varisat_prop.proofs.pairs.SimplifiedPairs.{filter-∈}
+use Rattle.varisat_prop.proofs.trails.TrailValues.{trail-true}
 use Rattle.varisat_analysis.specs.Learned.{implying_clause}
-use Rattle.varisat_search.proofs.DecidableVariables.{true-or-false}
-use Rattle.varisat_search.proofs.ViewSearch.{no_clause, fixed_from, fixed_to, proved_from, proved_to, seen_clauses}
+use Rattle.varisat_search.proofs.variables.DecidableVariables.{true-or-false}
+use Rattle.varisat_search.proofs.stepping.ViewSearch.{no_clause, fixed_from, fixed_to, proved_from, proved_to, seen_clauses}
 use Rattle.varisat_search.proofs.unit_simplify.prove_units.Goals as goal
 
 -- The lines that prove the units of level 0.

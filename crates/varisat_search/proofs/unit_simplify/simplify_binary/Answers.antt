@@ -4,9 +4,9 @@ use Rattle.varisat_trace.proofs.Traced.{can_take}
 use Rattle.varisat_search.specs.Contexts.{view}
 use Rattle.varisat_search.specs.Seen.{search_of}
 use Rattle.varisat_search.specs.Simplifications.{pair_lines}
-use Rattle.varisat_search.proofs.SimplifiedBinary.{SimplifiesBinary, binary-ready, binary-proves}
-use Rattle.varisat_search.proofs.SimplifiedContext.{at-units}
-use Rattle.varisat_search.proofs.SimplifiedSearch.{pairs-prove}
+use Rattle.varisat_search.proofs.simplifying.SimplifiedBinary.{SimplifiesBinary, binary-ready, binary-proves}
+use Rattle.varisat_search.proofs.simplifying.SimplifiedContext.{at-units}
+use Rattle.varisat_search.proofs.simplifying.SimplifiedSearch.{pairs-prove}
 use Rattle.varisat_search.proofs.unit_simplify.simplify_binary.Given.{Over}
 use Rattle.varisat_search.proofs.unit_simplify.simplify_binary.Goals.{After-simplify}
 use Rattle.varisat_search.proofs.unit_simplify.simplify_binary.Goals as goal

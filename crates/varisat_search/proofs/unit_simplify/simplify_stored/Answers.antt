@@ -2,17 +2,17 @@ use Rattle.varisat_trace.proofs.Broken.{error-broken, breaks-on, breaks-not}
 use Rattle.varisat_trace.specs.declared.tracer.TraceError.TheVariants.{Memory}
 use Rattle.std.proofs.Common.{◌≡◌, ℕ, ◌<◌, ◌++◌, Bool, true, false, Option, List, length, get_or, ⊎_elim, refl, sym, ap, ◌∙◌, subst, arith}
 use Rattle.std.proofs.lemmas.List.Sorted.{IsPermutation-sym}
-use Rattle.varisat_theory.specs.Membership.{◌∈◌}
-use Rattle.varisat_theory.specs.Literals.{Clause, Literal, opposite}
+use Rattle.varisat_theory.specs.promises.Membership.{◌∈◌}
+use Rattle.varisat_theory.specs.promises.Literals.{Clause, Literal, opposite}
 use Rattle.varisat_clause.specs.Stored.{StoredClause, IsClauseRef, stored_at, literals_of}
 use Rattle.varisat_clause.proofs.StoredClauses.{stored-∈, literals-∈}
 use Rattle.varisat_clause.proofs.LiveStore.{live-place}
 use Rattle.varisat_clause.proofs.TierPlaces.{∈-permutation}
 use Rattle.varisat_prop.specs.declared.prop.watch_list.Watch.{Watch}
 use Rattle.varisat_prop.specs.Watches.{literal_in}
-use Rattle.varisat_prop.proofs.LongVisited.{listed}
-use Rattle.varisat_prop.proofs.WellFormedChanges.{stored-kept}
-use Rattle.varisat_search.proofs.UnassignedLiterals.{true-false}
+use Rattle.varisat_prop.proofs.watching.LongVisited.{listed}
+use Rattle.varisat_prop.proofs.views.WellFormedChanges.{stored-kept}
+use Rattle.varisat_search.proofs.simplifying.UnassignedLiterals.{true-false}
 use Rattle.varisat_clause.specs.Stores.{Store, stored_clauses}
 use Rattle.varisat_clause.specs.Collected.{live_clauses}
 use Rattle.varisat_prop.specs.Simplified.{are_unassigned, without_assigned}
@@ -20,14 +20,14 @@ use Rattle.varisat_search.specs.declared.context.Context.{Context}
 use Rattle.varisat_search.specs.declared.unit_simplify.UnitFilter.{UnitFilter}
 use Rattle.varisat_search.specs.Contexts.{view}
 use Rattle.varisat_search.specs.Simplifications.{clause_lines, left_long, left_pairs, with_pairs, LeavesOpen, NotesWatches}
-use Rattle.varisat_search.proofs.FilteredUnits.{filtered-left, filtered-noted, filtered-place}
-use Rattle.varisat_theory.proofs.Members.{∈-append_left}
+use Rattle.varisat_search.proofs.simplifying.FilteredUnits.{filtered-left, filtered-noted, filtered-place}
+use Rattle.varisat_theory.proofs.clauses.Members.{∈-append_left}
 use Rattle.varisat_prop.specs.View.{pairs_from, clause_at}
 use Rattle.varisat_trace.proofs.Traced.{can_take}
 use Rattle.varisat_search.specs.Seen.{search_of}
-use Rattle.varisat_search.proofs.SimplifiedBinary.{stored-prove, without-pair-lines}
-use Rattle.varisat_search.proofs.SimplifiedSearch.{IsAtUnits}
-use Rattle.varisat_search.proofs.SimplifiedContext.{Simplifies, at-units, live-open, joining, is-simplified, simplified-proves, simplified-decidable, simplified-ready}
+use Rattle.varisat_search.proofs.simplifying.SimplifiedBinary.{stored-prove, without-pair-lines}
+use Rattle.varisat_search.proofs.simplifying.SimplifiedSearch.{IsAtUnits}
+use Rattle.varisat_search.proofs.simplifying.SimplifiedContext.{Simplifies, at-units, live-open, joining, is-simplified, simplified-proves, simplified-decidable, simplified-ready}
 use Rattle.varisat_search.proofs.unit_simplify.simplify_stored.Given.{Over}
 use Rattle.varisat_search.proofs.unit_simplify.simplify_stored.Goals.{In_ok-trace_stored, In_ok-filter_clauses, After-sort_watching, After-mend_lists}
 use Rattle.varisat_search.proofs.unit_simplify.simplify_stored.Goals as goal

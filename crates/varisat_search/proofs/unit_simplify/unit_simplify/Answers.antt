@@ -1,8 +1,8 @@
 use Rattle.varisat_trace.proofs.Broken.{error-broken, breaks-on}
 use Rattle.std.proofs.Common.{◌≡◌, List, ap, ◌∙◌, subst}
-use Rattle.varisat_theory.specs.Derivations.{Line}
-use Rattle.varisat_theory.specs.Outcomes.{Proves}
-use Rattle.varisat_theory.proofs.StepParts.{parts_join}
+use Rattle.varisat_theory.specs.promises.Derivations.{Line}
+use Rattle.varisat_theory.specs.inside.Outcomes.{Proves}
+use Rattle.varisat_theory.proofs.steps.StepParts.{parts_join}
 use Rattle.varisat_trace.specs.Traces.{TakesLines}
 use Rattle.varisat_trace.proofs.Traced.{lines-more, holds_on}
 use Rattle.varisat_search.specs.declared.context.Context.{Context}
@@ -10,7 +10,7 @@ use Rattle.varisat_search.specs.Contexts.{view}
 use Rattle.varisat_search.specs.Frames.{ChangesSimplified}
 use Rattle.varisat_search.specs.Seen.{search_of}
 use Rattle.varisat_search.specs.Simplifications.{pair_lines, clause_lines}
-use Rattle.varisat_search.proofs.SimplifiedBinary.{SimplifiesBinary, binary-can, binary-left, binary-lines, all-simplified, all-decidable}
+use Rattle.varisat_search.proofs.simplifying.SimplifiedBinary.{SimplifiesBinary, binary-can, binary-left, binary-lines, all-simplified, all-decidable}
 use Rattle.varisat_search.proofs.unit_simplify.unit_simplify.Given.{Over}
 use Rattle.varisat_search.proofs.unit_simplify.unit_simplify.Goals.{In_ok-simplify_binary}
 use Rattle.varisat_search.proofs.unit_simplify.unit_simplify.Goals as goal

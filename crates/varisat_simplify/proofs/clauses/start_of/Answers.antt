@@ -1,5 +1,5 @@
 use Rattle.std.proofs.Common.{sym, ap, ◌∙◌}
-use Rattle.varisat_simplify.specs.Cuts.{start_of}
+use Rattle.varisat_simplify.specs.inside.Cuts.{start_of}
 use Rattle.varisat_simplify.proofs.CutLemmas.{start_first, start_at}
 use Rattle.varisat_simplify.proofs.clauses.start_of.Goals as goal
 

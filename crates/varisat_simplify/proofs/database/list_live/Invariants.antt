@@ -1,4 +1,4 @@
-use Rattle.varisat_simplify.specs.Sound.{Grows}
+use Rattle.varisat_simplify.specs.inside.Sound.{Grows}
 use Rattle.varisat_simplify.proofs.ListLemmas.{ListedTo}
 use Rattle.varisat_simplify.proofs.database.list_live.Given as goal
 

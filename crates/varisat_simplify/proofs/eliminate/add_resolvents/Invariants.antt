@@ -1,4 +1,4 @@
-use Rattle.varisat_simplify.specs.States.{Adds}
+use Rattle.varisat_simplify.specs.inside.States.{Adds}
 use Rattle.varisat_simplify.proofs.eliminate.add_resolvents.Given as goal
 
 abbrev pub invariant-rows : goal.invariant-rows

@@ -1,6 +1,6 @@
 use Rattle.std.proofs.Common.{get_or, refl, sym, ap, ◌∙◌, subst}
-use Rattle.varisat_theory.specs.Membership.{◌∈◌}
-use Rattle.varisat_theory.specs.Literals.{Clause, opposite}
+use Rattle.varisat_theory.specs.promises.Membership.{◌∈◌}
+use Rattle.varisat_theory.specs.promises.Literals.{Clause, opposite}
 use Rattle.varisat_simplify.proofs.ResolveLemmas.{refused, granted}
 use Rattle.varisat_simplify.proofs.FlowLemmas.{collecting_first, collecting_pass, collecting_push, collecting_end}
 use Rattle.varisat_simplify.proofs.eliminate.collect.Goals as goal

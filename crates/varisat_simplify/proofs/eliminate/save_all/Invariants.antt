@@ -1,4 +1,4 @@
-use Rattle.varisat_simplify.specs.States.{Saves}
+use Rattle.varisat_simplify.specs.inside.States.{Saves}
 use Rattle.varisat_simplify.proofs.eliminate.save_all.Given as goal
 
 abbrev pub invariant-loop-place : goal.invariant-loop-place

@@ -1,4 +1,4 @@
-use Rattle.varisat_simplify.specs.States.{Drops}
+use Rattle.varisat_simplify.specs.inside.States.{Drops}
 use Rattle.varisat_simplify.proofs.eliminate.save_literal.Given as goal
 
 abbrev pub invariant-loop-place : goal.invariant-loop-place

@@ -1,6 +1,6 @@
 use Rattle.std.proofs.Common.{rules}
 use Rattle.std.proofs.lemmas.Fn.{filter_same}
-use Rattle.varisat_simplify.specs.Flags.{is_flagged}
+use Rattle.varisat_simplify.specs.inside.Flags.{is_flagged}
 use Rattle.varisat_simplify.proofs.occurrences.retain_flagged.Goals as goal
 
 pub returns : goal.returns

@@ -1,5 +1,5 @@
 use Rattle.std.proofs.Common.{ap, ◌∙◌, subst}
-use Rattle.varisat_simplify.specs.Resolving.{IsFixed}
+use Rattle.varisat_simplify.specs.inside.Resolving.{IsFixed}
 use Rattle.varisat_simplify.proofs.ResolveLemmas.{item_at}
 use Rattle.varisat_simplify.proofs.UnitLemmas.{false_kept, false_dropped}
 use Rattle.varisat_simplify.proofs.propagate.without_false.Goals as goal

@@ -1,5 +1,5 @@
 use Rattle.std.proofs.Common.{take}
-use Rattle.varisat_simplify.specs.Resolving.{LeavesOutFalse}
+use Rattle.varisat_simplify.specs.inside.Resolving.{LeavesOutFalse}
 use Rattle.varisat_simplify.proofs.propagate.without_false.Given as goal
 
 abbrev pub invariant-loop-lit : goal.invariant-loop-lit

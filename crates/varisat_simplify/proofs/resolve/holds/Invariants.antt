@@ -1,5 +1,5 @@
 use Rattle.std.proofs.Common.{take}
-use Rattle.varisat_theory.specs.Membership.{◌∈◌}
+use Rattle.varisat_theory.specs.promises.Membership.{◌∈◌}
 use Rattle.varisat_simplify.proofs.resolve.holds.Given as goal
 
 abbrev pub invariant-loop-other : goal.invariant-loop-other

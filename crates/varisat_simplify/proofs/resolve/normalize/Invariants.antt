@@ -1,5 +1,5 @@
 use Rattle.std.proofs.Common.{take}
-use Rattle.varisat_theory.specs.Membership.{SameSet}
+use Rattle.varisat_theory.specs.promises.Membership.{SameSet}
 use Rattle.varisat_simplify.proofs.resolve.normalize.Given as goal
 
 abbrev pub invariant-loop-lit : goal.invariant-loop-lit

@@ -1,5 +1,5 @@
 use Rattle.std.proofs.Common.{take}
-use Rattle.varisat_simplify.specs.Resolving.{Resolves}
+use Rattle.varisat_simplify.specs.inside.Resolving.{Resolves}
 use Rattle.varisat_simplify.proofs.resolve.resolve.Given as goal
 
 abbrev pub invariant-loop-one : goal.invariant-loop-one

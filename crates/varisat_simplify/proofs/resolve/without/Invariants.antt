@@ -1,5 +1,5 @@
 use Rattle.std.proofs.Common.{take}
-use Rattle.varisat_simplify.specs.Resolving.{LeavesOut}
+use Rattle.varisat_simplify.specs.inside.Resolving.{LeavesOut}
 use Rattle.varisat_simplify.proofs.resolve.without.Given as goal
 
 abbrev pub invariant-loop-other : goal.invariant-loop-other

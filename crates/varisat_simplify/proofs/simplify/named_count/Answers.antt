@@ -1,6 +1,6 @@
 use Rattle.std.proofs.Common.{List, ◌∙◌, sym, subst, arith}
-use Rattle.varisat_theory.specs.Literals.{Clause}
-use Rattle.varisat_formula.specs.Formulas.{AreBelow}
+use Rattle.varisat_theory.specs.promises.Literals.{Clause}
+use Rattle.varisat_formula.specs.promises.Formulas.{AreBelow}
 use Rattle.varisat_simplify.proofs.UnloadLemmas.{below_next}
 use Rattle.varisat_simplify.proofs.simplify.named_count.Goals as goal
 

@@ -1,5 +1,5 @@
 use Rattle.std.proofs.Common.{ℕ, ◌≤◌, ◌^◌}
-use Rattle.varisat_formula.specs.Formulas.{AreBelow}
+use Rattle.varisat_formula.specs.promises.Formulas.{AreBelow}
 use Rattle.varisat_simplify.proofs.simplify.named_count.Given as goal
 
 abbrev pub invariant-loop-clause : goal.invariant-loop-clause

@@ -1,5 +1,5 @@
 use Rattle.std.proofs.Common.{ℕ, ◌≤◌, ◌^◌}
-use Rattle.varisat_formula.specs.Formulas.{AllBelow}
+use Rattle.varisat_formula.specs.promises.Formulas.{AllBelow}
 use Rattle.varisat_simplify.proofs.simplify.raised.Given as goal
 
 abbrev pub invariant-loop-lit : goal.invariant-loop-lit

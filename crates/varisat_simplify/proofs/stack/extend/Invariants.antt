@@ -1,5 +1,5 @@
 use Rattle.std.proofs.Common.{◌≡◌, ◌≤◌, length, drop}
-use Rattle.varisat_simplify.specs.Stacks.{extended}
+use Rattle.varisat_simplify.specs.promises.Stacks.{extended}
 use Rattle.varisat_simplify.proofs.stack.extend.Given as goal
 
 abbrev pub invariant-loop-k : goal.invariant-loop-k

@@ -1,7 +1,7 @@
 use Rattle.std.proofs.Common.{◌≡◌, false, take}
 use Rattle.std.specs.List.{list_any}
-use Rattle.varisat_theory.specs.Literals.{value}
-use Rattle.varisat_simplify.specs.Stacks.{assignment_of}
+use Rattle.varisat_theory.specs.promises.Literals.{value}
+use Rattle.varisat_simplify.specs.promises.Stacks.{assignment_of}
 use Rattle.varisat_simplify.proofs.stack.is_satisfied.Given as goal
 
 abbrev pub invariant-loop-lit : goal.invariant-loop-lit

@@ -1,13 +1,13 @@
 -- The calls of a new solver, each from the state that the one before leads to.
 use Rattle.std.proofs.Common.{sym, ap, ◌∙◌, subst}
-use Rattle.varisat_solver.specs.States.{Ledger}
-use Rattle.varisat_solver.specs.Summaries.{Represents}
-use Rattle.varisat.specs.Decided.{concluded}
-use Rattle.varisat.specs.Proven.{prepared}
+use Rattle.varisat_solver.specs.promises.States.{Ledger}
+use Rattle.varisat_solver.specs.promises.Summaries.{Represents}
+use Rattle.varisat.specs.promises.Decided.{concluded}
+use Rattle.varisat.specs.promises.Proven.{prepared}
 use Rattle.varisat_trace.proofs.Broken.{passed-on}
 use Rattle.varisat.proofs.ProgramProves.{finds-valid}
-use Rattle.varisat_solver.proofs.LoggedJournals.{proof-of}
-use Rattle.varisat_solve.specs.Solving.{FailsOver, AsAdded, AsClosed}
+use Rattle.varisat_solver.proofs.entries.LoggedJournals.{proof-of}
+use Rattle.varisat_solve.specs.promises.Solving.{FailsOver, AsAdded, AsClosed}
 use Rattle.varisat_solve.proofs.DecidedBehind.{concluded-of, fails-reported}
 use Rattle.varisat_solve.proofs.deciding.decide_in.Goals as goal
 

@@ -1,7 +1,7 @@
 -- Each return, by what the calls before it ensure.
 use Rattle.varisat_trace.proofs.Broken.{passed-on}
-use Rattle.varisat.specs.Decided.{concluded}
-use Rattle.varisat_solve.specs.Solving.{FailsSimplified, AsParsed, AsSimplified, AsLed, AsDecided}
+use Rattle.varisat.specs.promises.Decided.{concluded}
+use Rattle.varisat_solve.specs.promises.Solving.{FailsSimplified, AsParsed, AsSimplified, AsLed, AsDecided}
 use Rattle.varisat_solve.proofs.SimplifiedTexts.{low-made, made-of, decided-by, extended-fails}
 use Rattle.varisat_solve.proofs.deciding.decide_simplified.Goals as goal
 

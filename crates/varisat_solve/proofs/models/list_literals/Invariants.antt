@@ -1,5 +1,5 @@
 use Rattle.std.proofs.Common.{◌≡◌, ◌++◌, drop}
-use Rattle.varisat_solve.specs.Extending.{literals_from}
+use Rattle.varisat_solve.specs.inside.Extending.{literals_from}
 use Rattle.varisat_solve.proofs.models.list_literals.Given as goal
 
 abbrev pub invariant-loop-index : goal.invariant-loop-index

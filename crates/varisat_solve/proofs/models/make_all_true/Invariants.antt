@@ -1,5 +1,5 @@
 use Rattle.std.proofs.Common.{◌≡◌, drop}
-use Rattle.varisat_solve.specs.Extending.{made_true}
+use Rattle.varisat_solve.specs.inside.Extending.{made_true}
 use Rattle.varisat_solve.proofs.models.make_all_true.Given as goal
 
 abbrev pub invariant-loop-literal : goal.invariant-loop-literal

@@ -1,6 +1,6 @@
 -- The status is that of the outcome, or tells a fault.
 use Rattle.std.proofs.Common.{inl, inr, refl}
-use Rattle.varisat.specs.Decided.{concluded, conclusion_status, conclusion_text}
+use Rattle.varisat.specs.promises.Decided.{concluded, conclusion_status, conclusion_text}
 use Rattle.varisat_proof.proofs.PrintedTexts.{ends-printed}
 use Rattle.varisat.proofs.ProgramDecides.{outcome-is-true}
 use Rattle.varisat_solve.proofs.program.solve_lines.Goals as goal

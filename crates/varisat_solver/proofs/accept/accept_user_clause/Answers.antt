@@ -4,20 +4,20 @@ use Rattle.varisat_trace.proofs.Broken.{passed-on}
 -- What each part did to the maps and to the search.
 use Rattle.std.proofs.Common.{◌≡◌, ◌≢◌, ◌≤◌, arith, ◌++◌, ◌∷◌, [], List, false, sym, ap, ap₂, ◌∙◌, subst, refl, length, map}
 use Rattle.std.specs.Option.{IsSome}
-use Rattle.varisat_theory.specs.Membership.{◌∈◌}
-use Rattle.varisat_theory.specs.Literals.{variable_of}
-use Rattle.varisat_theory.specs.Outcomes.{Loads}
-use Rattle.varisat_names.specs.Maps.{chain}
-use Rattle.varisat_names.specs.VarMap.{at}
-use Rattle.varisat_names.specs.VarBiMap.{BiMap}
+use Rattle.varisat_theory.specs.promises.Membership.{◌∈◌}
+use Rattle.varisat_theory.specs.promises.Literals.{variable_of}
+use Rattle.varisat_theory.specs.inside.Outcomes.{Loads}
+use Rattle.varisat_names.specs.promises.Maps.{chain}
+use Rattle.varisat_names.specs.promises.VarMap.{at}
+use Rattle.varisat_names.specs.promises.VarBiMap.{BiMap}
 use Rattle.varisat_names.specs.declared.variables.data.VarData.{VarData}
-use Rattle.varisat_names.specs.Variables.{Tables}
-use Rattle.varisat_theory.specs.Literals.{Literal}
-use Rattle.varisat_theory.specs.Journals.{Accepts, written}
-use Rattle.varisat_tracer.specs.Carried.{carry, logged_as}
-use Rattle.varisat_tracer.specs.Tracing.{TracerState, tracer_state, global_literal, CanLog, BreaksProof}
-use Rattle.varisat_tracer.specs.TracerLaws.{takes-more, relies-after}
-use Rattle.varisat_solver.proofs.LoggedProofs.{AreLoggedAs, proof-logged}
+use Rattle.varisat_names.specs.promises.Variables.{Tables}
+use Rattle.varisat_theory.specs.promises.Literals.{Literal}
+use Rattle.varisat_theory.specs.promises.Journals.{Accepts, written}
+use Rattle.varisat_tracer.specs.promises.Carried.{carry, logged_as}
+use Rattle.varisat_tracer.specs.inside.Tracing.{TracerState, tracer_state, global_literal, CanLog, BreaksProof}
+use Rattle.varisat_tracer.specs.inside.TracerLaws.{takes-more, relies-after}
+use Rattle.varisat_solver.proofs.entries.LoggedProofs.{AreLoggedAs, proof-logged}
 use Rattle.varisat_tracer.proofs.Logging.{relies-alike, logs-on, breaks-proof, proof-unbroken, proof-breaks-on}
 use Rattle.varisat_search.specs.declared.state.SatState.TheVariants as verdict
 use Rattle.varisat_search.specs.declared.state.SolverState.{SolverState}
@@ -25,22 +25,22 @@ use Rattle.varisat_search.specs.AssumptionParts.{AssumptionParts}
 use Rattle.varisat_search.specs.Contexts.{view}
 use Rattle.varisat_search.specs.Loading.{loaded_outcome}
 use Rattle.varisat_search.specs.Seen.{search_of}
-use Rattle.varisat_solver.specs.Names.{name_all, through_names}
-use Rattle.varisat_solver.specs.Calls.{with_naming, append_clause, reopened_verdict, with_verdict}
-use Rattle.varisat_solver.specs.Journals.{with_entries}
-use Rattle.varisat_proof.specs.Proving.{IsCheckedIf}
-use Rattle.varisat_solver.specs.States.{State, with_variables}
-use Rattle.varisat_solver.specs.Spaces.{SpacesFit, FitWithNew}
-use Rattle.varisat_solver.specs.Summaries.{spaces_of, spaces_with, IsValidSolver}
-use Rattle.varisat_solver.proofs.SettingsCalls.{summary_in}
-use Rattle.varisat_solver.proofs.DetachedValues.{reopened-not, no-model-reopened, reopened-spaces, verdict-after}
-use Rattle.varisat_solver.proofs.SolversInTurn.{with_names, HaveSolvers, have-solvers-then, has-variables, can-have-room, over-leads, over-carried, all-named, literals-within, literals-decidable}
-use Rattle.varisat_solver.proofs.TableMarks.{marks-bounded, joined-same, assumed-joined}
-use Rattle.varisat_solver.proofs.CheckedHeld.{relied-open}
-use Rattle.varisat_solver.proofs.AcceptClause.{clause-accepted, few-made}
-use Rattle.varisat_solver.proofs.SolverSteps.{some-through}
-use Rattle.varisat_solver.proofs.VariableMoves.{same-in-use, tables-in-use}
-use Rattle.varisat_search.proofs.SolverVariables.{in-use-all}
+use Rattle.varisat_solver.specs.promises.Names.{name_all, through_names}
+use Rattle.varisat_solver.specs.promises.Calls.{with_naming, append_clause, reopened_verdict, with_verdict}
+use Rattle.varisat_solver.specs.promises.Journals.{with_entries}
+use Rattle.varisat_proof.specs.promises.Proving.{IsCheckedIf}
+use Rattle.varisat_solver.specs.promises.States.{State, with_variables}
+use Rattle.varisat_solver.specs.inside.Spaces.{SpacesFit, FitWithNew}
+use Rattle.varisat_solver.specs.promises.Summaries.{spaces_of, spaces_with, IsValidSolver}
+use Rattle.varisat_solver.proofs.calls.SettingsCalls.{summary_in}
+use Rattle.varisat_solver.proofs.leaving.DetachedValues.{reopened-not, no-model-reopened, reopened-spaces, verdict-after}
+use Rattle.varisat_solver.proofs.accepting.SolversInTurn.{with_names, HaveSolvers, have-solvers-then, has-variables, can-have-room, over-leads, over-carried, all-named, literals-within, literals-decidable}
+use Rattle.varisat_solver.proofs.modes.TableMarks.{marks-bounded, joined-same, assumed-joined}
+use Rattle.varisat_solver.proofs.entries.CheckedHeld.{relied-open}
+use Rattle.varisat_solver.proofs.accepting.AcceptClause.{clause-accepted, few-made}
+use Rattle.varisat_solver.proofs.steps.SolverSteps.{some-through}
+use Rattle.varisat_solver.proofs.modes.VariableMoves.{same-in-use, tables-in-use}
+use Rattle.varisat_search.proofs.variables.SolverVariables.{in-use-all}
 use Rattle.varisat_solver.proofs.accept.accept_user_clause.Given.{Over}
 use Rattle.varisat_solver.proofs.accept.accept_user_clause.Goals.{In_ok-solver_from_user_lits, In_ok-log_clause, In_ok-load_clause}
 use Rattle.varisat_solver.proofs.accept.accept_user_clause.Goals as goal

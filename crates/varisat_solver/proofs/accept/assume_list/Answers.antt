@@ -1,37 +1,37 @@
 -- What each part did to the maps, the marks and the search.
 use Rattle.std.proofs.Common.{◌≡◌, ◌≢◌, true, false, refl, sym, ap, ap₂, ◌∙◌, subst, length, map, ◌++◌, ◌∷◌, []}
-use Rattle.varisat_theory.specs.Membership.{◌∈◌}
-use Rattle.varisat_theory.specs.Literals.{variable_of}
-use Rattle.varisat_names.specs.Maps.{chain}
-use Rattle.varisat_names.specs.VarMap.{at}
-use Rattle.varisat_names.specs.VarBiMap.{BiMap}
-use Rattle.varisat_names.specs.Variables.{Tables}
-use Rattle.varisat_tracer.specs.Tracing.{TracerState, tracer_state, global_literal, BreaksProof}
+use Rattle.varisat_theory.specs.promises.Membership.{◌∈◌}
+use Rattle.varisat_theory.specs.promises.Literals.{variable_of}
+use Rattle.varisat_names.specs.promises.Maps.{chain}
+use Rattle.varisat_names.specs.promises.VarMap.{at}
+use Rattle.varisat_names.specs.promises.VarBiMap.{BiMap}
+use Rattle.varisat_names.specs.promises.Variables.{Tables}
+use Rattle.varisat_tracer.specs.inside.Tracing.{TracerState, tracer_state, global_literal, BreaksProof}
 use Rattle.varisat_tracer.proofs.Logging.{logs-on, proof-unbroken}
 use Rattle.varisat_trace.proofs.Broken.{passed-on}
 use Rattle.varisat_search.specs.declared.error.StepError.{StepError}
 use Rattle.varisat_search.specs.declared.error.StepError.TheVariants as step
 use Rattle.varisat_search.specs.StepErrors.{step_faults}
-use Rattle.varisat_tracer.specs.Carried.{carry}
-use Rattle.varisat_solver.proofs.CheckedHeld.{checked-assumed}
-use Rattle.varisat_solver.proofs.LoggedProofs.{proof-logged}
+use Rattle.varisat_tracer.specs.promises.Carried.{carry}
+use Rattle.varisat_solver.proofs.entries.CheckedHeld.{checked-assumed}
+use Rattle.varisat_solver.proofs.entries.LoggedProofs.{proof-logged}
 use Rattle.varisat_search.specs.declared.state.SolverState.{SolverState}
 use Rattle.varisat_search.specs.AssumptionParts.{AssumptionParts, newly_assumed, assumed_state}
 use Rattle.varisat_search.specs.Contexts.{view}
-use Rattle.varisat_solver.specs.Accepting.{HasNames, AreMarked}
-use Rattle.varisat_solver.specs.Names.{name_all, through_names}
-use Rattle.varisat_solver.specs.Calls.{with_naming, assumed_verdict, with_assumptions, with_verdict}
-use Rattle.varisat_theory.specs.Journals.{Assumes}
-use Rattle.varisat_solver.specs.Journals.{with_entries}
-use Rattle.varisat_solver.specs.Spaces.{SpacesFit}
-use Rattle.varisat_solver.specs.States.{with_variables}
-use Rattle.varisat_solver.specs.Summaries.{spaces_of, IsValidSolver}
-use Rattle.varisat_solver.proofs.AssumeList.{Assuming, forgets, list-logged, list-assumed}
-use Rattle.varisat_solver.proofs.SettingsCalls.{summary_in}
-use Rattle.varisat_solver.proofs.DetachedValues.{no-model-assumed, assumed-again}
-use Rattle.varisat_solver.proofs.SolversInTurn.{HaveSolvers, have-solvers-then, has-variables, can-have-room, over-leads, over-carried, all-named, literals-within, literals-decidable}
-use Rattle.varisat_solver.proofs.VariableMoves.{same-in-use, tables-in-use}
-use Rattle.varisat_solver.proofs.TableMarks.{names-marked, marked-same, assumed-listed}
+use Rattle.varisat_solver.specs.inside.Accepting.{HasNames, AreMarked}
+use Rattle.varisat_solver.specs.promises.Names.{name_all, through_names}
+use Rattle.varisat_solver.specs.promises.Calls.{with_naming, assumed_verdict, with_assumptions, with_verdict}
+use Rattle.varisat_theory.specs.promises.Journals.{Assumes}
+use Rattle.varisat_solver.specs.promises.Journals.{with_entries}
+use Rattle.varisat_solver.specs.inside.Spaces.{SpacesFit}
+use Rattle.varisat_solver.specs.promises.States.{with_variables}
+use Rattle.varisat_solver.specs.promises.Summaries.{spaces_of, IsValidSolver}
+use Rattle.varisat_solver.proofs.accepting.AssumeList.{Assuming, forgets, list-logged, list-assumed}
+use Rattle.varisat_solver.proofs.calls.SettingsCalls.{summary_in}
+use Rattle.varisat_solver.proofs.leaving.DetachedValues.{no-model-assumed, assumed-again}
+use Rattle.varisat_solver.proofs.accepting.SolversInTurn.{HaveSolvers, have-solvers-then, has-variables, can-have-room, over-leads, over-carried, all-named, literals-within, literals-decidable}
+use Rattle.varisat_solver.proofs.modes.VariableMoves.{same-in-use, tables-in-use}
+use Rattle.varisat_solver.proofs.modes.TableMarks.{names-marked, marked-same, assumed-listed}
 use Rattle.varisat_solver.proofs.accept.assume_list.Given.{Over}
 use Rattle.varisat_solver.proofs.accept.assume_list.Goals.{In_ok-solver_from_user_lits}
 use Rattle.varisat_solver.proofs.accept.assume_list.Goals as goal

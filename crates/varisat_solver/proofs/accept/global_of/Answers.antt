@@ -1,7 +1,7 @@
 use Rattle.std.proofs.Common.{◌≡◌, Some, inl, sym, ap, ◌∙◌, refl, subst}
 use Rattle.std.specs.Option.{IsSome}
-use Rattle.varisat_theory.specs.Literals.{variable_of}
-use Rattle.varisat_names.specs.VarMap.{at}
+use Rattle.varisat_theory.specs.promises.Literals.{variable_of}
+use Rattle.varisat_names.specs.promises.VarMap.{at}
 use Rattle.varisat_solver.proofs.accept.global_of.Goals as goal
 
 pub unwrap-requires : goal.unwrap-requires

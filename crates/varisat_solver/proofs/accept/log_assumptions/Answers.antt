@@ -4,12 +4,12 @@ use Rattle.varisat_search.specs.declared.error.StepError.TheVariants as step
 use Rattle.varisat_solver.proofs.accept.log_assumptions.Goals as goal
 use Rattle.varisat_tracer.proofs.Logging.{breaks-proof}
 use Rattle.varisat_tracer.proofs.GlobalSteps.{breaks-logged-globally}
-use Rattle.varisat_tracer.specs.Tracing.{tracer_state, BreaksProof}
-use Rattle.varisat_search.proofs.StepErrors.{trace-faults}
+use Rattle.varisat_tracer.specs.inside.Tracing.{tracer_state, BreaksProof}
+use Rattle.varisat_search.proofs.stepping.StepErrors.{trace-faults}
 use Rattle.varisat_search.specs.StepErrors.{step_error_of_trace, step_faults}
 use Rattle.varisat_trace.proofs.Broken.{passed-on}
 use Rattle.varisat_trace.specs.Traces.{faults_of}
-use Rattle.varisat_theory.specs.Journals.{Assumes}
+use Rattle.varisat_theory.specs.promises.Journals.{Assumes}
 use Rattle.std.proofs.Common.{◌≡◌, ◌≢◌, [], ◌∷◌, subst}
 
 pub returns-in_err-add_assumptions-clause-broken : goal.returns-in_err-add_assumptions-clause-broken

@@ -1,8 +1,8 @@
 use Rattle.std.proofs.Common.{sym, subst, take}
-use Rattle.varisat_prop.proofs.ReadElements.{item-∈}
-use Rattle.varisat_solver.specs.Accepting.{AreMarked}
-use Rattle.varisat_solver.proofs.ReadPlaces.{take-item}
-use Rattle.varisat_solver.proofs.TableMarks.{names-marked, one-named, marked-same, marked-none, marked-more}
+use Rattle.varisat_prop.proofs.views.ReadElements.{item-∈}
+use Rattle.varisat_solver.specs.inside.Accepting.{AreMarked}
+use Rattle.varisat_solver.proofs.calls.ReadPlaces.{take-item}
+use Rattle.varisat_solver.proofs.modes.TableMarks.{names-marked, one-named, marked-same, marked-none, marked-more}
 use Rattle.varisat_solver.proofs.accept.mark_assumed.Goals as goal
 
 pub loop-lit-init : goal.loop-lit-init

@@ -1,7 +1,7 @@
 use Rattle.std.proofs.Common.{sym, subst, take}
-use Rattle.varisat_prop.proofs.ReadElements.{item-∈}
-use Rattle.varisat_solver.proofs.ReadPlaces.{take-item}
-use Rattle.varisat_solver.proofs.TableMarks.{AreOpened, names-marked, one-named, opened-none, opened-more}
+use Rattle.varisat_prop.proofs.views.ReadElements.{item-∈}
+use Rattle.varisat_solver.proofs.calls.ReadPlaces.{take-item}
+use Rattle.varisat_solver.proofs.modes.TableMarks.{AreOpened, names-marked, one-named, opened-none, opened-more}
 use Rattle.varisat_solver.proofs.accept.mark_joined.Goals as goal
 
 pub loop-lit-init : goal.loop-lit-init

@@ -1,5 +1,5 @@
 use Rattle.std.proofs.Common.{take}
-use Rattle.varisat_solver.proofs.TableMarks.{AreOpened}
+use Rattle.varisat_solver.proofs.modes.TableMarks.{AreOpened}
 use Rattle.varisat_solver.proofs.accept.mark_joined.Given as goal
 
 abbrev pub invariant-loop-lit : goal.invariant-loop-lit

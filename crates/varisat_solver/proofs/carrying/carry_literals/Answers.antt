@@ -1,15 +1,15 @@
 use Rattle.std.proofs.Common.{◌≡◌, ℕ, ◌++◌, ◌∷◌, [], List, Option, Some, sym, ap, ◌∙◌, map, take}
 use Rattle.std.proofs.lemmas.List.{map-append}
-use Rattle.varisat_theory.specs.Membership.{◌∈◌}
-use Rattle.varisat_theory.specs.Literals.{Literal, variable_of}
-use Rattle.varisat_names.specs.Maps.{chain}
-use Rattle.varisat_names.specs.VarMap.{at}
+use Rattle.varisat_theory.specs.promises.Membership.{◌∈◌}
+use Rattle.varisat_theory.specs.promises.Literals.{Literal, variable_of}
+use Rattle.varisat_names.specs.promises.Maps.{chain}
+use Rattle.varisat_names.specs.promises.VarMap.{at}
 use Rattle.varisat_names.proofs.Maps.{chain-some, chain-through}
-use Rattle.varisat_prop.proofs.ReadElements.{item-∈}
-use Rattle.varisat_tracer.specs.Carried.{carry}
-use Rattle.varisat_solver.proofs.ReadPlaces.{take-item}
-use Rattle.varisat_solver.proofs.Carried.{carried-literal}
-use Rattle.varisat_solver.proofs.TableMarks.{is-there}
+use Rattle.varisat_prop.proofs.views.ReadElements.{item-∈}
+use Rattle.varisat_tracer.specs.promises.Carried.{carry}
+use Rattle.varisat_solver.proofs.calls.ReadPlaces.{take-item}
+use Rattle.varisat_solver.proofs.calls.Carried.{carried-literal}
+use Rattle.varisat_solver.proofs.modes.TableMarks.{is-there}
 use Rattle.varisat_solver.proofs.carrying.carry_literals.Goals as goal
 
 -- where both maps lead

@@ -1,28 +1,28 @@
 use Rattle.varisat_search.specs.declared.error.StepError.TheVariants as step
-use Rattle.varisat_search.proofs.StepErrors.{trace-faults, trace-unfilled}
+use Rattle.varisat_search.proofs.stepping.StepErrors.{trace-faults, trace-unfilled}
 use Rattle.varisat_search.specs.StepErrors.{step_faults}
 use Rattle.varisat_trace.proofs.Broken.{passed-on}
 use Rattle.varisat_trace.specs.Traces.{faults_of}
 use Rattle.std.proofs.Common.{◌≡◌, ◌≢◌, inl, inr, ⊎_elim, length, ap, ◌∙◌, sym, subst, refl, arith}
 use Rattle.varisat_prop.specs.Changes.{IsConflicting}
 use Rattle.varisat_search.specs.RootSimplified.{HasRootNews}
-use Rattle.varisat_search.proofs.FixedLiterals.{fixed-undecided}
-use Rattle.varisat_solver.specs.Detaching.{AreOverAssumed}
-use Rattle.varisat_solver.proofs.SinceSteps.{failed-there, come-settled}
-use Rattle.varisat_names.specs.Variables.{Tables}
-use Rattle.varisat_tracer.specs.Tracing.{tracer_state, open_parts, BreaksProof}
-use Rattle.varisat_proof.specs.Proving.{ProofParts}
+use Rattle.varisat_search.proofs.stepping.FixedLiterals.{fixed-undecided}
+use Rattle.varisat_solver.specs.promises.Detaching.{AreOverAssumed}
+use Rattle.varisat_solver.proofs.steps.SinceSteps.{failed-there, come-settled}
+use Rattle.varisat_names.specs.promises.Variables.{Tables}
+use Rattle.varisat_tracer.specs.inside.Tracing.{tracer_state, open_parts, BreaksProof}
+use Rattle.varisat_proof.specs.promises.Proving.{ProofParts}
 use Rattle.varisat_tracer.proofs.Logging.{logs-logged, breaks-proof, open-unbroken, proof-breaks-on}
-use Rattle.varisat_solver.specs.Searches.{LogsSome, Turn, ComesOn}
-use Rattle.varisat_solver.proofs.RootSimplifiedParts.{settled-parts}
-use Rattle.varisat_solver.specs.Summaries.{undecided_spaces, IsValidSolver}
-use Rattle.varisat_solver.proofs.SearchVerdicts.{kept-on}
+use Rattle.varisat_solver.specs.inside.Searches.{LogsSome, Turn, ComesOn}
+use Rattle.varisat_solver.proofs.steps.RootSimplifiedParts.{settled-parts}
+use Rattle.varisat_solver.specs.promises.Summaries.{undecided_spaces, IsValidSolver}
+use Rattle.varisat_solver.proofs.steps.SearchVerdicts.{kept-on}
 use Rattle.varisat_solver.proofs.detaching.detach_fixed.Given.{Over}
 use Rattle.varisat_solver.proofs.detaching.detach_fixed.Goals.{In-Ok, In_ok-detach_unneeded, then-current_level-gt0-via-then-current_level-gt0, then-current_level-gt0-via-else-current_level-gt0+then-fully_propagated}
 use Rattle.varisat_search.specs.declared.context.Context.{Context}
 use Rattle.varisat_search.specs.Contexts.{view}
-use Rattle.varisat_solver.proofs.CheckedHeld.{relied}
-use Rattle.varisat_solver.proofs.SolverSteps.{some-through, comes-nowhere, comes-through, leaving-comes, unknown-undecided, part-comes, some-none}
+use Rattle.varisat_solver.proofs.entries.CheckedHeld.{relied}
+use Rattle.varisat_solver.proofs.steps.SolverSteps.{some-through, comes-nowhere, comes-through, leaving-comes, unknown-undecided, part-comes, some-none}
 use Rattle.varisat_solver.proofs.detaching.detach_fixed.Goals as goal
 
 pub simplify_root-requires-clause-holds : goal.simplify_root-requires-clause-holds

@@ -1,19 +1,19 @@
 use Rattle.std.proofs.Common.{◌≡◌, true, Some, sym, ap, ◌∙◌, subst, take, map, refl}
-use Rattle.varisat_theory.specs.Membership.{IsDistinct}
-use Rattle.varisat_theory.specs.Literals.{variable_of}
-use Rattle.varisat_names.specs.VarMap.{at}
-use Rattle.varisat_names.specs.Variables.{Tables, IsChangedTo}
-use Rattle.varisat_names.specs.VarBiMap.{BiMap}
-use Rattle.varisat_names.specs.VarData.{data_at}
+use Rattle.varisat_theory.specs.promises.Membership.{IsDistinct}
+use Rattle.varisat_theory.specs.promises.Literals.{variable_of}
+use Rattle.varisat_names.specs.promises.VarMap.{at}
+use Rattle.varisat_names.specs.promises.Variables.{Tables, IsChangedTo}
+use Rattle.varisat_names.specs.promises.VarBiMap.{BiMap}
+use Rattle.varisat_names.specs.promises.VarData.{data_at}
 use Rattle.varisat_names.specs.declared.variables.data.VarData.{VarData}
 use Rattle.varisat_names.proofs.Maps.{updated-at}
-use Rattle.varisat_literals.specs.Numbers.{polarity_of}
-use Rattle.varisat_prop.proofs.ReadElements.{item-∈}
-use Rattle.varisat_tracer.specs.Tracing.{tracer_state, open_parts}
-use Rattle.varisat_solver.specs.Detaching.{fixed_to, LosesSolverVar, IsDetachedAlone, AreDetachedAlone, DetachesFromTables}
-use Rattle.varisat_solver.proofs.ReadPlaces.{take-item, split-item}
-use Rattle.varisat_solver.proofs.TableMarks.{is-there, there-is}
-use Rattle.varisat_solver.proofs.DetachedAlone.{sign-same, changed-twice, leaves-none, leaves-one, leaves-then, dropped-push, distinct-after}
+use Rattle.varisat_literals.specs.promises.Numbers.{polarity_of}
+use Rattle.varisat_prop.proofs.views.ReadElements.{item-∈}
+use Rattle.varisat_tracer.specs.inside.Tracing.{tracer_state, open_parts}
+use Rattle.varisat_solver.specs.promises.Detaching.{fixed_to, LosesSolverVar, IsDetachedAlone, AreDetachedAlone, DetachesFromTables}
+use Rattle.varisat_solver.proofs.calls.ReadPlaces.{take-item, split-item}
+use Rattle.varisat_solver.proofs.modes.TableMarks.{is-there, there-is}
+use Rattle.varisat_solver.proofs.leaving.DetachedAlone.{sign-same, changed-twice, leaves-none, leaves-one, leaves-then, dropped-push, distinct-after}
 use Rattle.varisat_solver.proofs.detaching.detach_fixed_vars.Goals as goal
 
 pub loop-lit-init : goal.loop-lit-init

@@ -1,18 +1,18 @@
 use Rattle.std.proofs.Common.{◌≡◌, ◌<◌, Bool, false, Option, List, length, map, sym, ap, ◌∙◌, subst}
-use Rattle.varisat_theory.specs.Membership.{◌∈◌, IsDistinct}
-use Rattle.varisat_theory.specs.Literals.{variable_of}
+use Rattle.varisat_theory.specs.promises.Membership.{◌∈◌, IsDistinct}
+use Rattle.varisat_theory.specs.promises.Literals.{variable_of}
 use Rattle.varisat_prop.specs.Leaving.{leaves}
-use Rattle.varisat_prop.proofs.SimplifiedPairs.{∈-filter}
-use Rattle.varisat_names.specs.VarMap.{at}
+use Rattle.varisat_prop.proofs.pairs.SimplifiedPairs.{∈-filter}
+use Rattle.varisat_names.specs.promises.VarMap.{at}
 use Rattle.varisat_search.specs.declared.context.Context.{Context}
 use Rattle.varisat_search.specs.Forgotten.{search_without}
 use Rattle.varisat_search.specs.Seen.{search_of}
 use Rattle.varisat_search.specs.Contexts.{view}
-use Rattle.varisat_tracer.specs.Tracing.{tracer_state}
-use Rattle.varisat_solver.specs.Detaching.{leads_to_unassumed, unassumed_among, FlagsVariables, AreDetachedAlone, DetachesFromTables}
-use Rattle.varisat_solver.proofs.DetachedAlone.{dropped-logged}
-use Rattle.varisat_solver.proofs.DetachedLists.{HaveLeft, have-left, values-left, on-inside, unmentioned, assumed-stay, unassumed-distinct, unassumed-taken, kept-dropped, none-left, stands-dropped}
-use Rattle.varisat_solver.proofs.SinceSteps.{come-dropped}
+use Rattle.varisat_tracer.specs.inside.Tracing.{tracer_state}
+use Rattle.varisat_solver.specs.promises.Detaching.{leads_to_unassumed, unassumed_among, FlagsVariables, AreDetachedAlone, DetachesFromTables}
+use Rattle.varisat_solver.proofs.leaving.DetachedAlone.{dropped-logged}
+use Rattle.varisat_solver.proofs.leaving.DetachedLists.{HaveLeft, have-left, values-left, on-inside, unmentioned, assumed-stay, unassumed-distinct, unassumed-taken, kept-dropped, none-left, stands-dropped}
+use Rattle.varisat_solver.proofs.steps.SinceSteps.{come-dropped}
 use Rattle.varisat_solver.proofs.detaching.detach_listed.Given.{Over}
 use Rattle.varisat_solver.proofs.detaching.detach_listed.Goals.{In_ok-gone, In_ok-detach_fixed_vars}
 use Rattle.varisat_solver.proofs.detaching.detach_listed.Goals as goal

@@ -1,14 +1,14 @@
 use Rattle.std.proofs.Common.{◌≡◌, sym, ap, ◌∙◌, subst, take, map, refl}
-use Rattle.varisat_theory.specs.Membership.{IsDistinct}
-use Rattle.varisat_theory.specs.Literals.{variable_of}
-use Rattle.varisat_names.specs.VarMap.{at}
-use Rattle.varisat_tracer.specs.Tracing.{tracer_state, open_parts}
-use Rattle.varisat_prop.proofs.ReadElements.{item-∈}
-use Rattle.varisat_solver.specs.Detaching.{LosesSolverVar, AreDetached, DetachesFromTables}
-use Rattle.varisat_solver.proofs.ReadPlaces.{take-item, split-item}
-use Rattle.varisat_solver.proofs.TableMarks.{is-there, there-is}
-use Rattle.varisat_solver.proofs.DetachedAlone.{leaves-none, leaves-dropped, leaves-then, taken-live, distinct-after}
-use Rattle.varisat_solver.proofs.DetachedLists.{released-push}
+use Rattle.varisat_theory.specs.promises.Membership.{IsDistinct}
+use Rattle.varisat_theory.specs.promises.Literals.{variable_of}
+use Rattle.varisat_names.specs.promises.VarMap.{at}
+use Rattle.varisat_tracer.specs.inside.Tracing.{tracer_state, open_parts}
+use Rattle.varisat_prop.proofs.views.ReadElements.{item-∈}
+use Rattle.varisat_solver.specs.promises.Detaching.{LosesSolverVar, AreDetached, DetachesFromTables}
+use Rattle.varisat_solver.proofs.calls.ReadPlaces.{take-item, split-item}
+use Rattle.varisat_solver.proofs.modes.TableMarks.{is-there, there-is}
+use Rattle.varisat_solver.proofs.leaving.DetachedAlone.{leaves-none, leaves-dropped, leaves-then, taken-live, distinct-after}
+use Rattle.varisat_solver.proofs.leaving.DetachedLists.{released-push}
 use Rattle.varisat_solver.proofs.detaching.detach_unfixed_vars.Goals as goal
 
 pub loop-lit-init : goal.loop-lit-init

@@ -1,15 +1,15 @@
 use Rattle.std.proofs.Common.{◌≡◌, ◌<◌, Bool, false, Option, List, length, map, sym, ap, ◌∙◌, subst}
-use Rattle.varisat_theory.specs.Membership.{◌∈◌, IsDistinct}
-use Rattle.varisat_theory.specs.Literals.{variable_of}
+use Rattle.varisat_theory.specs.promises.Membership.{◌∈◌, IsDistinct}
+use Rattle.varisat_theory.specs.promises.Literals.{variable_of}
 use Rattle.varisat_prop.specs.Leaving.{leaves}
 use Rattle.varisat_search.specs.declared.context.Context.{Context}
 use Rattle.varisat_search.specs.Forgotten.{search_without}
 use Rattle.varisat_search.specs.Seen.{search_of}
 use Rattle.varisat_search.specs.Contexts.{view}
-use Rattle.varisat_tracer.specs.Tracing.{tracer_state}
-use Rattle.varisat_solver.specs.Detaching.{FlagsVariables, ListsUnneeded, AreDetached, DetachesFromTables}
-use Rattle.varisat_solver.proofs.DetachedLists.{HaveLeft, have-left, values-left, needed-shown, none-leaves, released-logged, unneeded-inside, unneeded-taken, unneeded-unmentioned, named-stay, kept-released, needed-left, stands-released}
-use Rattle.varisat_solver.proofs.SinceSteps.{come-dropped}
+use Rattle.varisat_tracer.specs.inside.Tracing.{tracer_state}
+use Rattle.varisat_solver.specs.promises.Detaching.{FlagsVariables, ListsUnneeded, AreDetached, DetachesFromTables}
+use Rattle.varisat_solver.proofs.leaving.DetachedLists.{HaveLeft, have-left, values-left, needed-shown, none-leaves, released-logged, unneeded-inside, unneeded-taken, unneeded-unmentioned, named-stay, kept-released, needed-left, stands-released}
+use Rattle.varisat_solver.proofs.steps.SinceSteps.{come-dropped}
 use Rattle.varisat_solver.proofs.detaching.detach_unneeded.Given.{Over}
 use Rattle.varisat_solver.proofs.detaching.detach_unneeded.Goals.{In_ok-gone, In_ok-list_unneeded, In_ok-detach_unfixed_vars}
 use Rattle.varisat_solver.proofs.detaching.detach_unneeded.Goals as goal

@@ -1,8 +1,8 @@
 use Rattle.std.proofs.Common.{take, set, sym, subst, arith, true}
-use Rattle.varisat_prop.proofs.ReadElements.{item-∈}
-use Rattle.varisat_solver.specs.Detaching.{FlagsVariables}
-use Rattle.varisat_solver.proofs.ReadPlaces.{take-item}
-use Rattle.varisat_solver.proofs.DetachedAlone.{flags-push}
+use Rattle.varisat_prop.proofs.views.ReadElements.{item-∈}
+use Rattle.varisat_solver.specs.promises.Detaching.{FlagsVariables}
+use Rattle.varisat_solver.proofs.calls.ReadPlaces.{take-item}
+use Rattle.varisat_solver.proofs.leaving.DetachedAlone.{flags-push}
 use Rattle.varisat_solver.proofs.detaching.flag_variables.Goals as goal
 
 pub index_mut-requires : goal.index_mut-requires

@@ -1,9 +1,9 @@
 use Rattle.std.proofs.Common.{◌≡◌, ◌∙◌, false, length, sym, ap, subst, ⊎_elim, arith}
 use Rattle.std.proofs.lemmas.Bool.{cases_lt}
-use Rattle.varisat_names.specs.VarMap.{at}
+use Rattle.varisat_names.specs.promises.VarMap.{at}
 use Rattle.varisat_names.proofs.VarMap.{at-past}
-use Rattle.varisat_theory.proofs.Members.{equal_or_not}
-use Rattle.varisat_solver.specs.Detaching.{leads_to_hidden}
+use Rattle.varisat_theory.proofs.clauses.Members.{equal_or_not}
+use Rattle.varisat_solver.specs.promises.Detaching.{leads_to_hidden}
 use Rattle.varisat_solver.proofs.detaching.has_hidden.Goals as goal
 
 pub loop-index-preserved : goal.loop-index-preserved

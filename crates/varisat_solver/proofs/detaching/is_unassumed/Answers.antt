@@ -1,5 +1,5 @@
 use Rattle.std.proofs.Common.{sym, ap, ◌∙◌}
-use Rattle.varisat_names.specs.VarMap.{at}
+use Rattle.varisat_names.specs.promises.VarMap.{at}
 use Rattle.varisat_names.proofs.Tables.{live-inside}
 use Rattle.varisat_solver.proofs.detaching.is_unassumed.Goals as goal
 

@@ -1,4 +1,4 @@
-use Rattle.varisat_solver.proofs.DetachedLists.{ListsBelow}
+use Rattle.varisat_solver.proofs.leaving.DetachedLists.{ListsBelow}
 use Rattle.varisat_solver.proofs.detaching.list_unneeded.Given as goal
 
 abbrev pub invariant-loop-index : goal.invariant-loop-index

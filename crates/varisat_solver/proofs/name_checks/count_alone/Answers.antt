@@ -1,9 +1,9 @@
 use Rattle.std.proofs.Common.{◌+◌, ◌∷◌, ◌++◌, [], ℕ, sym, subst, take}
-use Rattle.varisat_theory.specs.Literals.{variable_of}
-use Rattle.varisat_solver.specs.Names.{name_all, name_one}
-use Rattle.varisat_solver.specs.Accepting.{naming_of, ComesAlone}
-use Rattle.varisat_solver.proofs.NamesComing.{AreCounted, all-append, counted-same, counted-more}
-use Rattle.varisat_solver.proofs.ReadPlaces.{take-item}
+use Rattle.varisat_theory.specs.promises.Literals.{variable_of}
+use Rattle.varisat_solver.specs.promises.Names.{name_all, name_one}
+use Rattle.varisat_solver.specs.inside.Accepting.{naming_of, ComesAlone}
+use Rattle.varisat_solver.proofs.accepting.NamesComing.{AreCounted, all-append, counted-same, counted-more}
+use Rattle.varisat_solver.proofs.calls.ReadPlaces.{take-item}
 use Rattle.varisat_solver.proofs.name_checks.count_alone.Goals.{then-comes_alone, else-comes_alone}
 use Rattle.varisat_solver.proofs.name_checks.count_alone.Goals as goal
 

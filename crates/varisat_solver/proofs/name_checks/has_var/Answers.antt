@@ -1,9 +1,9 @@
 use Rattle.std.proofs.Common.{◌∷◌, [], ap, subst, ⊎_elim, take, arith}
-use Rattle.varisat_theory.specs.Membership.{◌∈◌}
-use Rattle.varisat_theory.specs.Literals.{variable_of}
-use Rattle.varisat_theory.proofs.Members.{∈-append_cases}
-use Rattle.varisat_prop.proofs.ReadElements.{item-∈}
-use Rattle.varisat_solver.proofs.ReadPlaces.{take-item}
+use Rattle.varisat_theory.specs.promises.Membership.{◌∈◌}
+use Rattle.varisat_theory.specs.promises.Literals.{variable_of}
+use Rattle.varisat_theory.proofs.clauses.Members.{∈-append_cases}
+use Rattle.varisat_prop.proofs.views.ReadElements.{item-∈}
+use Rattle.varisat_solver.proofs.calls.ReadPlaces.{take-item}
 use Rattle.varisat_solver.proofs.name_checks.has_var.Goals as goal
 
 pub returns-then-index : goal.returns-then-index

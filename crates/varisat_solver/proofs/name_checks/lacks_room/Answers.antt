@@ -1,6 +1,6 @@
 use Rattle.std.proofs.Common.{arith}
-use Rattle.varisat_solver.specs.Accepting.{naming_of}
-use Rattle.varisat_solver.proofs.NamesComing.{all-watermark, all-in-range, all-made}
+use Rattle.varisat_solver.specs.inside.Accepting.{naming_of}
+use Rattle.varisat_solver.proofs.accepting.NamesComing.{all-watermark, all-in-range, all-made}
 use Rattle.varisat_solver.proofs.name_checks.lacks_room.Goals as goal
 
 pub overflow_sub-rising : goal.overflow_sub-rising

@@ -1,6 +1,6 @@
 use Rattle.std.proofs.Common.{nat_lt, refl}
-use Rattle.varisat_solver.specs.Accepting.{naming_of}
-use Rattle.varisat_solver.proofs.NamesComing.{limit-decides}
+use Rattle.varisat_solver.specs.inside.Accepting.{naming_of}
+use Rattle.varisat_solver.proofs.accepting.NamesComing.{limit-decides}
 use Rattle.varisat_solver.proofs.name_checks.passes_limit.Goals as goal
 
 pub returns : goal.returns

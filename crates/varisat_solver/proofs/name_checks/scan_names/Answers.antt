@@ -1,9 +1,9 @@
 use Rattle.std.proofs.Common.{◌≡◌, ◌+◌, ◌∷◌, [], max, MatchOption, sym, ap, ◌∙◌, subst, take, take_all, arith}
-use Rattle.varisat_theory.specs.Literals.{variable_of}
-use Rattle.varisat_solver.specs.Names.{Naming, name_all, NameNoWitness, IsFirstWitness, IsNextWitness}
-use Rattle.varisat_solver.specs.Accepting.{naming_of}
-use Rattle.varisat_solver.proofs.NamesComing.{all-append, one-watermark, witness-more}
-use Rattle.varisat_solver.proofs.ReadPlaces.{take-item}
+use Rattle.varisat_theory.specs.promises.Literals.{variable_of}
+use Rattle.varisat_solver.specs.promises.Names.{Naming, name_all, NameNoWitness, IsFirstWitness, IsNextWitness}
+use Rattle.varisat_solver.specs.inside.Accepting.{naming_of}
+use Rattle.varisat_solver.proofs.accepting.NamesComing.{all-append, one-watermark, witness-more}
+use Rattle.varisat_solver.proofs.calls.ReadPlaces.{take-item}
 use Rattle.varisat_solver.proofs.name_checks.scan_names.Goals as goal
 
 pub loop-lit-preserved : goal.loop-lit-preserved

@@ -1,9 +1,9 @@
 use Rattle.std.proofs.Common.{◌≡◌, ◌+◌, ◌∷◌, [], max, ap, ◌∙◌, take, arith}
-use Rattle.varisat_theory.specs.Literals.{variable_of}
-use Rattle.varisat_solver.specs.Names.{Naming, name_all}
-use Rattle.varisat_solver.specs.Accepting.{naming_of}
-use Rattle.varisat_solver.proofs.NamesComing.{all-append, one-watermark}
-use Rattle.varisat_solver.proofs.ReadPlaces.{take-item}
+use Rattle.varisat_theory.specs.promises.Literals.{variable_of}
+use Rattle.varisat_solver.specs.promises.Names.{Naming, name_all}
+use Rattle.varisat_solver.specs.inside.Accepting.{naming_of}
+use Rattle.varisat_solver.proofs.accepting.NamesComing.{all-append, one-watermark}
+use Rattle.varisat_solver.proofs.calls.ReadPlaces.{take-item}
 use Rattle.varisat_solver.proofs.name_checks.watermark_with.Goals.{then-index-watermark, else-index-watermark}
 use Rattle.varisat_solver.proofs.name_checks.watermark_with.Goals as goal
 

@@ -1,11 +1,11 @@
 -- The limit of steps is put back, and the search ends as that of `solve` does.
 use Rattle.std.proofs.Common.{◌≡◌, ◌∙◌, ℕ, Bool, Result, sym, ap, subst}
-use Rattle.varisat_solver.specs.States.{State, Ledger}
-use Rattle.varisat_solver.specs.Summaries.{Summary, Represents}
-use Rattle.varisat_solver.specs.Calls.{Searches, Solves, with_max_steps, by_state}
+use Rattle.varisat_solver.specs.promises.States.{State, Ledger}
+use Rattle.varisat_solver.specs.promises.Summaries.{Summary, Represents}
+use Rattle.varisat_solver.specs.promises.Calls.{Searches, Solves, with_max_steps, by_state}
 use Rattle.varisat_solver.specs.declared.solver.SolverError.{SolverError}
-use Rattle.varisat_solver.proofs.Additions.{logged-error}
-use Rattle.varisat_solver.proofs.SearchRounds.{ends-early, solve-ends, solve-fails, same-limit}
+use Rattle.varisat_solver.proofs.accepting.Additions.{logged-error}
+use Rattle.varisat_solver.proofs.steps.SearchRounds.{ends-early, solve-ends, solve-fails, same-limit}
 use Rattle.varisat_solver.proofs.rounds.search_in_rounds.Goals as goal
 
 -- what the rounds came to, under the limit that the solver had

@@ -1,7 +1,7 @@
 -- The rounds so far and one more come to what one call comes to.
 use Rattle.std.proofs.Common.{◌≡◌, ◌∙◌, ◌+◌, ◌-◌, true, false, sym, subst, arith}
-use Rattle.varisat_solver.specs.Calls.{Searches, with_max_steps}
-use Rattle.varisat_solver.proofs.SearchRounds.{WentOn, went-nowhere, goes-on, comes-to}
+use Rattle.varisat_solver.specs.promises.Calls.{Searches, with_max_steps}
+use Rattle.varisat_solver.proofs.steps.SearchRounds.{WentOn, went-nowhere, goes-on, comes-to}
 use Rattle.varisat_solver.proofs.rounds.seek_in_rounds.Goals as goal
 
 pub rounds-init : goal.rounds-init

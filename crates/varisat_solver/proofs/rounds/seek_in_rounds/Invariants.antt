@@ -1,7 +1,7 @@
 use Rattle.std.proofs.Common.{◌-◌, ◌≤◌}
-use Rattle.varisat_solver.specs.States.{State}
-use Rattle.varisat_solver.specs.Summaries.{Represents}
-use Rattle.varisat_solver.proofs.SearchRounds.{WentOn}
+use Rattle.varisat_solver.specs.promises.States.{State}
+use Rattle.varisat_solver.specs.promises.Summaries.{Represents}
+use Rattle.varisat_solver.proofs.steps.SearchRounds.{WentOn}
 use Rattle.varisat_solver.proofs.rounds.seek_in_rounds.Given as goal
 
 abbrev pub invariant-rounds : goal.invariant-rounds

@@ -1,11 +1,11 @@
 use Rattle.std.proofs.Common.{◌≡◌, ◌+◌, ◌++◌, ◌∷◌, [], suc, Some, None, sym, ap, ap₂, ◌∙◌, refl, arith, rules}
 use Rattle.std.proofs.lemmas.List.{append-nil}
-use Rattle.varisat_theory.specs.Literals.{Assignment, literal_of}
-use Rattle.varisat_names.specs.VarMap.{at}
+use Rattle.varisat_theory.specs.promises.Literals.{Assignment, literal_of}
+use Rattle.varisat_names.specs.promises.VarMap.{at}
 use Rattle.varisat_names.proofs.Tables.{named-inside}
-use Rattle.varisat_solver.specs.Models.{put_name}
-use Rattle.varisat_solver.specs.Summaries.{model_value, list_tables}
-use Rattle.varisat_solver.proofs.SolverCalls.{tables-push}
+use Rattle.varisat_solver.specs.promises.Models.{put_name}
+use Rattle.varisat_solver.specs.promises.Summaries.{model_value, list_tables}
+use Rattle.varisat_solver.proofs.calls.SolverCalls.{tables-push}
 use Rattle.varisat_solver.proofs.solver.list_model.Goals.{in-Some+in_ok-push, in_default}
 use Rattle.varisat_solver.proofs.solver.list_model.Goals as goal
 

@@ -1,20 +1,20 @@
 use Rattle.std.proofs.Common.{◌≡◌, ◌≢◌, ap, ◌∙◌, subst, sym, refl}
-use Rattle.varisat_names.specs.Variables.{Tables}
+use Rattle.varisat_names.specs.promises.Variables.{Tables}
 use Rattle.varisat_search.specs.declared.context.Context.{Context}
 use Rattle.varisat_search.specs.declared.error.StepError.TheVariants as step
 use Rattle.varisat_search.specs.Contexts.{view}
 use Rattle.varisat_search.specs.DueReductions.{BeginsStep}
 use Rattle.varisat_search.specs.StepErrors.{step_error_of_trace, step_faults}
-use Rattle.varisat_search.proofs.StepErrors.{trace-faults, trace-unfilled}
+use Rattle.varisat_search.proofs.stepping.StepErrors.{trace-faults, trace-unfilled}
 use Rattle.varisat_trace.specs.Traces.{TakesLines, faults_of}
 use Rattle.varisat_trace.proofs.Broken.{passed-on}
-use Rattle.varisat_tracer.specs.Tracing.{tracer_state, TakesGlobally, BreaksProof}
+use Rattle.varisat_tracer.specs.inside.Tracing.{tracer_state, TakesGlobally, BreaksProof}
 use Rattle.varisat_tracer.proofs.Logging.{breaks-proof, proof-breaks-on}
-use Rattle.varisat_solver.specs.Searches.{turn_of}
-use Rattle.varisat_solver.specs.Summaries.{undecided_spaces, IsValidSolver}
-use Rattle.varisat_solver.proofs.SinceSteps.{leaves-begun, come-begun, steps-begun}
-use Rattle.varisat_solver.proofs.CheckedHeld.{relied, some-on}
-use Rattle.varisat_solver.proofs.SolverSteps.{comes-through, unknown-undecided, some-through, begins-any, begin-count, begin-kept, begin-logged, begin-tables, begin-logs, begin-comes}
+use Rattle.varisat_solver.specs.inside.Searches.{turn_of}
+use Rattle.varisat_solver.specs.promises.Summaries.{undecided_spaces, IsValidSolver}
+use Rattle.varisat_solver.proofs.steps.SinceSteps.{leaves-begun, come-begun, steps-begun}
+use Rattle.varisat_solver.proofs.entries.CheckedHeld.{relied, some-on}
+use Rattle.varisat_solver.proofs.steps.SolverSteps.{comes-through, unknown-undecided, some-through, begins-any, begin-count, begin-kept, begin-logged, begin-tables, begin-logs, begin-comes}
 use Rattle.varisat_solver.proofs.solving.begin.Given.{Over}
 use Rattle.varisat_solver.proofs.solving.begin.Goals.{In_ok-begin_step}
 use Rattle.varisat_solver.proofs.solving.begin.Goals as goal

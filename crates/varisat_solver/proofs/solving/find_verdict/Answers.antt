@@ -5,14 +5,14 @@ use Rattle.varisat_search.specs.StepErrors.{step_faults}
 use Rattle.varisat_search.specs.declared.state.SolverState.{SolverState}
 use Rattle.varisat_search.specs.declared.state.SatState.TheVariants as verdict
 use Rattle.varisat_schedule.specs.CallSteps.{steps_since}
-use Rattle.varisat_tracer.specs.Tracing.{tracer_state, BreaksProof}
+use Rattle.varisat_tracer.specs.inside.Tracing.{tracer_state, BreaksProof}
 use Rattle.varisat_tracer.proofs.Logging.{proof-breaks-on}
-use Rattle.varisat_solver.specs.Budgets.{CountsSteps}
-use Rattle.varisat_solver.specs.Searches.{answer_at, Turn, turn_of, ComesOn, MakesSolverStep, FindsVerdict}
-use Rattle.varisat_solver.specs.Summaries.{undecided_spaces, spaces_with}
-use Rattle.varisat_solver.proofs.CheckedHeld.{some-on}
-use Rattle.varisat_solver.proofs.FindVerdictSteps.{searching-at, not-less, so-far, Stepping, one-more, stepping-moved, stepping-goes-on, stepping-counts, stepping-since, stepping-shortens, none-made, counts-spent, counts-refused, since-stopped, logged-refused, not-spent, room}
-use Rattle.varisat_solver.proofs.SolverSteps.{later, later-turn, comes-nowhere, comes-one-more, comes-undecided, comes-decided, unknown-undecided, some-none, some-through}
+use Rattle.varisat_solver.specs.promises.Budgets.{CountsSteps}
+use Rattle.varisat_solver.specs.inside.Searches.{answer_at, Turn, turn_of, ComesOn, MakesSolverStep, FindsVerdict}
+use Rattle.varisat_solver.specs.promises.Summaries.{undecided_spaces, spaces_with}
+use Rattle.varisat_solver.proofs.entries.CheckedHeld.{some-on}
+use Rattle.varisat_solver.proofs.steps.FindVerdictSteps.{searching-at, not-less, so-far, Stepping, one-more, stepping-moved, stepping-goes-on, stepping-counts, stepping-since, stepping-shortens, none-made, counts-spent, counts-refused, since-stopped, logged-refused, not-spent, room}
+use Rattle.varisat_solver.proofs.steps.SolverSteps.{later, later-turn, comes-nowhere, comes-one-more, comes-undecided, comes-decided, unknown-undecided, some-none, some-through}
 use Rattle.varisat_solver.proofs.solving.find_verdict.Given.{Over}
 use Rattle.varisat_solver.proofs.solving.find_verdict.Goals.{In_ok-make_step, then-steps-first-via-then-steps-first, then-steps-first-via-else-steps-first+then-steps}
 use Rattle.varisat_solver.proofs.solving.find_verdict.Goals as goal

@@ -1,11 +1,11 @@
 use Rattle.std.proofs.Common.{◌≡◌, ◌+◌, ◌-◌, ◌*◌, ◌^◌, length}
 use Rattle.varisat_schedule.specs.CallSteps.{steps_since}
-use Rattle.varisat_tracer.specs.Tracing.{tracer_state, CanLog}
+use Rattle.varisat_tracer.specs.inside.Tracing.{tracer_state, CanLog}
 use Rattle.varisat_search.specs.Contexts.{view}
-use Rattle.varisat_solver.specs.Detaching.{DetachesInTime}
-use Rattle.varisat_solver.specs.Searches.{LogsSome, turn_of, ComesOn}
-use Rattle.varisat_solver.specs.Summaries.{undecided_spaces, IsValidSolver}
-use Rattle.varisat_solver.proofs.FindVerdictSteps.{HasMade}
+use Rattle.varisat_solver.specs.promises.Detaching.{DetachesInTime}
+use Rattle.varisat_solver.specs.inside.Searches.{LogsSome, turn_of, ComesOn}
+use Rattle.varisat_solver.specs.promises.Summaries.{undecided_spaces, IsValidSolver}
+use Rattle.varisat_solver.proofs.steps.FindVerdictSteps.{HasMade}
 use Rattle.varisat_solver.proofs.solving.find_verdict.Given as goal
 
 abbrev pub invariant-steps : goal.invariant-steps

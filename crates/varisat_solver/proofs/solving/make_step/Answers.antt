@@ -1,18 +1,18 @@
 use Rattle.std.proofs.Common.{◌≡◌, ◌<◌, length, ap, ◌∙◌, sym, subst, refl}
 use Rattle.varisat_schedule.specs.Plans.{Plan, next_plan}
-use Rattle.varisat_names.specs.Settings.{Settings}
+use Rattle.varisat_names.specs.promises.Settings.{Settings}
 use Rattle.varisat_search.specs.declared.error.StepError.TheVariants as step
 use Rattle.varisat_search.specs.declared.state.SolverState.{SolverState}
 use Rattle.varisat_search.specs.StepErrors.{step_faults, HasNoRoom}
 use Rattle.varisat_trace.proofs.Broken.{passed-on, on-error}
-use Rattle.varisat_tracer.specs.Tracing.{tracer_state, BreaksProof}
+use Rattle.varisat_tracer.specs.inside.Tracing.{tracer_state, BreaksProof}
 use Rattle.varisat_tracer.proofs.Logging.{proof-breaks-on, logs-on}
-use Rattle.varisat_solver.specs.Searches.{turn_of, BeginsSolverStep, MakesNamedStep}
-use Rattle.varisat_solver.specs.Summaries.{undecided_spaces, spaces_with}
-use Rattle.varisat_solver.proofs.SinceSteps.{leaves-stepped, come-ended, steps-begun, step-ended}
-use Rattle.varisat_solver.proofs.CheckedHeld.{some-on}
-use Rattle.varisat_solver.proofs.SearchVerdicts.{ready-counted, named-counted, kept-named, kept-counted}
-use Rattle.varisat_solver.proofs.SolverSteps.{later, comes-one-more, unknown-undecided, some-through, named-comes}
+use Rattle.varisat_solver.specs.inside.Searches.{turn_of, BeginsSolverStep, MakesNamedStep}
+use Rattle.varisat_solver.specs.promises.Summaries.{undecided_spaces, spaces_with}
+use Rattle.varisat_solver.proofs.steps.SinceSteps.{leaves-stepped, come-ended, steps-begun, step-ended}
+use Rattle.varisat_solver.proofs.entries.CheckedHeld.{some-on}
+use Rattle.varisat_solver.proofs.steps.SearchVerdicts.{ready-counted, named-counted, kept-named, kept-counted}
+use Rattle.varisat_solver.proofs.steps.SolverSteps.{later, comes-one-more, unknown-undecided, some-through, named-comes}
 use Rattle.varisat_solver.proofs.solving.make_step.Given.{Over}
 use Rattle.varisat_solver.proofs.solving.make_step.Goals.{In_ok-begin, In_ok-named_conflict_step}
 use Rattle.varisat_solver.proofs.solving.make_step.Goals as goal

@@ -1,8 +1,8 @@
 use Rattle.std.proofs.Common.{ap₂, ◌∙◌, subst}
-use Rattle.varisat_theory.specs.Membership.{◌∈◌}
-use Rattle.varisat_theory.specs.Literals.{variable_of}
-use Rattle.varisat_names.specs.Maps.{chain}
-use Rattle.varisat_names.specs.VarMap.{at}
+use Rattle.varisat_theory.specs.promises.Membership.{◌∈◌}
+use Rattle.varisat_theory.specs.promises.Literals.{variable_of}
+use Rattle.varisat_names.specs.promises.Maps.{chain}
+use Rattle.varisat_names.specs.promises.VarMap.{at}
 use Rattle.varisat_solver.proofs.solving.name_core.Goals as goal
 
 pub carry_literals-requires : goal.carry_literals-requires

@@ -1,17 +1,17 @@
 use Rattle.std.proofs.Common.{ap, subst, sym}
-use Rattle.varisat_theory.specs.Literals.{variable_of}
-use Rattle.varisat_names.specs.Variables.{Tables}
+use Rattle.varisat_theory.specs.promises.Literals.{variable_of}
+use Rattle.varisat_names.specs.promises.Variables.{Tables}
 use Rattle.varisat_search.specs.declared.error.StepError.TheVariants as step
 use Rattle.varisat_search.specs.Contexts.{view}
 use Rattle.varisat_search.specs.Seen.{outcome_of}
 use Rattle.varisat_search.specs.StepErrors.{step_faults}
 use Rattle.varisat_trace.proofs.Broken.{passed-on}
-use Rattle.varisat_tracer.specs.Tracing.{tracer_state, BreaksProof}
+use Rattle.varisat_tracer.specs.inside.Tracing.{tracer_state, BreaksProof}
 use Rattle.varisat_tracer.proofs.Logging.{breaks-proof, proof-unbroken, proof-breaks-on}
-use Rattle.varisat_solver.specs.Accepting.{HasUser}
-use Rattle.varisat_solver.proofs.CheckedHeld.{relied}
-use Rattle.varisat_solver.proofs.TableMarks.{assumed-named}
-use Rattle.varisat_solver.proofs.SearchVerdicts.{named-plainly, named-also}
+use Rattle.varisat_solver.specs.inside.Accepting.{HasUser}
+use Rattle.varisat_solver.proofs.entries.CheckedHeld.{relied}
+use Rattle.varisat_solver.proofs.modes.TableMarks.{assumed-named}
+use Rattle.varisat_solver.proofs.steps.SearchVerdicts.{named-plainly, named-also}
 use Rattle.varisat_solver.proofs.solving.named_conflict_step.Goals as goal
 
 pub conflict_step-requires-clause-holds : goal.conflict_step-requires-clause-holds

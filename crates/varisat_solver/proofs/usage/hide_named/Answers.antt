@@ -1,6 +1,6 @@
 use Rattle.std.proofs.Common.{◌∙◌, refl}
 use Rattle.varisat_names.specs.declared.variables.data.VarData.{VarData}
-use Rattle.varisat_solver.proofs.VariableChanges.{hidden-unnamed, hidden-keeps}
+use Rattle.varisat_solver.proofs.modes.VariableChanges.{hidden-unnamed, hidden-keeps}
 use Rattle.varisat_solver.proofs.usage.hide_named.Goals as goal
 
 pub retire_if_unused-requires-clause-live : goal.retire_if_unused-requires-clause-live

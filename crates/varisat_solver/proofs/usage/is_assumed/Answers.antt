@@ -1,5 +1,5 @@
 use Rattle.std.proofs.Common.{rules, sym, ap, ◌∙◌}
-use Rattle.varisat_names.specs.VarMap.{at}
+use Rattle.varisat_names.specs.promises.VarMap.{at}
 use Rattle.varisat_names.proofs.Tables.{named-inside}
 use Rattle.varisat_solver.proofs.usage.is_assumed.Goals as goal
 

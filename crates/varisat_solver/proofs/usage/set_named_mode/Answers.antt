@@ -1,5 +1,5 @@
 use Rattle.std.proofs.Common.{arith}
-use Rattle.varisat_solver.proofs.VariableChanges.{named-to, set-named}
+use Rattle.varisat_solver.proofs.modes.VariableChanges.{named-to, set-named}
 use Rattle.varisat_solver.proofs.usage.set_named_mode.Goals as goal
 
 pub set_sampling_mode-requires-clause-live : goal.set_sampling_mode-requires-clause-live

@@ -1,4 +1,4 @@
-use Rattle.varisat_tracer.specs.Tracing.{global_literal}
+use Rattle.varisat_tracer.specs.inside.Tracing.{global_literal}
 use Rattle.varisat_tracer.proofs.GlobalSteps.{mapped-more}
 use Rattle.varisat_tracer.proofs.tracer.map_lits.Goals as goal
 

@@ -24,7 +24,7 @@ use Rattle.std_heap.specs.contracts.Global as heap
 use Rattle.std_heap.specs.contracts.GlobalAllocator.TheImpl as impl
 use Rattle.std_heap.proofs.Global.TheLaws as heap_laws
 use mir.Syntax.{impl as no_impl, tnil, dnil}
-use Rattle.varisat_client.specs.Clients.{Client}
+use Rattle.varisat_client.specs.inside.Clients.{Client}
 use Rattle.varisat_c.specs.ClientHandles.{client_row}
 use Rattle.varisat_c.specs.contracts.client_handle.ClientHandle as handle
 use Rattle.varisat_c.proofs.SlotWords.{both, slot_good, slot_in}

@@ -23,7 +23,7 @@ use Rattle.std.proofs.raw_atomic.Walks.{proved_at, leaves}
 use Rattle.std_heap.specs.contracts.Global as heap
 use Rattle.std_heap.specs.contracts.GlobalAllocator.TheImpl as impl
 use Rattle.std_heap.proofs.Global.TheLaws as heap_laws
-use Rattle.varisat_client.specs.Clients.{Client}
+use Rattle.varisat_client.specs.inside.Clients.{Client}
 use Rattle.varisat_c.specs.ClientHandles.{client_row}
 use Rattle.varisat_c.proofs.SlotWords.{both, Slot, slot_good, slot_out}
 use Rattle.varisat_c.proofs.ClientHandleWords.{word, word_good, handle_in}

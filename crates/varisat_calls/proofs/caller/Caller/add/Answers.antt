@@ -1,6 +1,6 @@
 use Rattle.std.proofs.Common.{◌∙◌, ◌∷◌, [], ◌++◌, refl, sym, ap, subst, to_z, of_z, w32}
 use Rattle.std.proofs.Math.Facts.{to_z-of_z}
-use Rattle.varisat_literals.specs.Numbers.{literal_numbered}
+use Rattle.varisat_literals.specs.promises.Numbers.{literal_numbered}
 use Rattle.varisat_calls.specs.Callers.{AddsNumber}
 use Rattle.varisat_calls.proofs.Adding.{clause-put}
 use Rattle.varisat_calls.proofs.caller.Caller.add.Goals as goal

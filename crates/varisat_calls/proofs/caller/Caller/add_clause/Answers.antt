@@ -1,5 +1,5 @@
 use Rattle.std.proofs.Common.{◌∙◌, refl, ap, Ok}
-use Rattle.varisat_solver.specs.Calls.{AddsClause}
+use Rattle.varisat_solver.specs.promises.Calls.{AddsClause}
 use Rattle.varisat_calls.specs.Callers.{Zero, NoRoom}
 use Rattle.varisat_calls.proofs.Making.{call-over}
 use Rattle.varisat_calls.proofs.caller.Caller.add_clause.Goals as goal

@@ -1,5 +1,5 @@
 use Rattle.std.proofs.Common.{◌∙◌, refl, ap, Ok}
-use Rattle.varisat_solver.specs.Calls.{Assumes}
+use Rattle.varisat_solver.specs.promises.Calls.{Assumes}
 use Rattle.varisat_calls.specs.Callers.{Zero, NoRoom}
 use Rattle.varisat_calls.proofs.Making.{call-over}
 use Rattle.varisat_calls.proofs.caller.Caller.assume.Goals as goal

@@ -1,5 +1,5 @@
 use Rattle.std.proofs.Common.{◌∙◌, refl, sym, ap, subst, Ok, Err}
-use Rattle.varisat_formula.specs.Rest.{IsEnding, fault_of}
+use Rattle.varisat_formula.specs.promises.Rest.{IsEnding, fault_of}
 use Rattle.varisat_calls.specs.Texts.{Ended, HasFault, Refused}
 use Rattle.varisat_calls.proofs.Making.{text-taken}
 use Rattle.varisat_calls.proofs.caller.Caller.end_text.Goals as goal

@@ -1,5 +1,5 @@
 use Rattle.std.proofs.Common.{◌∙◌, sym, ap, Some}
-use Rattle.varisat_formula.specs.Rest.{fault_of}
+use Rattle.varisat_formula.specs.promises.Rest.{fault_of}
 use Rattle.varisat_calls.specs.Callers.{Caller}
 use Rattle.varisat_calls.specs.Texts.{HasFault, Refused}
 use Rattle.varisat_calls.proofs.Making.{read-behind, text-taken, text-goes-on}

@@ -1,6 +1,6 @@
 use Rattle.std.proofs.Common.{◌∙◌, refl, ap, Ok}
 use Rattle.std.proofs.Math.Facts.{to_z-of_z}
-use Rattle.varisat_literals.specs.Numbers.{literal_numbered}
+use Rattle.varisat_literals.specs.promises.Numbers.{literal_numbered}
 use Rattle.varisat_calls.proofs.Looking.{failed-returned}
 use Rattle.varisat_calls.proofs.caller.Caller.is_failed.Goals as goal
 

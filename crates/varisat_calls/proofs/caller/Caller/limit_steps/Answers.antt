@@ -1,5 +1,5 @@
 use Rattle.std.proofs.Common.{refl}
-use Rattle.varisat_solver.specs.Calls.{with_max_steps}
+use Rattle.varisat_solver.specs.promises.Calls.{with_max_steps}
 use Rattle.varisat_calls.proofs.caller.Caller.limit_steps.Goals as goal
 
 pub returns : goal.returns

@@ -2,7 +2,7 @@ use Rattle.std.proofs.Common.{◌∙◌, ℤ, pos, ◌≤ℤ◌, ap, subst}
 use Rattle.std.specs.Int.Signed.{lt_z_no}
 use Rattle.std.proofs.lemmas.Float.{T_from_false}
 use Rattle.std.proofs.Math.Facts.{to_z-of_z}
-use Rattle.varisat_literals.specs.Numbers.{variable_numbered}
+use Rattle.varisat_literals.specs.promises.Numbers.{variable_numbered}
 use Rattle.varisat_calls.proofs.Making.{mode-set}
 use Rattle.varisat_calls.proofs.caller.Caller.set_mode.Goals as goal
 

@@ -1,7 +1,7 @@
 use Rattle.std.proofs.lemmas.Grind.{common_steps}
 use Rattle.std.proofs.Common.{◌≡◌, ℕ, length, ap, sym, subst, arith}
-use Rattle.varisat_theory.specs.Membership.{◌∈◌}
-use Rattle.varisat_theory.proofs.Places.{∈-get_or}
+use Rattle.varisat_theory.specs.promises.Membership.{◌∈◌}
+use Rattle.varisat_theory.proofs.clauses.Places.{∈-get_or}
 use Rattle.varisat_clause.specs.Stores.{Store}
 use Rattle.varisat_clause.proofs.StoreWords.{to-place}
 use Rattle.varisat_clause.proofs.alloc.ClauseAlloc.place.Goals as goal

@@ -1,6 +1,6 @@
 use Rattle.std.proofs.Common.{◌∙◌, ◌∷◌, [], ◌++◌, refl, sym, ap, Some, Err, to_z, of_z, w32}
 use Rattle.std.proofs.Math.Facts.{to_z-of_z}
-use Rattle.varisat_literals.specs.Numbers.{literal_numbered}
+use Rattle.varisat_literals.specs.promises.Numbers.{literal_numbered}
 use Rattle.varisat_client.proofs.Moving.{add-stays, ends-clause, end-refused, put-literal, put-refused}
 use Rattle.varisat_client.proofs.client.Client.add.Goals as goal
 

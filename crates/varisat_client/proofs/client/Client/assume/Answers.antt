@@ -1,7 +1,7 @@
 use Rattle.std.proofs.Common.{◌∙◌, ◌∷◌, [], ◌++◌, refl, sym, ap, to_z, of_z, w32}
 use Rattle.std.proofs.Math.Facts.{to_z-of_z}
-use Rattle.varisat_literals.specs.Numbers.{literal_numbered}
-use Rattle.varisat_client.specs.Pasts.{AssumesNumber, Refused, Again}
+use Rattle.varisat_literals.specs.promises.Numbers.{literal_numbered}
+use Rattle.varisat_client.specs.promises.Pasts.{AssumesNumber, Refused, Again}
 use Rattle.varisat_client.proofs.Moving.{put-nothing, stays-refused, put-assumption, assumption-refused}
 use Rattle.varisat_client.proofs.client.Client.assume.Goals as goal
 

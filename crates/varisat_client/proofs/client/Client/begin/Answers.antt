@@ -1,5 +1,5 @@
 use Rattle.std.proofs.Common.{◌∙◌, refl, sym, ap, Some}
-use Rattle.varisat_client.specs.Pasts.{Begins, Refused, Again}
+use Rattle.varisat_client.specs.promises.Pasts.{Begins, Refused, Again}
 use Rattle.varisat_client.proofs.Moving.{stays-refused, begins-search, begin-refused}
 use Rattle.varisat_client.proofs.client.Client.begin.Goals as goal
 

@@ -1,7 +1,7 @@
 use Rattle.std.proofs.Common.{◌∙◌, ap, sym, refl, inr, of_z, w32}
 use Rattle.std.proofs.Math.Facts.{to_z-of_z}
-use Rattle.varisat_literals.specs.Numbers.{literal_numbered}
-use Rattle.varisat_client.specs.Pasts.{Outside}
+use Rattle.varisat_literals.specs.promises.Numbers.{literal_numbered}
+use Rattle.varisat_client.specs.promises.Pasts.{Outside}
 use Rattle.varisat_client.proofs.Moving.{was-refused, tells-failed}
 use Rattle.varisat_client.proofs.client.Client.has_failed.Goals as goal
 

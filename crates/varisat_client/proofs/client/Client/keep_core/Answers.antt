@@ -1,5 +1,5 @@
 use Rattle.std.proofs.Common.{refl}
-use Rattle.varisat_client.specs.Clients.{Kept}
+use Rattle.varisat_client.specs.inside.Clients.{Kept}
 use Rattle.varisat_client.proofs.client.Client.keep_core.Goals as goal
 
 pub returns-in-Ok : goal.returns-in-Ok

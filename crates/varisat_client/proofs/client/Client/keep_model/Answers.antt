@@ -1,8 +1,8 @@
 use Rattle.std.proofs.Common.{List, Ok, refl, subst, ap}
-use Rattle.varisat_theory.specs.Literals.{Literal}
-use Rattle.varisat_solver.specs.ReturnedLists.{returned_list}
-use Rattle.varisat_client.specs.LiteralSets.{IsSetOf}
-use Rattle.varisat_client.specs.Clients.{Kept}
+use Rattle.varisat_theory.specs.promises.Literals.{Literal}
+use Rattle.varisat_solver.specs.promises.ReturnedLists.{returned_list}
+use Rattle.varisat_client.specs.inside.LiteralSets.{IsSetOf}
+use Rattle.varisat_client.specs.inside.Clients.{Kept}
 use Rattle.varisat_client.proofs.client.Client.keep_model.Goals as goal
 
 pub returns-in-Ok : goal.returns-in-Ok

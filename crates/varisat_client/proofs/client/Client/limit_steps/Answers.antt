@@ -1,5 +1,5 @@
 use Rattle.std.proofs.Common.{◌∙◌, refl, sym}
-use Rattle.varisat_client.specs.Pasts.{LimitsSteps, Refused}
+use Rattle.varisat_client.specs.promises.Pasts.{LimitsSteps, Refused}
 use Rattle.varisat_client.proofs.Moving.{stays-refused, limits-steps, limit-refused}
 use Rattle.varisat_client.proofs.client.Client.limit_steps.Goals as goal
 

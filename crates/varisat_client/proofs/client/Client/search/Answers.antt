@@ -1,5 +1,5 @@
 use Rattle.std.proofs.Common.{◌∙◌, refl, sym, ap, Some, Err}
-use Rattle.varisat_client.specs.Pasts.{IsSearchEnd, Refused, Again}
+use Rattle.varisat_client.specs.promises.Pasts.{IsSearchEnd, Refused, Again}
 use Rattle.varisat_client.proofs.Moving.{stays-refused, finds-model, finds-core, spends-steps, search-fails}
 use Rattle.varisat_client.proofs.client.Client.search.Goals as goal
 

@@ -1,8 +1,8 @@
 use Rattle.std.proofs.Common.{◌∙◌, ap, refl, sym, rules, ◌≡◌, Bool, true, false}
 use Rattle.std.proofs.Math.Facts.{to_z-of_z}
-use Rattle.varisat_literals.specs.Numbers.{literal_numbered}
-use Rattle.varisat_theory.specs.Literals.{opposite}
-use Rattle.varisat_client.specs.Pasts.{True, False, Unknown, Refused}
+use Rattle.varisat_literals.specs.promises.Numbers.{literal_numbered}
+use Rattle.varisat_theory.specs.promises.Literals.{opposite}
+use Rattle.varisat_client.specs.promises.Pasts.{True, False, Unknown, Refused}
 use Rattle.varisat_client.proofs.Moving.{not-refused, was-refused, in-model}
 use Rattle.varisat_client.proofs.client.Client.value.Goals as goal
 

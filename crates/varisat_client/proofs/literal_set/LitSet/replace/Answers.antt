@@ -1,5 +1,5 @@
 use Rattle.std.proofs.Common.{[], sym, subst}
-use Rattle.varisat_client.specs.LiteralSets.{IsSetOf}
+use Rattle.varisat_client.specs.inside.LiteralSets.{IsSetOf}
 use Rattle.varisat_client.proofs.SetFlags.{none-set, fresh, fresh-count}
 use Rattle.varisat_client.proofs.literal_set.LitSet.replace.Goals as goal
 

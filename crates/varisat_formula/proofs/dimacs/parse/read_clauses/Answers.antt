@@ -2,7 +2,7 @@
 use Rattle.std.proofs.Common.{rules, [], ◌++◌, ◌≡◌, ◌⊎◌, inl, Ok, Err, false, inr, ap, ◌∙◌}
 use Rattle.varisat_formula.specs.declared.dimacs.error.DimacsError.{DimacsError}
 use Rattle.varisat_formula.proofs.ParsedSources.{read_nothing, read_more, read_taken, gives_first, text_over}
-use Rattle.varisat_formula.specs.TakenTexts.{InOne}
+use Rattle.varisat_formula.specs.promises.TakenTexts.{InOne}
 use Rattle.varisat_formula.proofs.TakenTexts.{err_told, takes_more, takes_text, refuses_last}
 use Rattle.varisat_formula.proofs.dimacs.parse.read_clauses.Goals as goal
 use Rattle.varisat_formula.proofs.dimacs.parse.read_clauses.Goals.{in_default, in_default-2}

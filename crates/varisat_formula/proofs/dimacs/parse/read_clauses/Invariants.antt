@@ -1,6 +1,6 @@
 -- What was read was taken.
 use Rattle.std.proofs.Common.{List}
-use Rattle.varisat_theory.specs.Literals.{Clause}
+use Rattle.varisat_theory.specs.promises.Literals.{Clause}
 use Rattle.varisat_formula.proofs.ParsedSources.{ReadSo}
 use Rattle.varisat_formula.proofs.TakenTexts.{TakesBehind}
 use Rattle.varisat_formula.proofs.dimacs.parse.read_clauses.Given as goal

@@ -1,5 +1,5 @@
 use Rattle.std.proofs.Common.{◌+◌, ◌==◌, sym, ◌∙◌, length, arith, rules, get_or}
-use Rattle.varisat_formula.specs.Machine.{no_word}
+use Rattle.varisat_formula.specs.inside.Machine.{no_word}
 use Rattle.varisat_formula.proofs.TokenRuns.{digit_more, digits_within, power_more}
 use Rattle.varisat_formula.proofs.dimacs.token.literal_at.Goals as goal
 

@@ -1,6 +1,6 @@
 use Rattle.std.proofs.Common.{◌<◌, ◌≤◌, ◌-◌, ◌^◌, length, take, drop}
-use Rattle.varisat_literals.specs.Numbers.{variable_limit}
-use Rattle.varisat_formula.specs.Machine.{no_word, a_number, GoesOnTo}
+use Rattle.varisat_literals.specs.promises.Numbers.{variable_limit}
+use Rattle.varisat_formula.specs.inside.Machine.{no_word, a_number, GoesOnTo}
 use Rattle.varisat_formula.proofs.dimacs.token.literal_at.Given as goal
 
 abbrev pub invariant-digits : goal.invariant-digits

@@ -1,6 +1,6 @@
 use Rattle.std.proofs.Common.{take, drop, suc, ◌∷◌, [], ◌++◌, ◌+◌, ◌∙◌, ap}
-use Rattle.varisat_literals.specs.Numbers.{literal_text}
-use Rattle.varisat_formula.specs.Written.{spaced_literals}
+use Rattle.varisat_literals.specs.promises.Numbers.{literal_text}
+use Rattle.varisat_formula.specs.promises.Written.{spaced_literals}
 use Rattle.varisat_formula.proofs.TargetParts.{begun_part, put_part, puts_behind, literals_split, literals_more, clause_end}
 use Rattle.varisat_formula.proofs.dimacs.writer.write_clause.Goals as goal
 

@@ -1,5 +1,5 @@
 use Rattle.std.proofs.Common.{◌≡◌, ◌++◌, take}
-use Rattle.varisat_formula.specs.Written.{spaced_literals}
+use Rattle.varisat_formula.specs.promises.Written.{spaced_literals}
 use Rattle.varisat_formula.proofs.dimacs.writer.write_clause.Given as goal
 
 abbrev pub invariant-loop-literal : goal.invariant-loop-literal

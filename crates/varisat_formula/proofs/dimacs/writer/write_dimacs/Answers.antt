@@ -1,6 +1,6 @@
 use Rattle.std.proofs.lemmas.Grind.{common_steps}
 use Rattle.std.proofs.Common.{◌∷◌, [], ◌++◌, arith}
-use Rattle.varisat_formula.specs.Written.{spaced_literals, clauses_text}
+use Rattle.varisat_formula.specs.promises.Written.{spaced_literals, clauses_text}
 use Rattle.varisat_formula.proofs.WrittenTexts.{reads_back}
 use Rattle.varisat_formula.proofs.TargetParts.{header_begun, begun_part, clause_parts}
 use Rattle.varisat_formula.proofs.dimacs.writer.write_dimacs.Goals as goal

@@ -1,5 +1,5 @@
 use Rattle.std.proofs.Common.{◌≡◌, ◌++◌, List, ℕ}
-use Rattle.varisat_formula.specs.Written.{clauses_text, formula_text}
+use Rattle.varisat_formula.specs.promises.Written.{clauses_text, formula_text}
 use Rattle.varisat_formula.proofs.dimacs.writer.write_dimacs.Given as goal
 
 abbrev pub invariant-loop-clause : goal.invariant-loop-clause

@@ -1,5 +1,5 @@
 use Rattle.std.proofs.Common.{◌≡◌, take, map, length, true}
-use Rattle.varisat_theory.specs.Literals.{literal_of}
+use Rattle.varisat_theory.specs.promises.Literals.{literal_of}
 use Rattle.varisat_formula.proofs.formula.cnf.new_lits.Given as goal
 
 abbrev pub invariant-loop-i : goal.invariant-loop-i

@@ -1,5 +1,5 @@
 use Rattle.std.proofs.Common.{◌≡◌, ◌≤◌, ◌^◌, max, drop}
-use Rattle.varisat_formula.specs.Formulas.{variables_of}
+use Rattle.varisat_formula.specs.promises.Formulas.{variables_of}
 use Rattle.varisat_formula.proofs.formula.cnf.variables_of.Given as goal
 
 abbrev pub invariant-loop-literal : goal.invariant-loop-literal

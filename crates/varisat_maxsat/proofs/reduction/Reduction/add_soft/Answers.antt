@@ -1,6 +1,6 @@
 use Rattle.std.proofs.Common.{◌++◌, ◌∷◌, [], ap, ◌∙◌, subst}
-use Rattle.varisat_maxsat.specs.Charges.{AreBelow}
-use Rattle.varisat_maxsat.specs.Reductions.{Reduction}
+use Rattle.varisat_maxsat.specs.inside.Charges.{AreBelow}
+use Rattle.varisat_maxsat.specs.inside.Reductions.{Reduction}
 use Rattle.varisat_maxsat.proofs.Standing.{stands-nothing, literal-step, clause-step, one-item}
 use Rattle.varisat_maxsat.proofs.reduction.Reduction.add_soft.Goals as goal
 

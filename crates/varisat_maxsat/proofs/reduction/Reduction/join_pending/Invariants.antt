@@ -1,6 +1,6 @@
 use Rattle.std.specs.VecDeque.{deque_len}
-use Rattle.varisat_maxsat.specs.Problems.{Problem}
-use Rattle.varisat_maxsat.specs.Reductions.{ReducesToWith}
+use Rattle.varisat_maxsat.specs.promises.Problems.{Problem}
+use Rattle.varisat_maxsat.specs.inside.Reductions.{ReducesToWith}
 use Rattle.varisat_maxsat.proofs.reduction.Reduction.join_pending.Given as goal
 
 abbrev pub invariant-gates : goal.invariant-gates

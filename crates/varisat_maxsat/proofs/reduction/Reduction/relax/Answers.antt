@@ -1,8 +1,8 @@
 use Rattle.std.proofs.Common.{sym, ◌∙◌, subst, arith}
 use Rattle.std.proofs.lemmas.List.{nil_from_length}
 use Rattle.std.proofs.lemmas.Bool.{eqb-true}
-use Rattle.varisat_theory.specs.Membership.{◌∈◌}
-use Rattle.varisat_maxsat.specs.Charges.{IsSplit}
+use Rattle.varisat_theory.specs.promises.Membership.{◌∈◌}
+use Rattle.varisat_maxsat.specs.inside.Charges.{IsSplit}
 use Rattle.varisat_maxsat.proofs.Standing.{core-empty, relax-step}
 use Rattle.varisat_maxsat.proofs.reduction.Reduction.relax.Goals as goal
 

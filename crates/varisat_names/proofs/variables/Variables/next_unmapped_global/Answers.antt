@@ -1,5 +1,5 @@
 use Rattle.std.proofs.Common.{sym, subst}
-use Rattle.varisat_names.specs.VarData.{AreDeleted}
+use Rattle.varisat_names.specs.promises.VarData.{AreDeleted}
 use Rattle.varisat_names.proofs.variables.Variables.next_unmapped_global.Goals as goal
 
 pub next_deleted-requires : goal.next_deleted-requires

@@ -1,5 +1,5 @@
 use Rattle.std.proofs.Common.{sym, subst}
-use Rattle.varisat_names.specs.Variables.{AreFree}
+use Rattle.varisat_names.specs.promises.Variables.{AreFree}
 use Rattle.varisat_names.proofs.variables.Variables.next_unmapped_user.Goals as goal
 
 pub next_free-requires : goal.next_free-requires

@@ -1,7 +1,7 @@
 use Rattle.std.proofs.Common.{sym, ap, ◌∙◌, subst, refl}
 use Rattle.std.specs.Option.{IsSome}
-use Rattle.varisat_names.specs.VarMap.{at}
-use Rattle.varisat_names.specs.Variables.{InUse}
+use Rattle.varisat_names.specs.promises.VarMap.{at}
+use Rattle.varisat_names.specs.promises.Variables.{InUse}
 use Rattle.varisat_names.proofs.NamedVariables.{named-here}
 use Rattle.varisat_names.proofs.variables.naming.global_from_user.Goals as goal
 

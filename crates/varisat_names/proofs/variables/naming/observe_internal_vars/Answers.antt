@@ -1,6 +1,6 @@
 use Rattle.std.proofs.lemmas.Grind.{common_steps}
 use Rattle.std.proofs.Common.{subst, arith}
-use Rattle.varisat_names.specs.NamesAndModes.{ShowsOne}
+use Rattle.varisat_names.specs.inside.NamesAndModes.{ShowsOne}
 use Rattle.varisat_names.proofs.NamedVariables.{one-more-below, shown-refused}
 use Rattle.varisat_names.proofs.variables.naming.observe_internal_vars.Goals as goal
 

@@ -1,6 +1,6 @@
 use Rattle.std.proofs.Common.{sym, ap, ◌∙◌, refl, ⊎_elim}
-use Rattle.varisat_names.specs.VarMap.{at}
-use Rattle.varisat_names.specs.NamesAndModes.{LosesName, GetsName}
+use Rattle.varisat_names.specs.promises.VarMap.{at}
+use Rattle.varisat_names.specs.inside.NamesAndModes.{LosesName, GetsName}
 use Rattle.varisat_names.proofs.variables.naming.set_sampling_mode.Goals as goal
 
 pub returns-in-Hide-clause-set : goal.returns-in-Hide-clause-set

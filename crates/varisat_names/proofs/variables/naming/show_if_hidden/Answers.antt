@@ -1,8 +1,8 @@
 use Rattle.std.proofs.Common.{[], ◌∷◌, ◌≡◌, None, false, ◌∙◌, sym, ap, refl}
-use Rattle.varisat_names.specs.VarMap.{at}
-use Rattle.varisat_names.specs.VarData.{data_at}
+use Rattle.varisat_names.specs.promises.VarMap.{at}
+use Rattle.varisat_names.specs.promises.VarData.{data_at}
 use Rattle.varisat_names.proofs.Maps.{is_none-none}
-use Rattle.varisat_names.specs.NamesAndModes.{Shown}
+use Rattle.varisat_names.specs.inside.NamesAndModes.{Shown}
 use Rattle.varisat_names.proofs.NamedVariables.{shown-refused}
 use Rattle.varisat_names.proofs.variables.naming.show_if_hidden.Goals as goal
 

@@ -1,7 +1,7 @@
 use Rattle.std.proofs.Common.{⊎_elim, sym, ap, ◌∙◌, arith}
-use Rattle.varisat_theory.specs.Literals.{opposite}
-use Rattle.varisat_theory.proofs.Places.{∈-take_more, ∈-take_all}
-use Rattle.varisat_prop.proofs.ReadElements.{element}
+use Rattle.varisat_theory.specs.promises.Literals.{opposite}
+use Rattle.varisat_theory.proofs.clauses.Places.{∈-take_more, ∈-take_all}
+use Rattle.varisat_prop.proofs.views.ReadElements.{element}
 use Rattle.varisat_parts_tests.proofs.tests.watches.watch.Goals as goal
 
 pub loop-literal-preserved : goal.loop-literal-preserved

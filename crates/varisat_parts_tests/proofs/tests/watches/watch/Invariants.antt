@@ -1,6 +1,6 @@
 use Rattle.std.proofs.Common.{◌<◌, take, length}
-use Rattle.varisat_theory.specs.Membership.{◌∈◌}
-use Rattle.varisat_theory.specs.Literals.{Literal, opposite}
+use Rattle.varisat_theory.specs.promises.Membership.{◌∈◌}
+use Rattle.varisat_theory.specs.promises.Literals.{Literal, opposite}
 use Rattle.varisat_parts_tests.proofs.tests.watches.watch.Given as goal
 
 abbrev pub invariant-loop-literal : goal.invariant-loop-literal

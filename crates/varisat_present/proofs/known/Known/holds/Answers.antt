@@ -1,5 +1,5 @@
 use Rattle.std.proofs.Common.{◌↔◌, IsTrue, ℕ, List, sym, subst, arith}
-use Rattle.varisat_theory.specs.Membership.{◌∈◌}
+use Rattle.varisat_theory.specs.promises.Membership.{◌∈◌}
 use Rattle.varisat_plain.proofs.Scans.{answers_false}
 use Rattle.varisat_present.proofs.KnownMarks.{marked_or_not, not_past}
 use Rattle.varisat_present.proofs.known.Known.holds.Goals as goal

@@ -1,6 +1,6 @@
 use Rattle.std.proofs.Common.{◌<◌, ℕ, List, length, sym, subst, ◌∙◌, arith}
 use Rattle.std.proofs.lemmas.List.{get_or_read}
-use Rattle.varisat_theory.specs.Membership.{◌∈◌}
+use Rattle.varisat_theory.specs.promises.Membership.{◌∈◌}
 use Rattle.varisat_plain.proofs.Scans.{answers_true, answers_false}
 use Rattle.varisat_present.proofs.FarPlaces.{far_there, far_read, held_there}
 use Rattle.varisat_present.proofs.known.Known.holds_far.Goals as goal

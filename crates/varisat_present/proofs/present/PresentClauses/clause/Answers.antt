@@ -1,7 +1,7 @@
 use Rattle.std.proofs.lemmas.Grind.{common_steps}
 use Rattle.std.proofs.Common.{ℕ, List, [], ◌∙◌, sym, ap, get_or, length, take, arith}
-use Rattle.varisat_theory.specs.Literals.{Clause}
-use Rattle.varisat_present.specs.Places.{present}
+use Rattle.varisat_theory.specs.promises.Literals.{Clause}
+use Rattle.varisat_present.specs.inside.Places.{present}
 use Rattle.varisat_present.proofs.PlacedClauses.{nth_is, count_more, count_same, at_in_slice, none_in_slice}
 use Rattle.varisat_present.proofs.present.PresentClauses.clause.Goals as goal
 

@@ -1,7 +1,7 @@
 use Rattle.std.proofs.lemmas.Grind.{common_steps}
 use Rattle.std.proofs.Common.{refl, ap, ◌∙◌, arith}
 use Rattle.varisat_plain.proofs.Scans.{granted}
-use Rattle.varisat_present.specs.Places.{present}
+use Rattle.varisat_present.specs.inside.Places.{present}
 use Rattle.varisat_present.proofs.KeptLiterals.{refuted_more, found_there}
 use Rattle.varisat_present.proofs.present.PresentClauses.conflicts.Goals as goal
 

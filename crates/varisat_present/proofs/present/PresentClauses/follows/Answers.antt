@@ -1,5 +1,5 @@
 use Rattle.std.proofs.Common.{refl, ◌∙◌}
-use Rattle.varisat_theory.specs.Literals.{opposites}
+use Rattle.varisat_theory.specs.promises.Literals.{opposites}
 use Rattle.varisat_present.proofs.KeptLiterals.{found_there}
 use Rattle.varisat_present.proofs.present.PresentClauses.follows.Goals as goal
 

@@ -1,7 +1,7 @@
 use Rattle.std.proofs.Common.{List, subst, sym, ap, ◌∙◌}
-use Rattle.varisat_theory.specs.Literals.{Clause}
-use Rattle.varisat_theory.specs.Membership.{◌∈◌, SameSet}
-use Rattle.varisat_present.specs.Places.{present}
+use Rattle.varisat_theory.specs.promises.Literals.{Clause}
+use Rattle.varisat_theory.specs.promises.Membership.{◌∈◌, SameSet}
+use Rattle.varisat_present.specs.inside.Places.{present}
 use Rattle.varisat_present.proofs.PlacedClauses.{equal_there}
 use Rattle.varisat_present.proofs.present.PresentClauses.has.Goals as goal
 

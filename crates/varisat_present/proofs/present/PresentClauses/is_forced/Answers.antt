@@ -1,7 +1,7 @@
 use Rattle.std.proofs.Common.{List, not, sym, ap, ◌∙◌, subst}
-use Rattle.varisat_theory.specs.Literals.{Clause}
-use Rattle.varisat_present.specs.Places.{present}
-use Rattle.varisat_present.specs.Knowing.{Keeps}
+use Rattle.varisat_theory.specs.promises.Literals.{Clause}
+use Rattle.varisat_present.specs.inside.Places.{present}
+use Rattle.varisat_present.specs.inside.Knowing.{Keeps}
 use Rattle.varisat_present.proofs.RatPlaces.{forced, unforced}
 use Rattle.varisat_present.proofs.present.PresentClauses.is_forced.Goals as goal
 

@@ -1,8 +1,8 @@
 use Rattle.std.proofs.Common.{List, sym, ap, ◌∙◌, subst}
-use Rattle.varisat_theory.specs.Literals.{Literal}
+use Rattle.varisat_theory.specs.promises.Literals.{Literal}
 use Rattle.varisat_plain.proofs.Scans.{granted}
-use Rattle.varisat_present.specs.Places.{present}
-use Rattle.varisat_present.specs.Knowing.{Keeps}
+use Rattle.varisat_present.specs.inside.Places.{present}
+use Rattle.varisat_present.specs.inside.Knowing.{Keeps}
 use Rattle.varisat_present.proofs.FirstPlaces.{none_there}
 use Rattle.varisat_present.proofs.RatPlaces.{rat_found, refuted_rat}
 use Rattle.varisat_present.proofs.present.PresentClauses.is_rat_on.Goals as goal

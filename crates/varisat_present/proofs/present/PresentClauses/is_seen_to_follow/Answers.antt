@@ -1,6 +1,6 @@
 use Rattle.std.proofs.Common.{ap, ◌∙◌}
 use Rattle.varisat_plain.proofs.Scans.{granted}
-use Rattle.varisat_present.specs.Places.{present}
+use Rattle.varisat_present.specs.inside.Places.{present}
 use Rattle.varisat_present.proofs.RatPlaces.{refuted_follows, seen_there}
 use Rattle.varisat_present.proofs.present.PresentClauses.is_seen_to_follow.Goals as goal
 

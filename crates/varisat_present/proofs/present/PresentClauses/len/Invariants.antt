@@ -1,5 +1,5 @@
 use Rattle.std.proofs.Common.{◌≡◌, ◌≤◌, length, take}
-use Rattle.varisat_present.specs.Places.{present}
+use Rattle.varisat_present.specs.inside.Places.{present}
 use Rattle.varisat_present.proofs.present.PresentClauses.len.Given as goal
 
 abbrev pub invariant-loop-place : goal.invariant-loop-place

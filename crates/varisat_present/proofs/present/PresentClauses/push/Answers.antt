@@ -1,7 +1,7 @@
 use Rattle.std.proofs.Common.{arith, List, [], ◌∷◌, ◌++◌, subst, sym, ap, ◌∙◌}
-use Rattle.varisat_theory.specs.Literals.{Clause}
-use Rattle.varisat_present.specs.Places.{present}
-use Rattle.varisat_present.specs.Knowing.{Keeps}
+use Rattle.varisat_theory.specs.promises.Literals.{Clause}
+use Rattle.varisat_present.specs.inside.Places.{present}
+use Rattle.varisat_present.specs.inside.Knowing.{Keeps}
 use Rattle.varisat_present.proofs.PlacedClauses.{present_added}
 use Rattle.varisat_present.proofs.FirstPlaces.{first_pushed}
 use Rattle.varisat_present.proofs.KeptLiterals.{keeps_added}

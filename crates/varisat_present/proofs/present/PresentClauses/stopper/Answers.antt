@@ -1,7 +1,7 @@
 use Rattle.std.proofs.Common.{ap, ◌∙◌, subst, List}
-use Rattle.varisat_theory.specs.Literals.{Clause}
-use Rattle.varisat_theory.specs.Membership.{◌∈◌}
-use Rattle.varisat_present.specs.Places.{present}
+use Rattle.varisat_theory.specs.promises.Literals.{Clause}
+use Rattle.varisat_theory.specs.promises.Membership.{◌∈◌}
+use Rattle.varisat_present.specs.inside.Places.{present}
 use Rattle.varisat_present.proofs.PlacedClauses.{at_in}
 use Rattle.varisat_present.proofs.present.PresentClauses.stopper.Goals as goal
 

@@ -1,9 +1,9 @@
 use Rattle.std.proofs.Common.{List, None, set, subst, sym, ap, ◌∙◌, refl, arith}
-use Rattle.varisat_theory.specs.Literals.{Clause}
-use Rattle.varisat_theory.specs.Membership.{◌∈◌}
-use Rattle.varisat_theory.specs.Derivations.{TakesOut}
-use Rattle.varisat_present.specs.Places.{present}
-use Rattle.varisat_present.specs.Knowing.{IsSpare}
+use Rattle.varisat_theory.specs.promises.Literals.{Clause}
+use Rattle.varisat_theory.specs.promises.Membership.{◌∈◌}
+use Rattle.varisat_theory.specs.promises.Derivations.{TakesOut}
+use Rattle.varisat_present.specs.inside.Places.{present}
+use Rattle.varisat_present.specs.inside.Knowing.{IsSpare}
 use Rattle.varisat_present.proofs.PlacedClauses.{at_in_slice, at_within, takes_out}
 use Rattle.varisat_present.proofs.FirstPlaces.{first_emptied}
 use Rattle.varisat_present.proofs.KeptLiterals.{keeps_without, keeps_none}

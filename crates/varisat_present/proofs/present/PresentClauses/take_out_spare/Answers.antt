@@ -1,7 +1,7 @@
 use Rattle.std.proofs.Common.{List, ◌∙◌, subst}
-use Rattle.varisat_theory.specs.Literals.{Clause}
-use Rattle.varisat_theory.specs.Membership.{◌∈◌, SameSet}
-use Rattle.varisat_plain.specs.Checking.{IsAbsent}
+use Rattle.varisat_theory.specs.promises.Literals.{Clause}
+use Rattle.varisat_theory.specs.promises.Membership.{◌∈◌, SameSet}
+use Rattle.varisat_plain.specs.promises.Checking.{IsAbsent}
 use Rattle.varisat_present.proofs.RatPlaces.{taken_told}
 use Rattle.varisat_present.proofs.present.PresentClauses.take_out_spare.Goals as goal
 

@@ -1,5 +1,5 @@
 use Rattle.std.proofs.Common.{List, ap, ◌∙◌, ◌++◌, ◌∷◌, []}
-use Rattle.varisat_theory.specs.Literals.{Clause}
+use Rattle.varisat_theory.specs.promises.Literals.{Clause}
 use Rattle.varisat_proof.proofs.DratCheck.{follows_added, rat_added, neither_added}
 use Rattle.varisat_proof.proofs.checker.drat.take_added.Goals as goal
 

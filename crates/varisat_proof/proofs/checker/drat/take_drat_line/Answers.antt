@@ -1,6 +1,6 @@
 use Rattle.std.proofs.Common.{sym, subst, refl}
 use Rattle.varisat_proof.specs.declared.proof.format.LineKind.{LineKind}
-use Rattle.varisat_proof.specs.DratChecks.{TakesDratKind, IsDratStatusOf}
+use Rattle.varisat_proof.specs.promises.DratChecks.{TakesDratKind, IsDratStatusOf}
 use Rattle.varisat_proof.proofs.checker.drat.take_drat_line.Goals as goal
 
 pub returns-in_ok-status-in-Adds : goal.returns-in_ok-status-in-Adds

@@ -1,6 +1,6 @@
 use Rattle.std.proofs.lemmas.Grind.{common_steps}
 use Rattle.std.proofs.Common.{arith, ◌+◌, ◌∷◌, []}
-use Rattle.varisat_proof.specs.Lines.{letter}
+use Rattle.varisat_proof.specs.promises.Lines.{letter}
 use Rattle.varisat_proof.proofs.LineBytes.{binary_more}
 use Rattle.varisat_proof.proofs.proof.writer.push_binary.Goals as goal
 

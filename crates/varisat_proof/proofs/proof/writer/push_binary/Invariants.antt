@@ -1,6 +1,6 @@
 use Rattle.std.proofs.Common.{◌≡◌, ◌∷◌, take}
-use Rattle.varisat_proof.specs.Written.{codes_bytes}
-use Rattle.varisat_proof.specs.Lines.{letter}
+use Rattle.varisat_proof.specs.promises.Written.{codes_bytes}
+use Rattle.varisat_proof.specs.promises.Lines.{letter}
 use Rattle.varisat_proof.proofs.proof.writer.push_binary.Given as goal
 
 abbrev pub invariant-loop-literal : goal.invariant-loop-literal

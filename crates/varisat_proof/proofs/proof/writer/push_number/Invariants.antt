@@ -1,6 +1,6 @@
 use Rattle.std.proofs.Common.{◌≡◌, ◌++◌, ◌*◌, ◌<◌, ◌≤◌}
-use Rattle.varisat_proof.specs.Written.{leb128, leb128_by}
-use Rattle.varisat_proof.specs.Machine.{scale}
+use Rattle.varisat_proof.specs.promises.Written.{leb128, leb128_by}
+use Rattle.varisat_proof.specs.inside.Machine.{scale}
 use Rattle.varisat_proof.proofs.proof.writer.push_number.Given as goal
 
 abbrev pub invariant-bytes : goal.invariant-bytes

@@ -1,6 +1,6 @@
 use Rattle.std.proofs.lemmas.Grind.{common_steps}
 use Rattle.std.proofs.Common.{arith}
-use Rattle.varisat_proof.specs.Written.{mark_text}
+use Rattle.varisat_proof.specs.promises.Written.{mark_text}
 use Rattle.varisat_proof.proofs.LineBytes.{text_more}
 use Rattle.varisat_proof.proofs.proof.writer.push_text.Goals as goal
 

@@ -1,6 +1,6 @@
 use Rattle.std.proofs.Common.{◌≡◌, ◌++◌, take}
-use Rattle.varisat_formula.specs.Written.{spaced_literals}
-use Rattle.varisat_proof.specs.Written.{mark_text}
+use Rattle.varisat_formula.specs.promises.Written.{spaced_literals}
+use Rattle.varisat_proof.specs.promises.Written.{mark_text}
 use Rattle.varisat_proof.proofs.proof.writer.push_text.Given as goal
 
 abbrev pub invariant-loop-literal : goal.invariant-loop-literal

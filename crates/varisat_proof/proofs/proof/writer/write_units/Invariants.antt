@@ -1,7 +1,7 @@
 use Rattle.std.proofs.Common.{◌≡◌, ◌++◌, take}
-use Rattle.varisat_theory.specs.StepLaws.{unit_lines}
-use Rattle.varisat_proof.specs.Lines.{plain_lines}
-use Rattle.varisat_proof.specs.Steps.{lines_written}
+use Rattle.varisat_theory.specs.inside.StepLaws.{unit_lines}
+use Rattle.varisat_proof.specs.promises.Lines.{plain_lines}
+use Rattle.varisat_proof.specs.promises.Steps.{lines_written}
 use Rattle.varisat_proof.proofs.proof.writer.write_units.Given as goal
 
 abbrev pub invariant-loop-unit : goal.invariant-loop-unit

@@ -1,5 +1,5 @@
 use Rattle.std.proofs.Common.{◌-◌, ◌^◌, ◌/◌, ap, arith}
-use Rattle.varisat_prop.proofs.CountedPairs.{counted-more, counted-all}
+use Rattle.varisat_prop.proofs.pairs.CountedPairs.{counted-more, counted-all}
 use Rattle.varisat_prop.proofs.binary.BinaryClauses.count.Goals as goal
 
 pub lists-preserved : goal.lists-preserved

@@ -1,6 +1,6 @@
 use Rattle.std.proofs.Common.{◌≡◌, [], get_or, subst, arith}
 use Rattle.varisat_prop.specs.Simplified.{unassigned_implied}
-use Rattle.varisat_prop.proofs.SimplifiedPairs.{lists-left}
+use Rattle.varisat_prop.proofs.pairs.SimplifiedPairs.{lists-left}
 use Rattle.varisat_prop.proofs.binary.BinaryClauses.simplify.Goals as goal
 
 pub returns : goal.returns

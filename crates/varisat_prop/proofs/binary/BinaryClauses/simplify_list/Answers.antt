@@ -1,6 +1,6 @@
 use Rattle.std.proofs.Common.{List, sym, ap, ◌∙◌, slice_set}
-use Rattle.varisat_theory.specs.Literals.{Literal}
-use Rattle.varisat_prop.proofs.SimplifiedPairs.{list-left}
+use Rattle.varisat_theory.specs.promises.Literals.{Literal}
+use Rattle.varisat_prop.proofs.pairs.SimplifiedPairs.{list-left}
 use Rattle.varisat_prop.proofs.binary.BinaryClauses.simplify_list.Goals as goal
 
 pub returns-then-has_no_value : goal.returns-then-has_no_value

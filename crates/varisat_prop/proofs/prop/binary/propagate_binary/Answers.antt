@@ -1,9 +1,9 @@
 use Rattle.std.proofs.Common.{refl, ap, arith}
 use Rattle.varisat_prop.specs.View.{View, view_of}
 use Rattle.varisat_prop.specs.QueueSteps.{parts_of}
-use Rattle.varisat_prop.proofs.TrailValues.{fits-node}
-use Rattle.varisat_prop.proofs.PropagateSteps.{keeps-refl, keeps-trans}
-use Rattle.varisat_prop.proofs.BinaryPropagated.{implying-start, within-implied, implying-true, implying-conflict, assignable-implied, implying-new, implying-end}
+use Rattle.varisat_prop.proofs.trails.TrailValues.{fits-node}
+use Rattle.varisat_prop.proofs.trails.PropagateSteps.{keeps-refl, keeps-trans}
+use Rattle.varisat_prop.proofs.pairs.BinaryPropagated.{implying-start, within-implied, implying-true, implying-conflict, assignable-implied, implying-new, implying-end}
 use Rattle.varisat_prop.proofs.prop.binary.propagate_binary.Goals as goal
 
 pub loop-entry-init : goal.loop-entry-init

@@ -1,6 +1,6 @@
 use Rattle.varisat_prop.specs.View.{view_of}
 use Rattle.varisat_prop.specs.QueueSteps.{parts_of, KeepsParts}
-use Rattle.varisat_prop.proofs.BinaryPropagated.{Implying}
+use Rattle.varisat_prop.proofs.pairs.BinaryPropagated.{Implying}
 use Rattle.varisat_prop.proofs.prop.binary.propagate_binary.Given as goal
 
 abbrev pub invariant-loop-entry : goal.invariant-loop-entry

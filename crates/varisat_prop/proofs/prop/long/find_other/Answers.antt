@@ -1,9 +1,9 @@
 use Rattle.std.proofs.Common.{◌<◌, length, ap, ◌∙◌, subst, arith}
 use Rattle.std.specs.List.{swap}
-use Rattle.varisat_theory.specs.Membership.{◌∈◌}
-use Rattle.varisat_theory.specs.Literals.{Clause}
-use Rattle.varisat_prop.proofs.ReadElements.{item-∈}
-use Rattle.varisat_prop.proofs.LongRearranged.{swap-rearranged}
+use Rattle.varisat_theory.specs.promises.Membership.{◌∈◌}
+use Rattle.varisat_theory.specs.promises.Literals.{Clause}
+use Rattle.varisat_prop.proofs.views.ReadElements.{item-∈}
+use Rattle.varisat_prop.proofs.watching.LongRearranged.{swap-rearranged}
 use Rattle.varisat_prop.proofs.prop.long.find_other.Goals as goal
 
 pub lit_is_false-requires : goal.lit_is_false-requires

@@ -1,5 +1,5 @@
 use Rattle.std.proofs.Common.{arith}
-use Rattle.varisat_prop.proofs.NextLiteral.{next-list, taken-inside, taken-next, goes-put, goes-to}
+use Rattle.varisat_prop.proofs.trails.NextLiteral.{next-list, taken-inside, taken-next, goes-put, goes-to}
 use Rattle.varisat_prop.proofs.prop.long.propagate_long.Goals as goal
 
 pub take_list-list-requires : goal.take_list-list-requires

@@ -1,6 +1,6 @@
 use Rattle.std.proofs.lemmas.Grind.{common_steps}
 use Rattle.std.proofs.Common.{◌∙◌, arith, refl}
-use Rattle.varisat_prop.proofs.LongRearranged.{rearranged-trans}
+use Rattle.varisat_prop.proofs.watching.LongRearranged.{rearranged-trans}
 use Rattle.varisat_prop.proofs.prop.long.reorder.Goals as goal
 
 pub find_other-requires-clause-within : goal.find_other-requires-clause-within

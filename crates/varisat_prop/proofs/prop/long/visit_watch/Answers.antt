@@ -2,8 +2,8 @@ use Rattle.std.proofs.Common.{ap, arith}
 use Rattle.varisat_clause.proofs.StoreSound.{is-sound}
 use Rattle.varisat_prop.specs.View.{View}
 use Rattle.varisat_prop.specs.QueueSteps.{parts_of, view_of_parts}
-use Rattle.varisat_prop.proofs.TrailValues.{fits-node}
-use Rattle.varisat_prop.proofs.LongVisited.{watch-long, watch-range, watch-false, watch-by, code-true, code-false, other-listed, code-other, code-assignable, code-implied}
+use Rattle.varisat_prop.proofs.trails.TrailValues.{fits-node}
+use Rattle.varisat_prop.proofs.watching.LongVisited.{watch-long, watch-range, watch-false, watch-by, code-true, code-false, other-listed, code-other, code-assignable, code-implied}
 use Rattle.varisat_prop.proofs.prop.long.visit_watch.Goals as goal
 
 pub reorder_clause-requires : goal.reorder_clause-requires

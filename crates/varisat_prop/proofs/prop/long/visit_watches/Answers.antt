@@ -1,8 +1,8 @@
 use Rattle.std.proofs.Common.{◌<◌, ◌≤◌, length, length-set, refl, arith}
 use Rattle.varisat_prop.specs.QueueSteps.{parts_of}
-use Rattle.varisat_prop.proofs.LongVisited.{blocking-range, code-blocking}
-use Rattle.varisat_prop.proofs.NextLiteral.{next-after}
-use Rattle.varisat_prop.proofs.LongListed.{visiting-start, is-watch, visiting-dropped, visiting-kept, visiting-false, visiting-done, visiting-settled}
+use Rattle.varisat_prop.proofs.watching.LongVisited.{blocking-range, code-blocking}
+use Rattle.varisat_prop.proofs.trails.NextLiteral.{next-after}
+use Rattle.varisat_prop.proofs.watching.LongListed.{visiting-start, is-watch, visiting-dropped, visiting-kept, visiting-false, visiting-done, visiting-settled}
 use Rattle.varisat_prop.proofs.prop.long.visit_watches.Goals as goal
 use Rattle.varisat_prop.proofs.prop.long.visit_watches.Goals.{in-Dropped, in-Keep}
 

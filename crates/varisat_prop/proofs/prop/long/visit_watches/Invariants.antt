@@ -1,6 +1,6 @@
 use Rattle.std.proofs.Common.{◌-◌, length}
 use Rattle.varisat_prop.specs.QueueSteps.{parts_of}
-use Rattle.varisat_prop.proofs.LongListed.{Visiting}
+use Rattle.varisat_prop.proofs.watching.LongListed.{Visiting}
 use Rattle.varisat_prop.proofs.prop.long.visit_watches.Given as goal
 
 abbrev pub invariant-loop-read : goal.invariant-loop-read

@@ -1,5 +1,5 @@
 use Rattle.std.proofs.Common.{◌≡◌, ℕ, false, List, length, ap, sym, ◌∙◌, subst, refl, inl, arith}
-use Rattle.varisat_theory.specs.Membership.{◌∈◌}
+use Rattle.varisat_theory.specs.promises.Membership.{◌∈◌}
 use Rattle.varisat_clause.specs.Stored.{literals_at}
 use Rattle.varisat_clause.specs.Stores.{stored_clauses}
 use Rattle.varisat_clause.specs.Collected.{live_clauses}
@@ -7,8 +7,8 @@ use Rattle.varisat_clause.proofs.StoredClauses.{kept-at}
 use Rattle.varisat_clause.proofs.LiveStore.{live-place, live-literals, live-long-at, are-live-rising}
 use Rattle.varisat_prop.specs.Watches.{Watches, watches_of}
 use Rattle.varisat_prop.specs.Visits.{WatchesClause}
-use Rattle.varisat_prop.proofs.DistinctPlaces.{distinct-places}
-use Rattle.varisat_prop.proofs.WatchRebuilt.{WatchingBut, but-all, but-next, but-none}
+use Rattle.varisat_prop.proofs.pairs.DistinctPlaces.{distinct-places}
+use Rattle.varisat_prop.proofs.watching.WatchRebuilt.{WatchingBut, but-all, but-next, but-none}
 use Rattle.varisat_prop.proofs.prop.propagation.enable_watchlists.Goals as goal
 
 pub lits-requires-clause-place : goal.lits-requires-clause-place

@@ -1,6 +1,6 @@
 use Rattle.std.proofs.Common.{◌≡◌, true, length}
 use Rattle.varisat_clause.specs.Collected.{live_clauses}
-use Rattle.varisat_prop.proofs.WatchRebuilt.{WatchingBut}
+use Rattle.varisat_prop.proofs.watching.WatchRebuilt.{WatchingBut}
 use Rattle.varisat_prop.proofs.prop.propagation.enable_watchlists.Given as goal
 
 abbrev pub invariant-loop-cref : goal.invariant-loop-cref

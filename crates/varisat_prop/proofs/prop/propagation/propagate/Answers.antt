@@ -3,12 +3,12 @@ use Rattle.varisat_clause.specs.Stored.{literals_of}
 use Rattle.varisat_clause.proofs.StoreSound.{is-sound}
 use Rattle.varisat_prop.specs.View.{view_of, pairs_from}
 use Rattle.varisat_prop.specs.Watches.{WatchesHoldTo, IsImpliedTo}
-use Rattle.varisat_prop.proofs.PropagateSteps.{propagates-refl}
-use Rattle.varisat_prop.proofs.LongVisited.{listed}
-use Rattle.varisat_prop.proofs.WatchesHold.{settled-complete, pairs-complete, complete-both}
-use Rattle.varisat_prop.proofs.WellFormedChanges.{stored-kept}
-use Rattle.varisat_prop.proofs.PropagateQueue.{at-end, watched-enabled, watched-propagated}
-use Rattle.varisat_prop.proofs.NextLiteral.{next-taken, queue-more, queue-next, queue-shorter}
+use Rattle.varisat_prop.proofs.trails.PropagateSteps.{propagates-refl}
+use Rattle.varisat_prop.proofs.watching.LongVisited.{listed}
+use Rattle.varisat_prop.proofs.watching.WatchesHold.{settled-complete, pairs-complete, complete-both}
+use Rattle.varisat_prop.proofs.views.WellFormedChanges.{stored-kept}
+use Rattle.varisat_prop.proofs.trails.PropagateQueue.{at-end, watched-enabled, watched-propagated}
+use Rattle.varisat_prop.proofs.trails.NextLiteral.{next-taken, queue-more, queue-next, queue-shorter}
 use Rattle.varisat_prop.proofs.prop.propagation.propagate.Goals as goal
 
 pub enable_watchlists-requires-clause-sound : goal.enable_watchlists-requires-clause-sound

@@ -1,6 +1,6 @@
 use Rattle.std.proofs.Common.{◌-◌, length}
 use Rattle.varisat_prop.specs.QueueSteps.{parts_of}
-use Rattle.varisat_prop.proofs.NextLiteral.{QueueGoesOn}
+use Rattle.varisat_prop.proofs.trails.NextLiteral.{QueueGoesOn}
 use Rattle.varisat_prop.proofs.prop.propagation.propagate.Given as goal
 
 abbrev pub invariant-queue : goal.invariant-queue

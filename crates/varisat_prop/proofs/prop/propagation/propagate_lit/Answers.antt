@@ -1,5 +1,5 @@
 use Rattle.std.proofs.Common.{◌∙◌, refl, arith}
-use Rattle.varisat_prop.proofs.NextLiteral.{next-true, next-binary, next-list, taken-inside, taken-back, taken-next, pairs-go, still-next, goes-put, goes-to, goes-then, ends-both}
+use Rattle.varisat_prop.proofs.trails.NextLiteral.{next-true, next-binary, next-list, taken-inside, taken-back, taken-next, pairs-go, still-next, goes-put, goes-to, goes-then, ends-both}
 use Rattle.varisat_prop.proofs.prop.propagation.propagate_lit.Goals as goal
 
 pub take_list-list-requires : goal.take_list-list-requires

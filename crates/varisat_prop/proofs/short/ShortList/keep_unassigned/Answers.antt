@@ -3,8 +3,8 @@ use Rattle.std.proofs.lemmas.Fn.{filter_same}
 use Rattle.std.proofs.lemmas.Grind.{common_steps}
 use Rattle.std.specs.List.{filter}
 use Rattle.varisat_prop.specs.Simplified.{is_unassigned, are_unassigned}
-use Rattle.varisat_prop.proofs.ShortLists.{short_few, short_many}
-use Rattle.varisat_prop.proofs.SimplifiedPairs.{filtered-same}
+use Rattle.varisat_prop.proofs.pairs.ShortLists.{short_few, short_many}
+use Rattle.varisat_prop.proofs.pairs.SimplifiedPairs.{filtered-same}
 use Rattle.varisat_prop.proofs.short.ShortList.keep_unassigned.Goals as goal
 
 pub returns-then-have_no_value : goal.returns-then-have_no_value

@@ -1,5 +1,5 @@
 use Rattle.std.proofs.Common.{◌∷◌, [], ℕ, arith}
-use Rattle.varisat_prop.proofs.ShortLists.{short_few}
+use Rattle.varisat_prop.proofs.pairs.ShortLists.{short_few}
 use Rattle.varisat_prop.proofs.short.ShortList.new_in.Goals as goal
 
 pub returns : goal.returns

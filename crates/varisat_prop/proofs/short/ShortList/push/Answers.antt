@@ -1,6 +1,6 @@
 use Rattle.std.proofs.Common.{◌≡◌, ◌<◌, ◌≤◌, ◌++◌, ◌∷◌, [], length, arith}
 use Rattle.std.proofs.lemmas.Grind.{common_steps}
-use Rattle.varisat_prop.proofs.ShortLists.{short_pushed, short_put, short_moved}
+use Rattle.varisat_prop.proofs.pairs.ShortLists.{short_pushed, short_put, short_moved}
 use Rattle.varisat_prop.proofs.short.ShortList.push.Goals as goal
 
 pub returns-then-count-lt-FEW : goal.returns-then-count-lt-FEW

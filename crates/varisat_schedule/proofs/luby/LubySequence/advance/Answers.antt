@@ -1,6 +1,6 @@
 -- The next place or the next power is where the walk goes on, and fits 64 bits.
 use Rattle.std.proofs.Common.{ap, ◌∙◌, arith}
-use Rattle.varisat_theory.specs.Luby.{luby}
+use Rattle.varisat_theory.specs.inside.Luby.{luby}
 use Rattle.varisat_schedule.proofs.WalkPlaces.{walk-low, walk-term, walk-odd, walk-even, walk-room}
 use Rattle.varisat_schedule.proofs.luby.LubySequence.advance.Goals as goal
 use Rattle.varisat_schedule.proofs.luby.LubySequence.advance.Goals.{then-self-eq1, else-self-eq1}

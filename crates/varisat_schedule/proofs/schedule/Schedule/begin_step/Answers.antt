@@ -1,6 +1,6 @@
 -- A restart computes the next one, which is later.
 use Rattle.std.proofs.Common.{◌≡◌, ◌+◌, ◌*◌, ◌<◌, suc, ap, ◌∙◌, sym, subst}
-use Rattle.varisat_theory.specs.Luby.{saturated}
+use Rattle.varisat_theory.specs.inside.Luby.{saturated}
 use Rattle.varisat_schedule.specs.Plans.{Plan, IsPlan}
 use Rattle.varisat_schedule.proofs.RestartPlans.{restart_behind, restarted-plan}
 use Rattle.varisat_schedule.proofs.schedule.Schedule.begin_step.Goals as goal

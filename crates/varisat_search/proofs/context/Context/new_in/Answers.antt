@@ -1,15 +1,15 @@
 use Rattle.std.proofs.Common.{rules, ℕ, ◌*◌, false, List, ◌++◌, length, replicate, ap, ap₂, sym, ◌∙◌, subst, arith}
 use Rattle.varisat_clause.specs.Collected.{live_clauses}
-use Rattle.varisat_theory.specs.Membership.{◌∈◌}
+use Rattle.varisat_theory.specs.promises.Membership.{◌∈◌}
 use Rattle.varisat_clause.specs.Stored.{StoredClause, literals_of}
 use Rattle.varisat_clause.specs.Stores.{Store}
 use Rattle.varisat_clause.specs.Databases.{Database, no_database, Tracks}
 use Rattle.varisat_clause.proofs.DatabaseTracks.{tracks-none}
 use Rattle.varisat_prop.specs.View.{view_of, pairs_from}
-use Rattle.varisat_search.proofs.AssumptionLevels.{has-none, none-assumable}
+use Rattle.varisat_search.proofs.assuming.AssumptionLevels.{has-none, none-assumable}
 use Rattle.varisat_prop.specs.Parts.{Values, TrailParts}
 use Rattle.varisat_vsids.specs.Activities.{Activities}
-use Rattle.varisat_search.proofs.LoadView.{first-propagated}
+use Rattle.varisat_search.proofs.loading.LoadView.{first-propagated}
 use Rattle.varisat_search.proofs.context.Context.new_in.Goals as goal
 
 pub returns-clause-ready : goal.returns-clause-ready

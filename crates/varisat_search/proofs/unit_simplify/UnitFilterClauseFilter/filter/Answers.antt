@@ -1,17 +1,17 @@
 use Rattle.std.proofs.Common.{◌≡◌, ◌≢◌, ◌≤◌, ◌++◌, ◌∷◌, Bool, Option, List, [], true, false, length, get_or, refl, sym, ap, ◌∙◌, subst, arith}
-use Rattle.varisat_theory.specs.Literals.{Literal, Clause, opposite}
+use Rattle.varisat_theory.specs.promises.Literals.{Literal, Clause, opposite}
 use Rattle.varisat_clause.specs.Stored.{StoredClause, stored_at}
 use Rattle.varisat_clause.specs.Stores.{stored_clauses}
 use Rattle.varisat_clause.specs.Filters.{left_if}
 use Rattle.varisat_clause.proofs.FilteredClauses.{alters-same}
 use Rattle.varisat_prop.specs.Simplified.{is_unassigned}
-use Rattle.varisat_prop.proofs.LiteralValues.{none-made}
-use Rattle.varisat_prop.proofs.ReadElements.{element}
+use Rattle.varisat_prop.proofs.trails.LiteralValues.{none-made}
+use Rattle.varisat_prop.proofs.views.ReadElements.{element}
 use Rattle.varisat_search.specs.Simplifications.{has_true, unassigned, shortened_to, LeavesOpen, NotesWatches}
 use Rattle.varisat_analysis.proofs.CopiedLiterals.{only-two}
-use Rattle.varisat_search.proofs.ShrunkClauses.{header-length, shrunk-alters, shrunk-stored}
-use Rattle.varisat_search.proofs.FilteredUnits.{satisfied-read, unsatisfied-read, filter-short, leaves-none, leaves-pair, leaves-long, not-shortened, notes-none, notes-two}
-use Rattle.varisat_search.proofs.UnassignedLiterals.{left-all, unassigned-read}
+use Rattle.varisat_search.proofs.simplifying.ShrunkClauses.{header-length, shrunk-alters, shrunk-stored}
+use Rattle.varisat_search.proofs.simplifying.FilteredUnits.{satisfied-read, unsatisfied-read, filter-short, leaves-none, leaves-pair, leaves-long, not-shortened, notes-none, notes-two}
+use Rattle.varisat_search.proofs.simplifying.UnassignedLiterals.{left-all, unassigned-read}
 use Rattle.varisat_clause.proofs.DatabaseTracks.{long-at}
 use Rattle.varisat_search.proofs.unit_simplify.UnitFilterClauseFilter.filter.Given.{Over}
 use Rattle.varisat_search.proofs.unit_simplify.UnitFilterClauseFilter.filter.Goals.{After-len, In_ok-push-2}

@@ -1,5 +1,5 @@
 use Rattle.varisat_search.specs.Contexts.{view}
-use Rattle.varisat_search.proofs.LeastHeld.{anything-for}
+use Rattle.varisat_search.proofs.learning.LeastHeld.{anything-for}
 use Rattle.varisat_search_tests.proofs.tests.collecting.reduced.Goals as goal
 
 pub reduce_locals-requires-clause-holds : goal.reduce_locals-requires-clause-holds

@@ -1,5 +1,5 @@
 use Rattle.varisat_search.specs.Contexts.{view}
-use Rattle.varisat_search.proofs.LeastHeld.{anything-for}
+use Rattle.varisat_search.proofs.learning.LeastHeld.{anything-for}
 use Rattle.varisat_search_tests.proofs.tests.forgetting.forget_units.Goals as goal
 
 pub simplify_root-requires-clause-holds : goal.simplify_root-requires-clause-holds

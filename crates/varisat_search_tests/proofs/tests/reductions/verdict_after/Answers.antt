@@ -1,5 +1,5 @@
 use Rattle.varisat_search.specs.Contexts.{view}
-use Rattle.varisat_search.proofs.LeastHeld.{anything-for}
+use Rattle.varisat_search.proofs.learning.LeastHeld.{anything-for}
 use Rattle.varisat_search_tests.proofs.tests.reductions.verdict_after.Goals as goal
 
 pub schedule_step-requires-clause-holds : goal.schedule_step-requires-clause-holds

@@ -1,11 +1,11 @@
 use Rattle.std.proofs.Common.{length, ⊎_elim, sym, ap, ◌∙◌, subst, arith}
-use Rattle.varisat_theory.specs.Literals.{variable_of}
-use Rattle.varisat_theory.proofs.Places.{∈-take_more, ∈-take_all}
-use Rattle.varisat_prop.proofs.ReadElements.{element}
+use Rattle.varisat_theory.specs.promises.Literals.{variable_of}
+use Rattle.varisat_theory.proofs.clauses.Places.{∈-take_more, ∈-take_all}
+use Rattle.varisat_prop.proofs.views.ReadElements.{element}
 use Rattle.varisat_search.specs.declared.context.Context.{Context}
 use Rattle.varisat_search.specs.Contexts.{view}
 use Rattle.varisat_search.specs.Decisions.{IsDecidable}
-use Rattle.varisat_search.proofs.DecidableVariables.{still-decidable}
+use Rattle.varisat_search.proofs.variables.DecidableVariables.{still-decidable}
 use Rattle.varisat_search_tests.proofs.tests.searches.make_all_available.Goals as goal
 
 pub loop-lit-init : goal.loop-lit-init

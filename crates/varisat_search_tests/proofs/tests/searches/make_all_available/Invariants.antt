@@ -1,6 +1,6 @@
 use Rattle.std.proofs.Common.{◌<◌, take, length}
-use Rattle.varisat_theory.specs.Membership.{◌∈◌}
-use Rattle.varisat_theory.specs.Literals.{Literal, variable_of}
+use Rattle.varisat_theory.specs.promises.Membership.{◌∈◌}
+use Rattle.varisat_theory.specs.promises.Literals.{Literal, variable_of}
 use Rattle.varisat_search.specs.Contexts.{view, IsReady}
 use Rattle.varisat_search.specs.Decisions.{AreDecidable}
 use Rattle.varisat_search_tests.proofs.tests.searches.make_all_available.Given as goal

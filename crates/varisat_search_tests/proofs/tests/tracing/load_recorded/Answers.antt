@@ -1,5 +1,5 @@
 use Rattle.varisat_search.specs.Contexts.{view}
-use Rattle.varisat_search.proofs.LeastHeld.{anything-with}
+use Rattle.varisat_search.proofs.learning.LeastHeld.{anything-with}
 use Rattle.varisat_search_tests.proofs.tests.tracing.load_recorded.Goals as goal
 
 pub load_clause-requires-clause-holds : goal.load_clause-requires-clause-holds

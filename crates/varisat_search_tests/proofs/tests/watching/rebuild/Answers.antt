@@ -1,8 +1,8 @@
 use Rattle.std.proofs.Common.{◌<◌, length, sym, ◌∙◌, subst}
-use Rattle.varisat_theory.specs.Literals.{opposite}
+use Rattle.varisat_theory.specs.promises.Literals.{opposite}
 use Rattle.varisat_clause.proofs.StoreSound.{is-sound}
-use Rattle.varisat_prop.proofs.LongVisited.{listed}
-use Rattle.varisat_prop.proofs.WellFormedChanges.{stored-kept}
+use Rattle.varisat_prop.proofs.watching.LongVisited.{listed}
+use Rattle.varisat_prop.proofs.views.WellFormedChanges.{stored-kept}
 use Rattle.varisat_search.specs.Contexts.{view}
 use Rattle.varisat_search_tests.proofs.ReadySearches.{rebuilt-ready}
 use Rattle.varisat_search_tests.proofs.tests.watching.rebuild.Goals as goal

@@ -1,6 +1,6 @@
 use Rattle.std.proofs.Common.{arith, List, length, take, drop, ap, ◌∙◌, ◌-◌}
 use Rattle.std.proofs.lemmas.Grind.{common_steps}
-use Rattle.varisat_theory.specs.Literals.{Literal}
+use Rattle.varisat_theory.specs.promises.Literals.{Literal}
 use Rattle.varisat_simplify.proofs.CutLemmas.{read_bounds, view_below}
 use Rattle.varisat_simplify.proofs.clauses.ClauseList.clause.Goals as goal
 

@@ -1,5 +1,5 @@
 use Rattle.std.proofs.Common.{List, Bool, true, [], ◌∷◌, ◌++◌, refl, ap, ◌∙◌}
-use Rattle.varisat_simplify.specs.Written.{Written}
+use Rattle.varisat_simplify.specs.inside.Written.{Written}
 use Rattle.varisat_simplify.proofs.WrittenLemmas.{clauses_joined}
 use Rattle.varisat_simplify.proofs.ListLemmas.{sound_grown, sound_same, sound_pushed}
 use Rattle.varisat_simplify.proofs.database.Database.join.Goals as goal

@@ -1,6 +1,6 @@
 use Rattle.std.proofs.Common.{arith, sym, subst, length, ◌≤◌}
-use Rattle.varisat_theory.specs.Membership.{◌∈◌}
-use Rattle.varisat_simplify.specs.States.{State, clause_at, IsLive}
+use Rattle.varisat_theory.specs.promises.Membership.{◌∈◌}
+use Rattle.varisat_simplify.specs.inside.States.{State, clause_at, IsLive}
 use Rattle.varisat_simplify.proofs.ListLemmas.{listed_beyond}
 use Rattle.varisat_simplify.proofs.database.Database.places.Goals as goal
 

@@ -1,7 +1,7 @@
 use Rattle.std.proofs.Common.{false, set, sym, ap, subst, refl, List}
-use Rattle.varisat_theory.specs.Literals.{Clause}
-use Rattle.varisat_simplify.specs.Written.{Written}
-use Rattle.varisat_simplify.specs.Sound.{IsSound}
+use Rattle.varisat_theory.specs.promises.Literals.{Clause}
+use Rattle.varisat_simplify.specs.inside.Written.{Written}
+use Rattle.varisat_simplify.specs.inside.Sound.{IsSound}
 use Rattle.varisat_simplify.proofs.ListLemmas.{sound_removed}
 use Rattle.varisat_simplify.proofs.database.Database.remove.Goals as goal
 

@@ -1,6 +1,6 @@
 use Rattle.std.proofs.Common.{arith, List, Bool, ◌<◌, [], length, get_or, set, ap, ◌∙◌}
 use Rattle.std.specs.List.{filter}
-use Rattle.varisat_simplify.specs.Flags.{is_flagged}
+use Rattle.varisat_simplify.specs.inside.Flags.{is_flagged}
 use Rattle.varisat_simplify.proofs.ListLemmas.{sound_kept}
 use Rattle.varisat_simplify.proofs.database.Database.tidy.Goals as goal
 

@@ -1,5 +1,5 @@
 use Rattle.std.proofs.Common.{◌<◌, ◌+◌, ◌*◌, ◌++◌, ◌∷◌, [], ℕ, List, sym, ap, ◌∙◌, subst, length, arith}
-use Rattle.varisat_simplify.specs.Written.{Written}
+use Rattle.varisat_simplify.specs.inside.Written.{Written}
 use Rattle.varisat_simplify.proofs.WrittenLemmas.{written_step}
 use Rattle.varisat_simplify.proofs.history.History.delete.Goals as goal
 

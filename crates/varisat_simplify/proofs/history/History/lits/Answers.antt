@@ -1,5 +1,5 @@
 use Rattle.std.proofs.Common.{◌<◌, sym, subst, length, arith}
-use Rattle.varisat_simplify.specs.Written.{Written}
+use Rattle.varisat_simplify.specs.inside.Written.{Written}
 use Rattle.varisat_simplify.proofs.WrittenLemmas.{step_below, lines_count}
 use Rattle.varisat_simplify.proofs.history.History.lits.Goals as goal
 

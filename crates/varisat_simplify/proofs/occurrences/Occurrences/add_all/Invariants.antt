@@ -1,5 +1,5 @@
 use Rattle.std.proofs.Common.{take}
-use Rattle.varisat_simplify.specs.Sound.{Grows, IsListed}
+use Rattle.varisat_simplify.specs.inside.Sound.{Grows, IsListed}
 use Rattle.varisat_simplify.proofs.occurrences.Occurrences.add_all.Given as goal
 
 abbrev pub invariant-loop-lit : goal.invariant-loop-lit

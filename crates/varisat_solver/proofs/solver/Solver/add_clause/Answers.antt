@@ -1,25 +1,25 @@
 use Rattle.std.proofs.Common.{true, Err, subst, ◌∙◌, not, length, arith, refl, sym, ap}
 use Rattle.varisat_search.specs.declared.state.SolverState.{SolverState}
 use Rattle.varisat_schedule.specs.Plans.{Plan}
-use Rattle.varisat_tracer.specs.TracerLaws.{checked-runs}
-use Rattle.varisat_solver.specs.States.{State}
-use Rattle.varisat_solver.specs.Calls.{by_state, count_anew, MayAccept, Ignored, Accepted, AddsClause}
-use Rattle.varisat_solver.proofs.CallStates.{stands-valid, proof-fits, broken, broken-invalid, adds-broken}
-use Rattle.varisat_solver.proofs.AcceptClause.{not-refuted}
-use Rattle.varisat_tracer.specs.Tracing.{tracer_state, BreaksProof}
+use Rattle.varisat_tracer.specs.inside.TracerLaws.{checked-runs}
+use Rattle.varisat_solver.specs.promises.States.{State}
+use Rattle.varisat_solver.specs.promises.Calls.{by_state, count_anew, MayAccept, Ignored, Accepted, AddsClause}
+use Rattle.varisat_solver.proofs.calls.CallStates.{stands-valid, proof-fits, broken, broken-invalid, adds-broken}
+use Rattle.varisat_solver.proofs.accepting.AcceptClause.{not-refuted}
+use Rattle.varisat_tracer.specs.inside.Tracing.{tracer_state, BreaksProof}
 use Rattle.varisat_search.specs.StepErrors.{step_faults}
-use Rattle.varisat_solver.specs.Refusals.{returned_faults}
-use Rattle.varisat_solver.specs.Summaries.{Summary, Represents, spaces_with}
-use Rattle.varisat_solver.specs.Targets.{WritesAll, WritesUpTo}
+use Rattle.varisat_solver.specs.promises.Refusals.{returned_faults}
+use Rattle.varisat_solver.specs.promises.Summaries.{Summary, Represents, spaces_with}
+use Rattle.varisat_solver.specs.promises.Targets.{WritesAll, WritesUpTo}
 use Rattle.varisat_solver.specs.declared.solver.SolverError.TheVariants.{ClauseStoreFull, Invalid, ClauseAfterSolve}
-use Rattle.varisat_solver.proofs.Targets.{writes-nothing, refused-unwritten, logs-writes, breaks-writes, names-unwritten, names-not-full, refused-full, same-error}
-use Rattle.varisat_solver.proofs.OpenProofs.{broken-open, broken-on, closed-there, unclosed-there}
-use Rattle.varisat_solver.proofs.Joins.{ClauseJoins, clause-joins}
-use Rattle.varisat_solver.proofs.ChangeEnds.{kept-changed, stands-changed, stands-broken, stands-invalid, invalid-logged}
-use Rattle.varisat_solver.proofs.SettingsCalls.{summary_of}
-use Rattle.varisat_solver.proofs.Additions.{logged-error}
-use Rattle.varisat_solver.proofs.SolverCalls.{unsat-known}
-use Rattle.varisat_solver.proofs.NamingStates.{may-constrain, clause-refused}
+use Rattle.varisat_solver.proofs.entries.Targets.{writes-nothing, refused-unwritten, logs-writes, breaks-writes, names-unwritten, names-not-full, refused-full, same-error}
+use Rattle.varisat_solver.proofs.entries.OpenProofs.{broken-open, broken-on, closed-there, unclosed-there}
+use Rattle.varisat_solver.proofs.accepting.Joins.{ClauseJoins, clause-joins}
+use Rattle.varisat_solver.proofs.calls.ChangeEnds.{kept-changed, stands-changed, stands-broken, stands-invalid, invalid-logged}
+use Rattle.varisat_solver.proofs.calls.SettingsCalls.{summary_of}
+use Rattle.varisat_solver.proofs.accepting.Additions.{logged-error}
+use Rattle.varisat_solver.proofs.calls.SolverCalls.{unsat-known}
+use Rattle.varisat_solver.proofs.accepting.NamingStates.{may-constrain, clause-refused}
 use Rattle.varisat_solver.proofs.solver.Solver.add_clause.Given.{Over}
 use Rattle.varisat_solver.proofs.solver.Solver.add_clause.Goals.{In_ok-end_change}
 use Rattle.varisat_solver.proofs.solver.Solver.add_clause.Goals as goal

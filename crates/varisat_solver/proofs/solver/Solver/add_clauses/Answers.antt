@@ -1,12 +1,12 @@
 -- A clause more is accepted, or refused.
 use Rattle.std.proofs.Common.{◌≡◌, ◌∙◌, ◌++◌, ◌∷◌, [], Err, refl, sym, ap, subst, map, append_assoc, append-nil, Ok}
 use Rattle.std.proofs.lemmas.List.{map-append}
-use Rattle.varisat_solver.specs.Calls.{by_state}
-use Rattle.varisat_solver.specs.Additions.{AddsAll}
-use Rattle.varisat_solver.proofs.Additions.{logged-error, adds-last, adds-refused}
-use Rattle.varisat_solver.specs.Refusals.{returned_faults}
+use Rattle.varisat_solver.specs.promises.Calls.{by_state}
+use Rattle.varisat_solver.specs.promises.Additions.{AddsAll}
+use Rattle.varisat_solver.proofs.accepting.Additions.{logged-error, adds-last, adds-refused}
+use Rattle.varisat_solver.specs.promises.Refusals.{returned_faults}
 use Rattle.varisat_solver.specs.declared.solver.SolverError.TheVariants.{ClauseStoreFull}
-use Rattle.varisat_solver.proofs.Targets.{writes-nothing, all-then, up-to-then, same-error}
+use Rattle.varisat_solver.proofs.entries.Targets.{writes-nothing, all-then, up-to-then, same-error}
 use Rattle.varisat_solver.proofs.solver.Solver.add_clauses.Goals as goal
 
 pub loop-clause-init : goal.loop-clause-init

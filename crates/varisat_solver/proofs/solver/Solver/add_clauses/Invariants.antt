@@ -1,10 +1,10 @@
 -- The clauses so far are accepted; with those that are left they are the formula's.
 use Rattle.std.proofs.Common.{◌≡◌, ◌++◌, map, Ok}
-use Rattle.varisat_solver.specs.States.{State}
-use Rattle.varisat_solver.specs.Calls.{by_state}
-use Rattle.varisat_solver.specs.Additions.{AddsAll}
-use Rattle.varisat_solver.specs.Summaries.{Represents}
-use Rattle.varisat_solver.specs.Targets.{WritesAll}
+use Rattle.varisat_solver.specs.promises.States.{State}
+use Rattle.varisat_solver.specs.promises.Calls.{by_state}
+use Rattle.varisat_solver.specs.promises.Additions.{AddsAll}
+use Rattle.varisat_solver.specs.promises.Summaries.{Represents}
+use Rattle.varisat_solver.specs.promises.Targets.{WritesAll}
 use Rattle.varisat_solver.proofs.solver.Solver.add_clauses.Given as goal
 
 abbrev pub invariant-loop-clause : goal.invariant-loop-clause

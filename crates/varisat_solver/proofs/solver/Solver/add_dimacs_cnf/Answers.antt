@@ -1,17 +1,17 @@
 -- A clause of the text is refused, or it has a fault, or none.
 use Rattle.std.proofs.Common.{◌∙◌, Err, refl, sym, ap, not, subst}
-use Rattle.varisat_solver.specs.Additions.{ClausesAdded, NoFault, Read, Unread}
-use Rattle.varisat_solver.specs.Calls.{count_anew}
-use Rattle.varisat_solver.specs.Calls.{by_state}
-use Rattle.varisat_solver.specs.Additions.{ReturnsFault}
-use Rattle.varisat_solver.specs.Refusals.{returned_faults}
-use Rattle.varisat_solver.specs.Summaries.{Summary}
-use Rattle.varisat_solver.specs.Targets.{WritesAll, WritesUpTo}
+use Rattle.varisat_solver.specs.promises.Additions.{ClausesAdded, NoFault, Read, Unread}
+use Rattle.varisat_solver.specs.promises.Calls.{count_anew}
+use Rattle.varisat_solver.specs.promises.Calls.{by_state}
+use Rattle.varisat_solver.specs.promises.Additions.{ReturnsFault}
+use Rattle.varisat_solver.specs.promises.Refusals.{returned_faults}
+use Rattle.varisat_solver.specs.promises.Summaries.{Summary}
+use Rattle.varisat_solver.specs.promises.Targets.{WritesAll, WritesUpTo}
 use Rattle.varisat_solver.specs.declared.solver.SolverError.TheVariants.{ClauseStoreFull, Invalid}
-use Rattle.varisat_solver.proofs.Additions.{adds-valid, takes-in-turn, text-refused}
-use Rattle.varisat_solver.proofs.CallStates.{stands-valid}
-use Rattle.varisat_solver.proofs.ChangeEnds.{stands-invalid, invalid-logged}
-use Rattle.varisat_solver.proofs.Targets.{up-to-then, refused-unwritten, same-error}
+use Rattle.varisat_solver.proofs.accepting.Additions.{adds-valid, takes-in-turn, text-refused}
+use Rattle.varisat_solver.proofs.calls.CallStates.{stands-valid}
+use Rattle.varisat_solver.proofs.calls.ChangeEnds.{stands-invalid, invalid-logged}
+use Rattle.varisat_solver.proofs.entries.Targets.{up-to-then, refused-unwritten, same-error}
 use Rattle.varisat_solver.proofs.solver.Solver.add_dimacs_cnf.Goals as goal
 
 pub returns-in-Ok-None-clause-call : goal.returns-in-Ok-None-clause-call

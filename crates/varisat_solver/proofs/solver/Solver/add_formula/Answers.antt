@@ -1,14 +1,14 @@
 -- All clauses are accepted, or one is refused.
 use Rattle.std.proofs.Common.{◌∙◌, Err, refl, sym, ap, not, subst}
-use Rattle.varisat_solver.specs.Additions.{AllAdded, OneRefused, RefusedAtOnce}
-use Rattle.varisat_solver.specs.Calls.{count_anew}
-use Rattle.varisat_solver.proofs.CallStates.{stands-valid}
-use Rattle.varisat_solver.proofs.Additions.{logged-error}
-use Rattle.varisat_solver.specs.Summaries.{Summary}
-use Rattle.varisat_solver.specs.Targets.{WritesAll}
+use Rattle.varisat_solver.specs.promises.Additions.{AllAdded, OneRefused, RefusedAtOnce}
+use Rattle.varisat_solver.specs.promises.Calls.{count_anew}
+use Rattle.varisat_solver.proofs.calls.CallStates.{stands-valid}
+use Rattle.varisat_solver.proofs.accepting.Additions.{logged-error}
+use Rattle.varisat_solver.specs.promises.Summaries.{Summary}
+use Rattle.varisat_solver.specs.promises.Targets.{WritesAll}
 use Rattle.varisat_solver.specs.declared.solver.SolverError.TheVariants.{ClauseStoreFull, Invalid}
-use Rattle.varisat_solver.proofs.Targets.{refused-unwritten, same-error}
-use Rattle.varisat_solver.proofs.ChangeEnds.{stands-invalid, invalid-logged}
+use Rattle.varisat_solver.proofs.entries.Targets.{refused-unwritten, same-error}
+use Rattle.varisat_solver.proofs.calls.ChangeEnds.{stands-invalid, invalid-logged}
 use Rattle.varisat_solver.proofs.solver.Solver.add_formula.Goals as goal
 
 pub returns-in_err-add_clauses-clause-call : goal.returns-in_err-add_clauses-clause-call

@@ -1,24 +1,24 @@
 use Rattle.std.proofs.Common.{◌∙◌, not, subst, refl, sym, ap, length, true, Err}
 use Rattle.varisat_search.specs.declared.state.SolverState.{SolverState}
 use Rattle.varisat_schedule.specs.Plans.{Plan}
-use Rattle.varisat_tracer.specs.TracerLaws.{checked-runs}
-use Rattle.varisat_solver.specs.Refusals.{returned_faults}
+use Rattle.varisat_tracer.specs.inside.TracerLaws.{checked-runs}
+use Rattle.varisat_solver.specs.promises.Refusals.{returned_faults}
 use Rattle.varisat_search.specs.StepErrors.{step_faults}
-use Rattle.varisat_solver.specs.Targets.{WritesUpTo}
-use Rattle.varisat_tracer.specs.Tracing.{tracer_state, BreaksProof}
-use Rattle.varisat_solver.specs.OpenProofs.{BarsAssumptions}
-use Rattle.varisat_solver.specs.Summaries.{Represents, spaces_with}
-use Rattle.varisat_solver.proofs.ChangeEnds.{kept-changed, stands-changed, stands-broken, stands-invalid, invalid-logged}
-use Rattle.varisat_solver.proofs.SettingsCalls.{summary_of}
-use Rattle.varisat_solver.proofs.Joins.{ListJoins, list-joins}
-use Rattle.varisat_solver.specs.States.{State}
+use Rattle.varisat_solver.specs.promises.Targets.{WritesUpTo}
+use Rattle.varisat_tracer.specs.inside.Tracing.{tracer_state, BreaksProof}
+use Rattle.varisat_solver.specs.promises.OpenProofs.{BarsAssumptions}
+use Rattle.varisat_solver.specs.promises.Summaries.{Represents, spaces_with}
+use Rattle.varisat_solver.proofs.calls.ChangeEnds.{kept-changed, stands-changed, stands-broken, stands-invalid, invalid-logged}
+use Rattle.varisat_solver.proofs.calls.SettingsCalls.{summary_of}
+use Rattle.varisat_solver.proofs.accepting.Joins.{ListJoins, list-joins}
+use Rattle.varisat_solver.specs.promises.States.{State}
 use Rattle.varisat_solver.specs.declared.solver.SolverError.TheVariants.{Invalid, ProofOpen, ProofIoError}
-use Rattle.varisat_solver.specs.Calls.{Assumes}
-use Rattle.varisat_solver.proofs.OpenProofs.{barred-there, unbarred-there, broken-open, broken-on}
-use Rattle.varisat_solver.proofs.Targets.{refused-unwritten, logs-writes, breaks-writes, names-unwritten, names-not-broken, broken-not-memory, same-error}
-use Rattle.varisat_solver.proofs.CallStates.{stands-valid, proof-fits, broken, broken-invalid, assumes-broken}
-use Rattle.varisat_solver.proofs.Additions.{logged-error}
-use Rattle.varisat_solver.proofs.NamingStates.{may-constrain, list-refused}
+use Rattle.varisat_solver.specs.promises.Calls.{Assumes}
+use Rattle.varisat_solver.proofs.entries.OpenProofs.{barred-there, unbarred-there, broken-open, broken-on}
+use Rattle.varisat_solver.proofs.entries.Targets.{refused-unwritten, logs-writes, breaks-writes, names-unwritten, names-not-broken, broken-not-memory, same-error}
+use Rattle.varisat_solver.proofs.calls.CallStates.{stands-valid, proof-fits, broken, broken-invalid, assumes-broken}
+use Rattle.varisat_solver.proofs.accepting.Additions.{logged-error}
+use Rattle.varisat_solver.proofs.accepting.NamingStates.{may-constrain, list-refused}
 use Rattle.varisat_solver.proofs.solver.Solver.assume.Given.{Over}
 use Rattle.varisat_solver.proofs.solver.Solver.assume.Goals.{In_ok-end_change}
 use Rattle.varisat_solver.proofs.solver.Solver.assume.Goals as goal

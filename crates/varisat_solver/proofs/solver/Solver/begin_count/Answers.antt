@@ -1,7 +1,7 @@
 use Rattle.std.proofs.Common.{refl}
-use Rattle.varisat_tracer.specs.Tracing.{tracer_state}
-use Rattle.varisat_solver.proofs.SettingsCalls.{stands-anew}
-use Rattle.varisat_solver.proofs.SinceSteps.{since-now}
+use Rattle.varisat_tracer.specs.inside.Tracing.{tracer_state}
+use Rattle.varisat_solver.proofs.calls.SettingsCalls.{stands-anew}
+use Rattle.varisat_solver.proofs.steps.SinceSteps.{since-now}
 use Rattle.varisat_solver.proofs.solver.Solver.begin_count.Goals as goal
 
 pub invariant_of-self : goal.invariant_of-self

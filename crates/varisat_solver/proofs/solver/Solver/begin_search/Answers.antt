@@ -1,6 +1,6 @@
 -- What is kept of a search does not speak of whether it was begun.
 use Rattle.std.proofs.Common.{refl}
-use Rattle.varisat_solver.proofs.DetachedValues.{kept-verdict}
+use Rattle.varisat_solver.proofs.leaving.DetachedValues.{kept-verdict}
 use Rattle.varisat_solver.proofs.solver.Solver.begin_search.Goals as goal
 
 pub invariant_of-self : goal.invariant_of-self

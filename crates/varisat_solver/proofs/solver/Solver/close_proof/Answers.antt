@@ -1,19 +1,19 @@
 use Rattle.std.proofs.Common.{◌≡◌, ◌∙◌, length, None, Ok, Err, true, false, not, refl, sym, ap, subst}
 use Rattle.std.specs.declared.io.Error.{Error}
-use Rattle.varisat_proof.specs.Proving.{ProofParts, is_there, IsClosed}
-use Rattle.varisat_tracer.specs.Tracing.{tracer_state, CanLog}
-use Rattle.varisat_solver.specs.OpenProofs.{opened_state}
+use Rattle.varisat_proof.specs.promises.Proving.{ProofParts, is_there, IsClosed}
+use Rattle.varisat_tracer.specs.inside.Tracing.{tracer_state, CanLog}
+use Rattle.varisat_solver.specs.promises.OpenProofs.{opened_state}
 use Rattle.varisat_solver.specs.declared.solver.SolverError.{SolverError}
 use Rattle.varisat_solver.specs.declared.solver.SolverError.TheVariants.{ProofIoError}
-use Rattle.varisat_solver.specs.States.{Ledger}
-use Rattle.varisat_solver.specs.Summaries.{Summary, spaces_with, RepresentsSome}
-use Rattle.varisat_solver.specs.Calls.{count_anew}
-use Rattle.varisat_solver.specs.ProofCalls.{with_proof, ClosesProof}
-use Rattle.varisat_solver.proofs.CallStates.{stands-valid, broken, broken-invalid}
-use Rattle.varisat_solver.proofs.ChangeEnds.{stands-broken}
-use Rattle.varisat_solver.proofs.OpenProofs.{closed-back, closed-fails}
-use Rattle.varisat_solver.proofs.SettingsCalls.{stands-with-proof}
-use Rattle.varisat_solver.proofs.LoggedJournals.{proof-of}
+use Rattle.varisat_solver.specs.promises.States.{Ledger}
+use Rattle.varisat_solver.specs.promises.Summaries.{Summary, spaces_with, RepresentsSome}
+use Rattle.varisat_solver.specs.promises.Calls.{count_anew}
+use Rattle.varisat_solver.specs.promises.ProofCalls.{with_proof, ClosesProof}
+use Rattle.varisat_solver.proofs.calls.CallStates.{stands-valid, broken, broken-invalid}
+use Rattle.varisat_solver.proofs.calls.ChangeEnds.{stands-broken}
+use Rattle.varisat_solver.proofs.entries.OpenProofs.{closed-back, closed-fails}
+use Rattle.varisat_solver.proofs.calls.SettingsCalls.{stands-with-proof}
+use Rattle.varisat_solver.proofs.entries.LoggedJournals.{proof-of}
 use Rattle.varisat_solver.proofs.solver.Solver.close_proof.Goals as goal
 
 pub close_proof-requires : goal.close_proof-requires

@@ -1,12 +1,12 @@
 use Rattle.std.proofs.Common.{not, refl, ap, sym, subst}
 use Rattle.varisat_search.specs.declared.context.Context.{Context}
-use Rattle.varisat_solver.specs.Summaries.{spaces_with, RepresentsSome}
-use Rattle.varisat_tracer.specs.Tracing.{tracer_state}
-use Rattle.varisat_solver.specs.Calls.{with_update, Configures}
-use Rattle.varisat_solver.proofs.CallStates.{stands-valid}
-use Rattle.varisat_solver.proofs.SettingsCalls.{stands-updated, stands-same, kept-updated}
-use Rattle.varisat_solver.proofs.SinceSteps.{since-now}
-use Rattle.varisat_solver.proofs.ChangeEnds.{stands-invalid, invalid-logged}
+use Rattle.varisat_solver.specs.promises.Summaries.{spaces_with, RepresentsSome}
+use Rattle.varisat_tracer.specs.inside.Tracing.{tracer_state}
+use Rattle.varisat_solver.specs.promises.Calls.{with_update, Configures}
+use Rattle.varisat_solver.proofs.calls.CallStates.{stands-valid}
+use Rattle.varisat_solver.proofs.calls.SettingsCalls.{stands-updated, stands-same, kept-updated}
+use Rattle.varisat_solver.proofs.steps.SinceSteps.{since-now}
+use Rattle.varisat_solver.proofs.calls.ChangeEnds.{stands-invalid, invalid-logged}
 use Rattle.varisat_solver.proofs.solver.Solver.config.Goals as goal
 
 pub returns : goal.returns

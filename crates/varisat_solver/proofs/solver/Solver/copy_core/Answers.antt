@@ -1,8 +1,8 @@
 use Rattle.std.proofs.Common.{Ok, Some, List, sym, subst}
-use Rattle.varisat_theory.specs.Literals.{Literal}
-use Rattle.varisat_solver.specs.Calls.{ReturnsList, by_state}
-use Rattle.varisat_solver.specs.ReturnedLists.{lent_list}
-use Rattle.varisat_solver.proofs.SolverCalls.{logged-refused-core}
+use Rattle.varisat_theory.specs.promises.Literals.{Literal}
+use Rattle.varisat_solver.specs.promises.Calls.{ReturnsList, by_state}
+use Rattle.varisat_solver.specs.promises.ReturnedLists.{lent_list}
+use Rattle.varisat_solver.proofs.calls.SolverCalls.{logged-refused-core}
 use Rattle.varisat_solver.proofs.solver.Solver.copy_core.Goals as goal
 
 pub returns-in_ok-copy-in-Some : goal.returns-in_ok-copy-in-Some

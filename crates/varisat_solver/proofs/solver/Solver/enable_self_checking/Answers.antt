@@ -1,12 +1,12 @@
 use Rattle.std.proofs.Common.{◌∙◌, not, refl, ap, sym, subst}
 use Rattle.std.specs.Option.{IsSome}
-use Rattle.varisat_solver.specs.States.{Ledger}
-use Rattle.varisat_solver.specs.Summaries.{Summary}
-use Rattle.varisat_solver.specs.Calls.{count_anew}
-use Rattle.varisat_solver.specs.ProofCalls.{EnablesChecking}
-use Rattle.varisat_solver.proofs.CallStates.{stands-valid}
-use Rattle.varisat_solver.proofs.SettingsCalls.{begun-or-on, some-there, logs-checking, some-checking, with_checking, stands-checking}
-use Rattle.varisat_solver.proofs.ChangeEnds.{stands-invalid, invalid-logged}
+use Rattle.varisat_solver.specs.promises.States.{Ledger}
+use Rattle.varisat_solver.specs.promises.Summaries.{Summary}
+use Rattle.varisat_solver.specs.promises.Calls.{count_anew}
+use Rattle.varisat_solver.specs.promises.ProofCalls.{EnablesChecking}
+use Rattle.varisat_solver.proofs.calls.CallStates.{stands-valid}
+use Rattle.varisat_solver.proofs.calls.SettingsCalls.{begun-or-on, some-there, logs-checking, some-checking, with_checking, stands-checking}
+use Rattle.varisat_solver.proofs.calls.ChangeEnds.{stands-invalid, invalid-logged}
 use Rattle.varisat_solver.proofs.solver.Solver.enable_self_checking.Goals as goal
 
 pub invariant_of-self : goal.invariant_of-self

@@ -1,9 +1,9 @@
 use Rattle.std.proofs.Common.{◌≡◌, ◌∙◌, not, refl, sym, ap, subst, inl, Some, List}
-use Rattle.varisat_theory.specs.Literals.{Literal}
-use Rattle.varisat_solver.specs.Models.{IsReturnedCore}
-use Rattle.varisat_solver.proofs.CallStates.{stands-valid}
-use Rattle.varisat_solver.proofs.SearchVerdicts.{logged-fails}
-use Rattle.varisat_solver.proofs.SolverCalls.{core-to-tell}
+use Rattle.varisat_theory.specs.promises.Literals.{Literal}
+use Rattle.varisat_solver.specs.promises.Models.{IsReturnedCore}
+use Rattle.varisat_solver.proofs.calls.CallStates.{stands-valid}
+use Rattle.varisat_solver.proofs.steps.SearchVerdicts.{logged-fails}
+use Rattle.varisat_solver.proofs.calls.SolverCalls.{core-to-tell}
 use Rattle.varisat_solver.proofs.solver.Solver.failed_core.Goals as goal
 
 pub returns-in-UnsatUnderAssumptions-clause-call : goal.returns-in-UnsatUnderAssumptions-clause-call

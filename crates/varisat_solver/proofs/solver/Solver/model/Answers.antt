@@ -1,9 +1,9 @@
 use Rattle.std.proofs.Common.{◌≡◌, ◌∙◌, length, not, refl, sym, ap, subst, inl, Some}
-use Rattle.varisat_solver.specs.Calls.{by_state}
-use Rattle.varisat_solver.specs.Models.{IsCompletable}
-use Rattle.varisat_solver.specs.Summaries.{list_tables}
-use Rattle.varisat_solver.proofs.CallStates.{stands-valid}
-use Rattle.varisat_solver.proofs.SolverCalls.{sat-model, logs-error}
+use Rattle.varisat_solver.specs.promises.Calls.{by_state}
+use Rattle.varisat_solver.specs.promises.Models.{IsCompletable}
+use Rattle.varisat_solver.specs.promises.Summaries.{list_tables}
+use Rattle.varisat_solver.proofs.calls.CallStates.{stands-valid}
+use Rattle.varisat_solver.proofs.calls.SolverCalls.{sat-model, logs-error}
 use Rattle.varisat_solver.proofs.solver.Solver.model.Goals as goal
 
 pub returns-in_ok-list-in-Sat-clause-call : goal.returns-in_ok-list-in-Sat-clause-call

@@ -3,19 +3,19 @@ use Rattle.varisat_search.specs.declared.state.SolverState.{SolverState}
 use Rattle.varisat_search.specs.AssumptionParts.{no_assumptions}
 use Rattle.varisat_search.specs.Contexts.{view}
 use Rattle.varisat_schedule.specs.Plans.{Plan, IsPlan}
-use Rattle.varisat_names.specs.Variables.{Tables, no_variables}
+use Rattle.varisat_names.specs.promises.Variables.{Tables, no_variables}
 use Rattle.varisat_search.specs.declared.context.Context.{Context}
 use Rattle.varisat_search.specs.declared.state.SatState.TheVariants as verdict
 use Rattle.varisat_search.specs.Seen.{search_of, first_search}
 use Rattle.varisat_clause.specs.Stores.{Store}
-use Rattle.varisat_tracer.specs.Tracing.{CanLog}
-use Rattle.varisat_solver.specs.States.{empty_state}
-use Rattle.varisat_solver.specs.Spaces.{SpacesFit}
-use Rattle.varisat_solver.specs.Summaries.{spaces_of, spaces_with, RepresentsSome}
-use Rattle.varisat_proof.specs.Proving.{ProofParts, is_there}
-use Rattle.varisat_solver.proofs.CallStates.{ledger-is}
-use Rattle.varisat_solver.proofs.SolverCalls.{first-spaces, first-kept}
-use Rattle.varisat_solver.proofs.SinceSteps.{since-now, first-plan-is}
+use Rattle.varisat_tracer.specs.inside.Tracing.{CanLog}
+use Rattle.varisat_solver.specs.promises.States.{empty_state}
+use Rattle.varisat_solver.specs.inside.Spaces.{SpacesFit}
+use Rattle.varisat_solver.specs.promises.Summaries.{spaces_of, spaces_with, RepresentsSome}
+use Rattle.varisat_proof.specs.promises.Proving.{ProofParts, is_there}
+use Rattle.varisat_solver.proofs.calls.CallStates.{ledger-is}
+use Rattle.varisat_solver.proofs.calls.SolverCalls.{first-spaces, first-kept}
+use Rattle.varisat_solver.proofs.steps.SinceSteps.{since-now, first-plan-is}
 use Rattle.varisat_solver.proofs.solver.Solver.new_in.Goals as goal
 
 -- a new solver stands for the empty state

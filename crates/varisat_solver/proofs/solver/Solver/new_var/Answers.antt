@@ -1,24 +1,24 @@
 use Rattle.std.proofs.Common.{◌∙◌, inl, inr, refl, not, sym, subst, ap, arith, true, length, Err}
-use Rattle.varisat_theory.specs.Literals.{variable_of}
-use Rattle.varisat_names.specs.VarMap.{at}
+use Rattle.varisat_theory.specs.promises.Literals.{variable_of}
+use Rattle.varisat_names.specs.promises.VarMap.{at}
 use Rattle.varisat_search.specs.Contexts.{view}
 use Rattle.varisat_names.proofs.NamedVariables.{unmapped-near, unmapped-same}
-use Rattle.varisat_tracer.specs.Tracing.{tracer_state}
-use Rattle.varisat_solver.specs.Summaries.{spaces}
-use Rattle.varisat_solver.specs.States.{Ledger, with_variables}
-use Rattle.varisat_solver.specs.Names.{Naming, name_one}
-use Rattle.varisat_solver.specs.Calls.{with_naming, start, MakesVar}
-use Rattle.varisat_solver.specs.Accepting.{AreBounded}
-use Rattle.varisat_solver.proofs.AcceptClause.{with_tables, ledger-free}
-use Rattle.varisat_search.proofs.KeptNames.{given-keeps}
-use Rattle.varisat_solver.proofs.TableMarks.{is-there, there-is, assumed-keeps, marked-keeps}
-use Rattle.varisat_solver.proofs.VariableMoves.{given-most, tables-in-use}
-use Rattle.varisat_solver.proofs.CallStates.{ledger-is, none-since, stands-valid, proof-fits, flags-started, like-varied, broken, broken-unlogged}
-use Rattle.varisat_solver.proofs.OpenProofs.{goes-on-none, fits-alike, lines-of-entries, written-alike}
-use Rattle.varisat_solver.proofs.Additions.{logged-error}
-use Rattle.varisat_solver.proofs.ChangeEnds.{kept-changed, stands-broken, stands-invalid, invalid-logged}
-use Rattle.varisat_solver.proofs.SettingsCalls.{summary_of, stands-same}
-use Rattle.varisat_solver.proofs.SolverCalls.{least-free, named-alone, new-named}
+use Rattle.varisat_tracer.specs.inside.Tracing.{tracer_state}
+use Rattle.varisat_solver.specs.promises.Summaries.{spaces}
+use Rattle.varisat_solver.specs.promises.States.{Ledger, with_variables}
+use Rattle.varisat_solver.specs.promises.Names.{Naming, name_one}
+use Rattle.varisat_solver.specs.promises.Calls.{with_naming, start, MakesVar}
+use Rattle.varisat_solver.specs.inside.Accepting.{AreBounded}
+use Rattle.varisat_solver.proofs.accepting.AcceptClause.{with_tables, ledger-free}
+use Rattle.varisat_search.proofs.variables.KeptNames.{given-keeps}
+use Rattle.varisat_solver.proofs.modes.TableMarks.{is-there, there-is, assumed-keeps, marked-keeps}
+use Rattle.varisat_solver.proofs.modes.VariableMoves.{given-most, tables-in-use}
+use Rattle.varisat_solver.proofs.calls.CallStates.{ledger-is, none-since, stands-valid, proof-fits, flags-started, like-varied, broken, broken-unlogged}
+use Rattle.varisat_solver.proofs.entries.OpenProofs.{goes-on-none, fits-alike, lines-of-entries, written-alike}
+use Rattle.varisat_solver.proofs.accepting.Additions.{logged-error}
+use Rattle.varisat_solver.proofs.calls.ChangeEnds.{kept-changed, stands-broken, stands-invalid, invalid-logged}
+use Rattle.varisat_solver.proofs.calls.SettingsCalls.{summary_of, stands-same}
+use Rattle.varisat_solver.proofs.calls.SolverCalls.{least-free, named-alone, new-named}
 use Rattle.varisat_solver.proofs.solver.Solver.new_var.Given.{Over}
 use Rattle.varisat_solver.proofs.solver.Solver.new_var.Goals.{In_ok-user, then-index-max_count-via-then-index-max_count, then-index-max_count-via-else-index-max_count+then-global_watermark-max_count}
 use Rattle.varisat_solver.proofs.solver.Solver.new_var.Goals as goal

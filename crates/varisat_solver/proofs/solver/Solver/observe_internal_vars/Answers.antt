@@ -1,16 +1,16 @@
 use Rattle.std.proofs.Common.{◌∙◌, not, sym, subst, ap, refl, length, Err}
-use Rattle.varisat_solver.specs.States.{Ledger}
-use Rattle.varisat_solver.specs.Calls.{with_naming, count_anew}
-use Rattle.varisat_solver.specs.Usage.{Observes}
-use Rattle.varisat_solver.specs.ReturnedLists.{returned_variables}
-use Rattle.varisat_solver.proofs.AcceptClause.{ledger-free}
-use Rattle.varisat_solver.proofs.Additions.{logged-error}
-use Rattle.varisat_solver.proofs.CallStates.{ledger-is, none-since, begins, like-refl, broken, broken-unlogged}
-use Rattle.varisat_solver.proofs.ChangeEnds.{kept-changed, stands-broken, stands-invalid, invalid-logged}
-use Rattle.varisat_solver.proofs.VariableChanges.{turns-stay}
-use Rattle.varisat_solver.proofs.SettingsCalls.{summary_of, stands-same}
-use Rattle.varisat_tracer.specs.Tracing.{tracer_state}
-use Rattle.varisat_solver.proofs.VariableStates.{show-state, kept-after}
+use Rattle.varisat_solver.specs.promises.States.{Ledger}
+use Rattle.varisat_solver.specs.promises.Calls.{with_naming, count_anew}
+use Rattle.varisat_solver.specs.promises.Usage.{Observes}
+use Rattle.varisat_solver.specs.promises.ReturnedLists.{returned_variables}
+use Rattle.varisat_solver.proofs.accepting.AcceptClause.{ledger-free}
+use Rattle.varisat_solver.proofs.accepting.Additions.{logged-error}
+use Rattle.varisat_solver.proofs.calls.CallStates.{ledger-is, none-since, begins, like-refl, broken, broken-unlogged}
+use Rattle.varisat_solver.proofs.calls.ChangeEnds.{kept-changed, stands-broken, stands-invalid, invalid-logged}
+use Rattle.varisat_solver.proofs.modes.VariableChanges.{turns-stay}
+use Rattle.varisat_solver.proofs.calls.SettingsCalls.{summary_of, stands-same}
+use Rattle.varisat_tracer.specs.inside.Tracing.{tracer_state}
+use Rattle.varisat_solver.proofs.modes.VariableStates.{show-state, kept-after}
 use Rattle.varisat_solver.proofs.solver.Solver.observe_internal_vars.Goals as goal
 
 pub invariant_of-self-2 : goal.invariant_of-self-2

@@ -1,7 +1,7 @@
 use Rattle.std.proofs.Common.{ap, sym, ◌∙◌}
-use Rattle.varisat_solver.specs.States.{Ledger}
-use Rattle.varisat_solver.proofs.SolverCalls.{counted-few, not-valid}
-use Rattle.varisat_solver.proofs.LoggedJournals.{journal-of}
+use Rattle.varisat_solver.specs.promises.States.{Ledger}
+use Rattle.varisat_solver.proofs.calls.SolverCalls.{counted-few, not-valid}
+use Rattle.varisat_solver.proofs.entries.LoggedJournals.{journal-of}
 use Rattle.varisat_solver.proofs.solver.Solver.prove_journal.Goals as goal
 
 pub returns-clause-journal : goal.returns-clause-journal

@@ -1,9 +1,9 @@
 -- Out of memory leaves no way back, and any other fault changes nothing.
 use Rattle.std.proofs.Common.{◌∙◌, refl, sym, ap, length, Err}
-use Rattle.varisat_solver.specs.Additions.{MemoryFault, Fault}
-use Rattle.varisat_tracer.specs.Tracing.{tracer_state}
-use Rattle.varisat_solver.proofs.CallStates.{broken, broken-unlogged}
-use Rattle.varisat_solver.proofs.ChangeEnds.{stands-broken}
+use Rattle.varisat_solver.specs.promises.Additions.{MemoryFault, Fault}
+use Rattle.varisat_tracer.specs.inside.Tracing.{tracer_state}
+use Rattle.varisat_solver.proofs.calls.CallStates.{broken, broken-unlogged}
+use Rattle.varisat_solver.proofs.calls.ChangeEnds.{stands-broken}
 use Rattle.varisat_solver.proofs.solver.Solver.refuse_text.Goals as goal
 
 pub returns-in-OutOfMemory-clause-call : goal.returns-in-OutOfMemory-clause-call

@@ -5,35 +5,35 @@ use Rattle.varisat_search.specs.declared.state.SatState.TheVariants as verdict
 use Rattle.varisat_search.specs.declared.state.SolverState.{SolverState}
 use Rattle.varisat_search.specs.Contexts.{view}
 use Rattle.varisat_schedule.specs.CallSteps.{steps_since}
-use Rattle.varisat_tracer.specs.TracerLaws.{checked-runs}
-use Rattle.varisat_solver.specs.Budgets.{returned_verdict, CountsSteps}
-use Rattle.varisat_solver.specs.States.{State, Ledger}
-use Rattle.varisat_tracer.specs.Tracing.{TracerState, tracer_state, BreaksProof}
-use Rattle.varisat_solver.specs.OpenProofs.{OpenProof, ProofFits, GoesOnWriting}
-use Rattle.varisat_solver.specs.Targets.{WritesUpTo}
-use Rattle.varisat_solver.proofs.Targets.{writes-nothing, refused-unwritten, logs-writes, logs-refused, breaks-writes, refused-full, same-error}
-use Rattle.varisat_solver.proofs.OpenProofs.{proof-goes-on, broken-open, broken-on}
-use Rattle.varisat_solver.specs.Searches.{answer_at, Turn, turn_of, ComesTo, ComesOn, FindsVerdict}
-use Rattle.varisat_names.specs.Variables.{Tables}
-use Rattle.varisat_proof.specs.Calls.{CheckerState}
-use Rattle.varisat_proof.specs.Proving.{ProofParts}
-use Rattle.varisat_solver.specs.Spaces.{Spaces, SpacesFit}
-use Rattle.varisat_solver.specs.Summaries.{Represents, RepresentsSome, spaces_of, spaces_with, undecided_spaces}
-use Rattle.varisat_solver.specs.Calls.{by_state, with_steps, Searches, IsSpent, ReturnsVerdict}
+use Rattle.varisat_tracer.specs.inside.TracerLaws.{checked-runs}
+use Rattle.varisat_solver.specs.promises.Budgets.{returned_verdict, CountsSteps}
+use Rattle.varisat_solver.specs.promises.States.{State, Ledger}
+use Rattle.varisat_tracer.specs.inside.Tracing.{TracerState, tracer_state, BreaksProof}
+use Rattle.varisat_solver.specs.promises.OpenProofs.{OpenProof, ProofFits, GoesOnWriting}
+use Rattle.varisat_solver.specs.promises.Targets.{WritesUpTo}
+use Rattle.varisat_solver.proofs.entries.Targets.{writes-nothing, refused-unwritten, logs-writes, logs-refused, breaks-writes, refused-full, same-error}
+use Rattle.varisat_solver.proofs.entries.OpenProofs.{proof-goes-on, broken-open, broken-on}
+use Rattle.varisat_solver.specs.inside.Searches.{answer_at, Turn, turn_of, ComesTo, ComesOn, FindsVerdict}
+use Rattle.varisat_names.specs.promises.Variables.{Tables}
+use Rattle.varisat_proof.specs.promises.Calls.{CheckerState}
+use Rattle.varisat_proof.specs.promises.Proving.{ProofParts}
+use Rattle.varisat_solver.specs.inside.Spaces.{Spaces, SpacesFit}
+use Rattle.varisat_solver.specs.promises.Summaries.{Represents, RepresentsSome, spaces_of, spaces_with, undecided_spaces}
+use Rattle.varisat_solver.specs.promises.Calls.{by_state, with_steps, Searches, IsSpent, ReturnsVerdict}
 use Rattle.varisat_solver.specs.declared.solver.SolverError.{SolverError}
 use Rattle.varisat_solver.specs.declared.solver.SolverError.TheVariants.{Interrupted, ClauseStoreFull, Invalid}
 use Rattle.varisat_search.specs.StepErrors.{step_faults}
-use Rattle.varisat_solver.specs.Refusals.{step_refusal, returned_faults}
-use Rattle.varisat_solver.proofs.CallStates.{ledger-is, more-since, stands-valid, proof-fits, broken, broken-invalid, searches-broken}
-use Rattle.varisat_solver.proofs.AcceptClause.{few-made}
-use Rattle.varisat_solver.specs.Changes.{invalidated}
-use Rattle.varisat_solver.proofs.SettingsCalls.{summary_of, stands-same}
-use Rattle.varisat_solver.proofs.SolverCalls.{counted-call, was-unknown, sat-model, sat-right, known-logged, false-right, false-core, answered-true, answered-false, answered-none}
-use Rattle.varisat_solver.proofs.LoggedEntries.{lists-ended, lists-on}
-use Rattle.varisat_solver.proofs.SolverSteps.{unknown-undecided, after-solve, flags-after, comes-satisfiable, comes-unsatisfiable, comes-fits, comes-verdict, comes-interrupted, interrupted-still}
+use Rattle.varisat_solver.specs.promises.Refusals.{step_refusal, returned_faults}
+use Rattle.varisat_solver.proofs.calls.CallStates.{ledger-is, more-since, stands-valid, proof-fits, broken, broken-invalid, searches-broken}
+use Rattle.varisat_solver.proofs.accepting.AcceptClause.{few-made}
+use Rattle.varisat_solver.specs.inside.Changes.{invalidated}
+use Rattle.varisat_solver.proofs.calls.SettingsCalls.{summary_of, stands-same}
+use Rattle.varisat_solver.proofs.calls.SolverCalls.{counted-call, was-unknown, sat-model, sat-right, known-logged, false-right, false-core, answered-true, answered-false, answered-none}
+use Rattle.varisat_solver.proofs.entries.LoggedEntries.{lists-ended, lists-on}
+use Rattle.varisat_solver.proofs.steps.SolverSteps.{unknown-undecided, after-solve, flags-after, comes-satisfiable, comes-unsatisfiable, comes-fits, comes-verdict, comes-interrupted, interrupted-still}
 use Rattle.varisat_solver.proofs.solver.Solver.seek.Given.{Over}
 use Rattle.varisat_solver.proofs.solver.Solver.seek.Goals.{In-Ok-Some, In-Ok-None}
-use Rattle.varisat_solver.proofs.ChangeEnds.{stands-invalid, invalid-logged}
+use Rattle.varisat_solver.proofs.calls.ChangeEnds.{stands-invalid, invalid-logged}
 use Rattle.varisat_solver.proofs.solver.Solver.seek.Goals as goal
 
 -- 1. What the search comes to.

@@ -1,21 +1,21 @@
 -- The variable's mode changes, and it may leave; or the call is refused.
 use Rattle.std.proofs.Common.{◌∙◌, not, subst, sym, ap, refl, length, Err}
-use Rattle.varisat_proof.specs.Proving.{ProofParts, is_there}
-use Rattle.varisat_tracer.specs.Tracing.{tracer_state}
-use Rattle.varisat_tracer.specs.TracerLaws.{checked-runs}
-use Rattle.varisat_solver.specs.States.{Ledger, with_variables}
-use Rattle.varisat_solver.specs.Journals.{with_entries}
-use Rattle.varisat_solver.specs.Usage.{ChangesMode}
-use Rattle.varisat_solver.proofs.StepEntries.{leaving-derived}
-use Rattle.varisat_solver.proofs.AcceptClause.{proof-free}
-use Rattle.varisat_solver.proofs.Additions.{logged-error}
-use Rattle.varisat_solver.proofs.CallStates.{ledger-is, none-since, begins, broken, broken-unlogged}
-use Rattle.varisat_solver.proofs.ChangeEnds.{kept-changed, stands-broken, stands-invalid, invalid-logged}
-use Rattle.varisat_solver.proofs.LoggedEntries.{lists-derived, lists-on}
-use Rattle.varisat_solver.proofs.ModeChanges.{changed-stays, changed-logs, with_changed, mode-changed, mode-invalid, mode-not-changed, mode-broken}
-use Rattle.varisat_solver.proofs.OpenProofs.{proof-goes-on, lines-of-entries, barred-before, written-alike}
-use Rattle.varisat_solver.proofs.SettingsCalls.{summary_of, stands-same}
-use Rattle.varisat_solver.proofs.VariableStates.{unassumed-state, kept-after}
+use Rattle.varisat_proof.specs.promises.Proving.{ProofParts, is_there}
+use Rattle.varisat_tracer.specs.inside.Tracing.{tracer_state}
+use Rattle.varisat_tracer.specs.inside.TracerLaws.{checked-runs}
+use Rattle.varisat_solver.specs.promises.States.{Ledger, with_variables}
+use Rattle.varisat_solver.specs.promises.Journals.{with_entries}
+use Rattle.varisat_solver.specs.promises.Usage.{ChangesMode}
+use Rattle.varisat_solver.proofs.entries.StepEntries.{leaving-derived}
+use Rattle.varisat_solver.proofs.accepting.AcceptClause.{proof-free}
+use Rattle.varisat_solver.proofs.accepting.Additions.{logged-error}
+use Rattle.varisat_solver.proofs.calls.CallStates.{ledger-is, none-since, begins, broken, broken-unlogged}
+use Rattle.varisat_solver.proofs.calls.ChangeEnds.{kept-changed, stands-broken, stands-invalid, invalid-logged}
+use Rattle.varisat_solver.proofs.entries.LoggedEntries.{lists-derived, lists-on}
+use Rattle.varisat_solver.proofs.modes.ModeChanges.{changed-stays, changed-logs, with_changed, mode-changed, mode-invalid, mode-not-changed, mode-broken}
+use Rattle.varisat_solver.proofs.entries.OpenProofs.{proof-goes-on, lines-of-entries, barred-before, written-alike}
+use Rattle.varisat_solver.proofs.calls.SettingsCalls.{summary_of, stands-same}
+use Rattle.varisat_solver.proofs.modes.VariableStates.{unassumed-state, kept-after}
 use Rattle.varisat_solver.proofs.solver.Solver.set_mode.Goals as goal
 
 pub invariant_of-self-2 : goal.invariant_of-self-2

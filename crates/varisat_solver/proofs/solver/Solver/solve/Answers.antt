@@ -1,13 +1,13 @@
 -- The proof is marked and flushed behind the steps, or can't be flushed.
 use Rattle.std.proofs.Common.{◌≡◌, ◌∙◌, true, not, sym, ap, subst}
-use Rattle.varisat_solver.specs.Detaching.{DetachesInTime, GoesOnDetaching}
+use Rattle.varisat_solver.specs.promises.Detaching.{DetachesInTime, GoesOnDetaching}
 use Rattle.varisat_solver.specs.declared.solver.SolverError.TheVariants.{ClauseStoreFull}
-use Rattle.varisat_solver.proofs.Targets.{writes-marked, ends-writing, fails-writing, ends-not-full, still-full, same-error, ends-badly-invalid}
-use Rattle.varisat_solver.specs.Calls.{Solves, by_state}
-use Rattle.varisat_solver.specs.ProofCalls.{with_proof}
-use Rattle.varisat_solver.specs.Summaries.{Summary, Represents}
-use Rattle.varisat_solver.proofs.Additions.{logged-error}
-use Rattle.varisat_solver.proofs.SearchRounds.{solve-ends, solve-fails, stood-before}
+use Rattle.varisat_solver.proofs.entries.Targets.{writes-marked, ends-writing, fails-writing, ends-not-full, still-full, same-error, ends-badly-invalid}
+use Rattle.varisat_solver.specs.promises.Calls.{Solves, by_state}
+use Rattle.varisat_solver.specs.promises.ProofCalls.{with_proof}
+use Rattle.varisat_solver.specs.promises.Summaries.{Summary, Represents}
+use Rattle.varisat_solver.proofs.accepting.Additions.{logged-error}
+use Rattle.varisat_solver.proofs.steps.SearchRounds.{solve-ends, solve-fails, stood-before}
 use Rattle.varisat_solver.proofs.solver.Solver.solve.Goals as goal
 
 pub returns-in_err-end_search-clause-call : goal.returns-in_err-end_search-clause-call

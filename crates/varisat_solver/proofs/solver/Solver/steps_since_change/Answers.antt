@@ -1,7 +1,7 @@
 use Rattle.std.proofs.Common.{◌∙◌, ◌-◌, length, refl, sym, ap, subst}
-use Rattle.varisat_theory.specs.CallBounds.{AreFew}
-use Rattle.varisat_solver.specs.States.{Ledger}
-use Rattle.varisat_solver.proofs.SolverCalls.{counted-few, not-valid}
+use Rattle.varisat_theory.specs.promises.CallBounds.{AreFew}
+use Rattle.varisat_solver.specs.promises.States.{Ledger}
+use Rattle.varisat_solver.proofs.calls.SolverCalls.{counted-few, not-valid}
 use Rattle.varisat_solver.proofs.solver.Solver.steps_since_change.Goals as goal
 
 pub returns : goal.returns

@@ -1,16 +1,16 @@
 use Rattle.std.proofs.Common.{◌∙◌, Some, Err, not, refl, sym, ap, subst}
-use Rattle.varisat_proof.specs.Proving.{ProofParts}
-use Rattle.varisat_tracer.specs.Tracing.{CanLog}
-use Rattle.varisat_solver.specs.OpenProofs.{first_proof}
-use Rattle.varisat_solver.specs.States.{Ledger}
-use Rattle.varisat_solver.specs.Summaries.{spaces_with, RepresentsSome}
-use Rattle.varisat_solver.specs.Calls.{count_anew}
-use Rattle.varisat_solver.specs.ProofCalls.{with_proof, OpensProof}
-use Rattle.varisat_solver.proofs.ChangeEnds.{stands-invalid}
-use Rattle.varisat_solver.proofs.CallStates.{stands-valid}
-use Rattle.varisat_solver.proofs.OpenProofs.{first-same, first-written, none-there}
-use Rattle.varisat_solver.proofs.SettingsCalls.{stands-with-proof}
-use Rattle.varisat_solver.proofs.LoggedJournals.{left-alone}
+use Rattle.varisat_proof.specs.promises.Proving.{ProofParts}
+use Rattle.varisat_tracer.specs.inside.Tracing.{CanLog}
+use Rattle.varisat_solver.specs.promises.OpenProofs.{first_proof}
+use Rattle.varisat_solver.specs.promises.States.{Ledger}
+use Rattle.varisat_solver.specs.promises.Summaries.{spaces_with, RepresentsSome}
+use Rattle.varisat_solver.specs.promises.Calls.{count_anew}
+use Rattle.varisat_solver.specs.promises.ProofCalls.{with_proof, OpensProof}
+use Rattle.varisat_solver.proofs.calls.ChangeEnds.{stands-invalid}
+use Rattle.varisat_solver.proofs.calls.CallStates.{stands-valid}
+use Rattle.varisat_solver.proofs.entries.OpenProofs.{first-same, first-written, none-there}
+use Rattle.varisat_solver.proofs.calls.SettingsCalls.{stands-with-proof}
+use Rattle.varisat_solver.proofs.entries.LoggedJournals.{left-alone}
 use Rattle.varisat_solver.proofs.solver.Solver.write_proof.Goals as goal
 
 pub invariant_of-self : goal.invariant_of-self

@@ -1,4 +1,4 @@
-use Rattle.varisat_theory.proofs.Lines.{beginning_derives}
+use Rattle.varisat_theory.proofs.clauses.Lines.{beginning_derives}
 use Rattle.varisat_theory.proofs.laws.growth.beginning_derives.Goals as goal
 
 pub returns : goal.returns

@@ -1,4 +1,4 @@
-use Rattle.varisat_theory.proofs.Lines.{derivations_join}
+use Rattle.varisat_theory.proofs.clauses.Lines.{derivations_join}
 use Rattle.varisat_theory.proofs.laws.growth.derivations_join.Goals as goal
 
 pub returns : goal.returns

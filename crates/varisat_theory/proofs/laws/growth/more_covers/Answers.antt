@@ -1,5 +1,5 @@
-use Rattle.varisat_theory.proofs.Growth.{covered_by_more, covered_by_part}
-use Rattle.varisat_theory.proofs.Held.{same_clauses_cover}
+use Rattle.varisat_theory.proofs.clauses.Growth.{covered_by_more, covered_by_part}
+use Rattle.varisat_theory.proofs.clauses.Held.{same_clauses_cover}
 use Rattle.varisat_theory.proofs.laws.growth.more_covers.Goals as goal
 
 pub returns : goal.returns

@@ -1,4 +1,4 @@
-use Rattle.varisat_theory.proofs.HeldRetirements.{same_without, without_less}
+use Rattle.varisat_theory.proofs.journals.HeldRetirements.{same_without, without_less}
 use Rattle.varisat_theory.proofs.laws.held.same_clauses_drop.Goals as goal
 
 pub returns : goal.returns

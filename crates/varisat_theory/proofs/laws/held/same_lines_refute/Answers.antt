@@ -1,4 +1,4 @@
-use Rattle.varisat_theory.proofs.Lines.{refutes_same}
+use Rattle.varisat_theory.proofs.clauses.Lines.{refutes_same}
 use Rattle.varisat_theory.proofs.laws.held.same_lines_refute.Goals as goal
 
 pub returns : goal.returns

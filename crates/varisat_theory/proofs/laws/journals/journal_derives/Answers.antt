@@ -1,4 +1,4 @@
-use Rattle.varisat_theory.proofs.Journals.{leads_derives, leads_refutes}
+use Rattle.varisat_theory.proofs.journals.Journals.{leads_derives, leads_refutes}
 use Rattle.varisat_theory.proofs.laws.journals.journal_derives.Goals as goal
 
 pub returns : goal.returns

@@ -1,4 +1,4 @@
-use Rattle.varisat_theory.proofs.Journals.{leads_unique, by_leads_same}
+use Rattle.varisat_theory.proofs.journals.Journals.{leads_unique, by_leads_same}
 use Rattle.varisat_theory.proofs.laws.journals.journal_is_determined.Goals as goal
 
 pub returns : goal.returns

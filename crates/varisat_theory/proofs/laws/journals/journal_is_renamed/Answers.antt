@@ -1,4 +1,4 @@
-use Rattle.varisat_theory.proofs.RenamedJournals.{leads_renamed, leads_unrenamed}
+use Rattle.varisat_theory.proofs.journals.RenamedJournals.{leads_renamed, leads_unrenamed}
 use Rattle.varisat_theory.proofs.laws.journals.journal_is_renamed.Goals as goal
 
 pub returns : goal.returns

@@ -1,5 +1,5 @@
 use Rattle.std.proofs.Common.{◌≡◌, true, [], ◌∷◌, refl}
-use Rattle.varisat_theory.proofs.Learning.{core_conflicts}
+use Rattle.varisat_theory.proofs.clauses.Learning.{core_conflicts}
 use Rattle.varisat_theory.proofs.laws.learning.core_conflicts.Goals as goal
 
 pub returns : goal.returns

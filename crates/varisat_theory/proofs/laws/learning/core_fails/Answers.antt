@@ -1,4 +1,4 @@
-use Rattle.varisat_theory.proofs.Sound.{core_fails, core_stays}
+use Rattle.varisat_theory.proofs.clauses.Sound.{core_fails, core_stays}
 use Rattle.varisat_theory.proofs.laws.learning.core_fails.Goals as goal
 
 pub returns : goal.returns

@@ -1,4 +1,4 @@
-use Rattle.varisat_theory.proofs.Learning.{core_follows, core_from_clause}
+use Rattle.varisat_theory.proofs.clauses.Learning.{core_follows, core_from_clause}
 use Rattle.varisat_theory.proofs.laws.learning.core_follows.Goals as goal
 
 pub returns : goal.returns

@@ -1,5 +1,5 @@
 use Rattle.std.proofs.Common.{inl, refl}
-use Rattle.varisat_theory.proofs.Example.{core_earlier, core_ends, core_there}
+use Rattle.varisat_theory.proofs.clauses.Example.{core_earlier, core_ends, core_there}
 use Rattle.varisat_theory.proofs.laws.learning.core_on_example.Goals as goal
 
 pub returns : goal.returns

@@ -1,4 +1,4 @@
-use Rattle.varisat_theory.proofs.Implication.{implied_follows}
+use Rattle.varisat_theory.proofs.clauses.Implication.{implied_follows}
 use Rattle.varisat_theory.proofs.laws.learning.implied_follows.Goals as goal
 
 pub returns : goal.returns

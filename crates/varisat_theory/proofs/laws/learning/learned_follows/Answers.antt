@@ -1,5 +1,5 @@
 use Rattle.std.proofs.Common.{◌≡◌, true}
-use Rattle.varisat_theory.proofs.Learning.{learned_follows}
+use Rattle.varisat_theory.proofs.clauses.Learning.{learned_follows}
 use Rattle.varisat_theory.proofs.laws.learning.learned_follows.Goals as goal
 
 pub returns : goal.returns

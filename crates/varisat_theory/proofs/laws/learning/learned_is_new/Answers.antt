@@ -1,4 +1,4 @@
-use Rattle.varisat_theory.proofs.Saturated.{learned_is_new}
+use Rattle.varisat_theory.proofs.clauses.Saturated.{learned_is_new}
 use Rattle.varisat_theory.proofs.laws.learning.learned_is_new.Goals as goal
 
 pub returns : goal.returns

@@ -1,5 +1,5 @@
 use Rattle.std.proofs.Common.{◌≡◌, true}
-use Rattle.varisat_theory.proofs.Learning.{minimized_follows}
+use Rattle.varisat_theory.proofs.clauses.Learning.{minimized_follows}
 use Rattle.varisat_theory.proofs.laws.learning.minimized_follows.Goals as goal
 
 pub returns : goal.returns

@@ -1,4 +1,4 @@
-use Rattle.varisat_theory.proofs.Learning.{follows_at_zero}
+use Rattle.varisat_theory.proofs.clauses.Learning.{follows_at_zero}
 use Rattle.varisat_theory.proofs.laws.learning.shorter_follows.Goals as goal
 
 pub returns : goal.returns

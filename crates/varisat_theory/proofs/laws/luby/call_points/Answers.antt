@@ -1,4 +1,4 @@
-use Rattle.varisat_theory.proofs.RestartPoints.{call_point_zero, call_point_next, call_point_first}
+use Rattle.varisat_theory.proofs.bounds.RestartPoints.{call_point_zero, call_point_next, call_point_first}
 use Rattle.varisat_theory.proofs.laws.luby.call_points.Goals as goal
 
 pub returns : goal.returns

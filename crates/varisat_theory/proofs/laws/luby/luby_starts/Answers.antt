@@ -1,5 +1,5 @@
 use Rattle.std.proofs.Common.{refl}
-use Rattle.varisat_theory.specs.Luby.{luby}
+use Rattle.varisat_theory.specs.inside.Luby.{luby}
 use Rattle.varisat_theory.proofs.laws.luby.luby_starts.Goals as goal
 
 pub returns : goal.returns

@@ -1,4 +1,4 @@
-use Rattle.varisat_theory.proofs.LubyWalk.{walk-luby}
+use Rattle.varisat_theory.proofs.bounds.LubyWalk.{walk-luby}
 use Rattle.varisat_theory.proofs.laws.luby.walk_is_luby.Goals as goal
 
 pub returns : goal.returns

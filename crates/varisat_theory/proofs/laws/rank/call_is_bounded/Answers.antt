@@ -1,4 +1,4 @@
-use Rattle.varisat_theory.proofs.CallBounds.{call_bounded}
+use Rattle.varisat_theory.proofs.bounds.CallBounds.{call_bounded}
 use Rattle.varisat_theory.proofs.laws.rank.call_is_bounded.Goals as goal
 
 pub returns : goal.returns

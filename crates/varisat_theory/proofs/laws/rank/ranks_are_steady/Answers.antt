@@ -1,4 +1,4 @@
-use Rattle.varisat_theory.proofs.Ranks.{rank_steady}
+use Rattle.varisat_theory.proofs.bounds.Ranks.{rank_steady}
 use Rattle.varisat_theory.proofs.laws.rank.ranks_are_steady.Goals as goal
 
 pub returns : goal.returns

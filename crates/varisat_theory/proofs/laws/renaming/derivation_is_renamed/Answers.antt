@@ -1,4 +1,4 @@
-use Rattle.varisat_theory.proofs.Renaming.{derives_renamed}
+use Rattle.varisat_theory.proofs.journals.Renaming.{derives_renamed}
 use Rattle.varisat_theory.proofs.laws.renaming.derivation_is_renamed.Goals as goal
 
 pub returns : goal.returns

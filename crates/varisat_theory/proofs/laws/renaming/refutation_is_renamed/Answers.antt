@@ -1,4 +1,4 @@
-use Rattle.varisat_theory.proofs.Renaming.{refutes_renamed}
+use Rattle.varisat_theory.proofs.journals.Renaming.{refutes_renamed}
 use Rattle.varisat_theory.proofs.laws.renaming.refutation_is_renamed.Goals as goal
 
 pub returns : goal.returns

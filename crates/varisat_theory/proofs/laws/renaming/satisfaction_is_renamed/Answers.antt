@@ -1,4 +1,4 @@
-use Rattle.varisat_theory.proofs.Renaming.{satisfies_renamed, renamed_satisfies}
+use Rattle.varisat_theory.proofs.journals.Renaming.{satisfies_renamed, renamed_satisfies}
 use Rattle.varisat_theory.proofs.laws.renaming.satisfaction_is_renamed.Goals as goal
 
 pub returns : goal.returns

@@ -1,4 +1,4 @@
-use Rattle.varisat_theory.proofs.Sound.{not_both_answers}
+use Rattle.varisat_theory.proofs.clauses.Sound.{not_both_answers}
 use Rattle.varisat_theory.proofs.laws.soundness.answers_exclude.Goals as goal
 
 pub returns : goal.returns

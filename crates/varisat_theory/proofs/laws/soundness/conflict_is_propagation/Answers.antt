@@ -1,4 +1,4 @@
-use Rattle.varisat_theory.proofs.ConflictForms.{uses_from_conflicts, conflicts_from_uses}
+use Rattle.varisat_theory.proofs.clauses.ConflictForms.{uses_from_conflicts, conflicts_from_uses}
 use Rattle.varisat_theory.proofs.laws.soundness.conflict_is_propagation.Goals as goal
 
 pub returns : goal.returns

@@ -1,4 +1,4 @@
-use Rattle.varisat_theory.proofs.Sound.{conflicts_sound}
+use Rattle.varisat_theory.proofs.clauses.Sound.{conflicts_sound}
 use Rattle.varisat_theory.proofs.laws.soundness.conflict_is_sound.Goals as goal
 
 pub returns : goal.returns

@@ -1,4 +1,4 @@
-use Rattle.varisat_theory.proofs.Lines.{derives_derivation, derives_present, derives_whole}
+use Rattle.varisat_theory.proofs.clauses.Lines.{derives_derivation, derives_present, derives_whole}
 use Rattle.varisat_theory.proofs.laws.soundness.derivation_is_line_by_line.Goals as goal
 
 pub returns : goal.returns

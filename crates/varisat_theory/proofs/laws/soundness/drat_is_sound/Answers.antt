@@ -1,4 +1,4 @@
-use Rattle.varisat_theory.proofs.RatLines.{drat_sound, drat_refutes}
+use Rattle.varisat_theory.proofs.clauses.RatLines.{drat_sound, drat_refutes}
 use Rattle.varisat_theory.proofs.laws.soundness.drat_is_sound.Goals as goal
 
 pub returns : goal.returns

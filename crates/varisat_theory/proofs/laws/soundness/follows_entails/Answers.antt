@@ -1,4 +1,4 @@
-use Rattle.varisat_theory.proofs.Sound.{follows_entails}
+use Rattle.varisat_theory.proofs.clauses.Sound.{follows_entails}
 use Rattle.varisat_theory.proofs.laws.soundness.follows_entails.Goals as goal
 
 pub returns : goal.returns

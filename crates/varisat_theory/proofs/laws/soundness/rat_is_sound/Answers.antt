@@ -1,4 +1,4 @@
-use Rattle.varisat_theory.proofs.RatLines.{rat_sound}
+use Rattle.varisat_theory.proofs.clauses.RatLines.{rat_sound}
 use Rattle.varisat_theory.proofs.laws.soundness.rat_is_sound.Goals as goal
 
 pub returns : goal.returns

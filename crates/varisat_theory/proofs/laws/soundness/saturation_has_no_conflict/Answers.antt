@@ -1,4 +1,4 @@
-use Rattle.varisat_theory.proofs.Saturated.{saturated_no_conflict}
+use Rattle.varisat_theory.proofs.clauses.Saturated.{saturated_no_conflict}
 use Rattle.varisat_theory.proofs.laws.soundness.saturation_has_no_conflict.Goals as goal
 
 pub returns : goal.returns

@@ -1,4 +1,4 @@
-use Rattle.varisat_theory.proofs.Assigned.{same_set_satisfied, tautology_satisfied}
+use Rattle.varisat_theory.proofs.clauses.Assigned.{same_set_satisfied, tautology_satisfied}
 use Rattle.varisat_theory.proofs.laws.soundness.sets_are_satisfied_alike.Goals as goal
 
 pub returns : goal.returns

@@ -1,4 +1,4 @@
-use Rattle.varisat_theory.proofs.StepAccounts.{first_accounts}
+use Rattle.varisat_theory.proofs.steps.StepAccounts.{first_accounts}
 use Rattle.varisat_theory.proofs.laws.steps.first_accounts.Goals as goal
 
 pub returns : goal.returns

@@ -1,4 +1,4 @@
-use Rattle.varisat_theory.proofs.StepEnds.{fresh_is_new}
+use Rattle.varisat_theory.proofs.steps.StepEnds.{fresh_is_new}
 use Rattle.varisat_theory.proofs.laws.steps.fresh_is_new.Goals as goal
 
 pub returns : goal.returns

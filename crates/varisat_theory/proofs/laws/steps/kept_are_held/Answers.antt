@@ -1,4 +1,4 @@
-use Rattle.varisat_theory.proofs.SearchFits.{kept_are_held}
+use Rattle.varisat_theory.proofs.steps.SearchFits.{kept_are_held}
 use Rattle.varisat_theory.proofs.laws.steps.kept_are_held.Goals as goal
 
 pub returns : goal.returns

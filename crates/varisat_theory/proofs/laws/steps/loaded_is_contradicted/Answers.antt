@@ -1,4 +1,4 @@
-use Rattle.varisat_theory.proofs.StepLoads.{loaded_is_contradicted}
+use Rattle.varisat_theory.proofs.steps.StepLoads.{loaded_is_contradicted}
 use Rattle.varisat_theory.proofs.laws.steps.loaded_is_contradicted.Goals as goal
 
 pub returns : goal.returns

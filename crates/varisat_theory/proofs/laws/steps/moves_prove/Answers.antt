@@ -1,4 +1,4 @@
-use Rattle.varisat_theory.proofs.StepChanges.{moves_prove}
+use Rattle.varisat_theory.proofs.steps.StepChanges.{moves_prove}
 use Rattle.varisat_theory.proofs.laws.steps.moves_prove.Goals as goal
 
 pub returns : goal.returns

@@ -1,4 +1,4 @@
-use Rattle.varisat_theory.proofs.StepCovers.{names_are_loaded}
+use Rattle.varisat_theory.proofs.journals.StepCovers.{names_are_loaded}
 use Rattle.varisat_theory.proofs.laws.steps.names_are_loaded.Goals as goal
 
 pub returns : goal.returns

@@ -1,4 +1,4 @@
-use Rattle.varisat_theory.proofs.StepCovers.{names_stay_covered}
+use Rattle.varisat_theory.proofs.journals.StepCovers.{names_stay_covered}
 use Rattle.varisat_theory.proofs.laws.steps.names_stay_covered.Goals as goal
 
 pub returns : goal.returns

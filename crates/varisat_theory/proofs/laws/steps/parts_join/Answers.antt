@@ -1,4 +1,4 @@
-use Rattle.varisat_theory.proofs.StepParts.{parts_join}
+use Rattle.varisat_theory.proofs.steps.StepParts.{parts_join}
 use Rattle.varisat_theory.proofs.laws.steps.parts_join.Goals as goal
 
 pub returns : goal.returns

@@ -1,4 +1,4 @@
-use Rattle.varisat_theory.proofs.StepAccounts.{step_accounts}
+use Rattle.varisat_theory.proofs.steps.StepAccounts.{step_accounts}
 use Rattle.varisat_theory.proofs.laws.steps.step_accounts.Goals as goal
 
 pub returns : goal.returns

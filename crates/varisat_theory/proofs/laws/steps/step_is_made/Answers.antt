@@ -1,4 +1,4 @@
-use Rattle.varisat_theory.proofs.StepsMade.{one_more_made}
+use Rattle.varisat_theory.proofs.steps.StepsMade.{one_more_made}
 use Rattle.varisat_theory.proofs.laws.steps.step_is_made.Goals as goal
 
 pub returns : goal.returns

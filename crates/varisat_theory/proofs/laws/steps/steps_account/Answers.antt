@@ -1,4 +1,4 @@
-use Rattle.varisat_theory.proofs.StepsMade.{steps_account}
+use Rattle.varisat_theory.proofs.steps.StepsMade.{steps_account}
 use Rattle.varisat_theory.proofs.laws.steps.steps_account.Goals as goal
 
 pub returns : goal.returns

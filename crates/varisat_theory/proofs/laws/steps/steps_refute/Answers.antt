@@ -1,4 +1,4 @@
-use Rattle.varisat_theory.proofs.StepsMade.{steps_refute}
+use Rattle.varisat_theory.proofs.steps.StepsMade.{steps_refute}
 use Rattle.varisat_theory.proofs.laws.steps.steps_refute.Goals as goal
 
 pub returns : goal.returns

@@ -1,4 +1,4 @@
-use Rattle.varisat_theory.proofs.StepChanges.{unit_is_proved}
+use Rattle.varisat_theory.proofs.steps.StepChanges.{unit_is_proved}
 use Rattle.varisat_theory.proofs.laws.steps.unit_is_proved.Goals as goal
 
 pub returns : goal.returns

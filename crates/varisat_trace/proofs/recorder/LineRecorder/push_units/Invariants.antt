@@ -1,5 +1,5 @@
 use Rattle.std.proofs.Common.{◌≡◌, ◌++◌, take}
-use Rattle.varisat_theory.specs.StepLaws.{unit_lines}
+use Rattle.varisat_theory.specs.inside.StepLaws.{unit_lines}
 use Rattle.varisat_trace.proofs.recorder.LineRecorder.push_units.Given as goal
 
 abbrev pub invariant-loop-unit : goal.invariant-loop-unit

@@ -1,9 +1,9 @@
 use Rattle.std.proofs.Common.{◌≡◌, List, ◌++◌, true, take, refl, ap, sym, ◌∙◌}
-use Rattle.varisat_theory.specs.Derivations.{Line}
-use Rattle.varisat_theory.specs.StepLaws.{unit_lines}
+use Rattle.varisat_theory.specs.promises.Derivations.{Line}
+use Rattle.varisat_theory.specs.inside.StepLaws.{unit_lines}
 use Rattle.varisat_trace.specs.declared.step.ProofStep.{ProofStep}
-use Rattle.varisat_theory.specs.Journals.{lines_of}
-use Rattle.varisat_theory.proofs.Journals.{written_lines}
+use Rattle.varisat_theory.specs.promises.Journals.{lines_of}
+use Rattle.varisat_theory.proofs.journals.Journals.{written_lines}
 use Rattle.varisat_trace.specs.Traces.{entries_of}
 use Rattle.varisat_trace.specs.Recorded.{BreaksOffAt}
 use Rattle.varisat_trace.specs.declared.tracer.TraceError.TheVariants.{Memory}

@@ -1,7 +1,7 @@
 use Rattle.std.proofs.Common.{List, [], ◌∷◌, refl, ap, ◌∙◌}
-use Rattle.varisat_theory.specs.Literals.{Literal}
-use Rattle.varisat_theory.specs.Journals.{Assumes}
-use Rattle.varisat_tracer.specs.Tracing.{TracerState}
+use Rattle.varisat_theory.specs.promises.Literals.{Literal}
+use Rattle.varisat_theory.specs.promises.Journals.{Assumes}
+use Rattle.varisat_tracer.specs.inside.Tracing.{TracerState}
 use Rattle.varisat_tracer.proofs.GlobalSteps.{logs-logged, unlogged}
 use Rattle.varisat_tracer.proofs.tracer.SolverTracer.add_assumptions.Goals as goal
 

@@ -1,6 +1,6 @@
 use Rattle.std.proofs.Common.{[], ◌∷◌}
-use Rattle.varisat_theory.specs.Journals.{Retires}
-use Rattle.varisat_tracer.specs.TracerLaws.{checked-runs}
+use Rattle.varisat_theory.specs.promises.Journals.{Retires}
+use Rattle.varisat_tracer.specs.inside.TracerLaws.{checked-runs}
 use Rattle.varisat_tracer.proofs.Logging.{same-open}
 use Rattle.varisat_tracer.proofs.tracer.SolverTracer.retire_var_if_unused.Goals as goal
 

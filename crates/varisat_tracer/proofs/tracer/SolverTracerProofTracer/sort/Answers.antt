@@ -1,6 +1,6 @@
 use Rattle.std.proofs.Common.{rules}
 use Rattle.std.proofs.lemmas.List.Sorted.{IsNonDecreasingBy-from_sort_by_key}
-use Rattle.varisat_tracer.specs.Tracing.{global_literal}
+use Rattle.varisat_tracer.specs.inside.Tracing.{global_literal}
 use Rattle.varisat_tracer.proofs.tracer.SolverTracerProofTracer.sort.Goals as goal
 
 pub returns-clause-sorted : goal.returns-clause-sorted

@@ -1,6 +1,6 @@
 use Rattle.std.proofs.Common.{ℕ, List, ◌≡◌, ◌≤◌, ◌<◌, ◌++◌, ◌∷◌, [], ◌∙◌, ap, arith, length, refl, false}
 use Rattle.std.specs.Prelude.{Bool}
-use Rattle.varisat_literals.specs.Numbers.{variable_limit}
+use Rattle.varisat_literals.specs.promises.Numbers.{variable_limit}
 use Rattle.varisat_vsids.specs.Heaps.{availability}
 use Rattle.varisat_vsids.proofs.HeapGrowth.{longer_by_one, one_more, one_more_available, one_more_filled}
 use Rattle.varisat_vsids.proofs.HeapView.{same_heap}

@@ -1,5 +1,5 @@
 use Rattle.std.proofs.Common.{◌≡◌}
-use Rattle.varisat_formula.specs.Parsed.{reading_with, Turns}
+use Rattle.varisat_formula.specs.promises.Parsed.{reading_with, Turns}
 use Rattle.varisat_formula.proofs.dimacs.incremental.PieceReader.parse_incremental.Given as goal
 
 abbrev pub invariant-pieces : goal.invariant-pieces

@@ -1,8 +1,8 @@
 use Rattle.std.proofs.Common.{[], ◌∙◌, sym, ap, refl}
 use Rattle.varisat_formula.specs.declared.dimacs.parser.ParserState.{ParserState}
 use Rattle.varisat_formula.specs.declared.dimacs.parser.ParserState.TheVariants.{Header, Plain}
-use Rattle.varisat_formula.specs.Rest.{Progress, word_items}
-use Rattle.varisat_formula.specs.Dimacs.{read}
+use Rattle.varisat_formula.specs.promises.Rest.{Progress, word_items}
+use Rattle.varisat_formula.specs.promises.Dimacs.{read}
 use Rattle.varisat_formula.proofs.ParserProgress.{reads_byte, start_more, header_more, plain_blank, plain_more}
 use Rattle.varisat_formula.proofs.dimacs.parser.DimacsParser.add.Goals as goal
 

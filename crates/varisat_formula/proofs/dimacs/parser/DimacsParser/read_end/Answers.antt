@@ -1,8 +1,8 @@
 use Rattle.std.proofs.Common.{refl, ap, ◌∙◌, ℕ}
 use Rattle.varisat_formula.specs.declared.dimacs.parser.ParserState.TheVariants.{Start}
 use Rattle.varisat_formula.specs.declared.dimacs.token.Meaning.TheVariants.{End}
-use Rattle.varisat_formula.specs.Dimacs.{Reading, after_token, next}
-use Rattle.varisat_formula.specs.Rest.{Progress}
+use Rattle.varisat_formula.specs.promises.Dimacs.{Reading, after_token, next}
+use Rattle.varisat_formula.specs.promises.Rest.{Progress}
 use Rattle.varisat_formula.proofs.TokenRuns.{end_reads}
 use Rattle.varisat_formula.proofs.dimacs.parser.DimacsParser.read_end.Goals as goal
 

@@ -1,5 +1,5 @@
 use Rattle.std.proofs.Common.{◌+◌, sym, subst}
-use Rattle.varisat_formula.specs.Rest.{ReadsOn}
+use Rattle.varisat_formula.specs.promises.Rest.{ReadsOn}
 use Rattle.varisat_formula.proofs.TokenRuns.{reads_on}
 use Rattle.varisat_formula.proofs.dimacs.parser.DimacsParser.read_lines.Goals as goal
 

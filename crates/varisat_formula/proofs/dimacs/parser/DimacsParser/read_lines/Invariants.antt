@@ -1,5 +1,5 @@
 use Rattle.std.proofs.Common.{◌-◌, length}
-use Rattle.varisat_formula.specs.Rest.{ReadsOn}
+use Rattle.varisat_formula.specs.promises.Rest.{ReadsOn}
 use Rattle.varisat_formula.proofs.dimacs.parser.DimacsParser.read_lines.Given as goal
 
 abbrev pub invariant-lines : goal.invariant-lines

@@ -1,6 +1,6 @@
 use Rattle.std.proofs.Common.{refl, sym, ap, ◌∙◌, inr, arith}
-use Rattle.varisat_formula.specs.Machine.{a_number}
-use Rattle.varisat_formula.specs.Rest.{Progress}
+use Rattle.varisat_formula.specs.inside.Machine.{a_number}
+use Rattle.varisat_formula.specs.promises.Rest.{Progress}
 use Rattle.varisat_formula.proofs.AllowedLiterals.{reads_number}
 use Rattle.varisat_formula.proofs.TokenRuns.{literal_ends}
 use Rattle.varisat_formula.proofs.dimacs.parser.DimacsParser.read_literals.Goals as goal

@@ -1,5 +1,5 @@
 use Rattle.std.proofs.Common.{◌≡◌, ◌≤◌, ◌-◌, length, None, false}
-use Rattle.varisat_formula.specs.Rest.{Allows}
+use Rattle.varisat_formula.specs.promises.Rest.{Allows}
 use Rattle.varisat_formula.proofs.TokenRuns.{ReadsBetween}
 use Rattle.varisat_formula.proofs.dimacs.parser.DimacsParser.read_literals.Given as goal
 

@@ -1,5 +1,5 @@
 use Rattle.std.proofs.Common.{◌+◌, length, ◌∙◌, sym, ap, inl, inr, arith}
-use Rattle.varisat_formula.specs.Dimacs.{failed}
+use Rattle.varisat_formula.specs.promises.Dimacs.{failed}
 use Rattle.varisat_formula.specs.declared.dimacs.error.DimacsErrorKind.TheVariants.{OutOfMemory}
 use Rattle.varisat_formula.proofs.ParserMemory.{ran_out_in}
 use Rattle.varisat_formula.proofs.ParserProgress.{stopped}

@@ -1,6 +1,6 @@
 use Rattle.std.proofs.Common.{ap}
-use Rattle.varisat_formula.specs.Dimacs.{Reading}
-use Rattle.varisat_formula.specs.Rest.{Progress}
+use Rattle.varisat_formula.specs.promises.Dimacs.{Reading}
+use Rattle.varisat_formula.specs.promises.Rest.{Progress}
 use Rattle.varisat_formula.proofs.ParserTakes.{gives_taken}
 use Rattle.varisat_formula.proofs.dimacs.parser.DimacsParser.take_formula.Goals as goal
 

@@ -1,5 +1,5 @@
 use Rattle.std.proofs.Common.{◌+◌, ◌∙◌, ap, max, subst, ◌≤◌, sym}
-use Rattle.varisat_formula.specs.Formulas.{variables_of}
+use Rattle.varisat_formula.specs.promises.Formulas.{variables_of}
 use Rattle.varisat_formula.proofs.FormulaBuffers.{variables_push}
 use Rattle.varisat_formula.proofs.dimacs.reading.Reader.literal.Goals as goal
 

@@ -1,6 +1,6 @@
 use Rattle.std.proofs.Common.{◌≡◌, ◌∷◌, [], ◌++◌, ◌+◌, ◌/◌, ◌≤◌, ℕ, List, not, max, subst, sym, ap, ◌∙◌, arith}
-use Rattle.varisat_formula.specs.Dimacs.{Reading, is_above, is_one_too_many}
-use Rattle.varisat_formula.specs.Formulas.{Formula, variables_of}
+use Rattle.varisat_formula.specs.promises.Dimacs.{Reading, is_above, is_one_too_many}
+use Rattle.varisat_formula.specs.promises.Formulas.{Formula, variables_of}
 use Rattle.varisat_formula.proofs.AllowedLiterals.{number_of_literal, still_open, takes_allowed}
 use Rattle.varisat_formula.proofs.FormulaBuffers.{variables_push}
 use Rattle.varisat_formula.proofs.dimacs.reading.Reader.literal_with_room.Goals as goal

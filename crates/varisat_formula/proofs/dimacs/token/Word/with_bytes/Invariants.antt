@@ -1,5 +1,5 @@
 use Rattle.std.proofs.Common.{◌≡◌, take}
-use Rattle.varisat_formula.specs.Machine.{GoesOnTo}
+use Rattle.varisat_formula.specs.inside.Machine.{GoesOnTo}
 use Rattle.varisat_formula.proofs.dimacs.token.Word.with_bytes.Given as goal
 
 abbrev pub invariant-loop-b : goal.invariant-loop-b

@@ -1,5 +1,5 @@
 use Rattle.std.proofs.Common.{◌≤◌, length, sym, subst, refl}
-use Rattle.varisat_formula.specs.Formulas.{Formula, variables_of}
+use Rattle.varisat_formula.specs.promises.Formulas.{Formula, variables_of}
 use Rattle.varisat_formula.proofs.FormulaBuffers.{counted_fits, counted_added}
 use Rattle.varisat_formula.proofs.formula.cnf.CnfFormula.add_counted_clause.Goals as goal
 

@@ -1,6 +1,6 @@
 use Rattle.std.proofs.lemmas.Grind.{common_steps}
 use Rattle.std.proofs.Common.{refl, arith}
-use Rattle.varisat_formula.specs.Formulas.{no_clauses}
+use Rattle.varisat_formula.specs.promises.Formulas.{no_clauses}
 use Rattle.varisat_formula.proofs.FormulaBuffers.{clauses_step}
 use Rattle.varisat_formula.proofs.formula.cnf.CnfFormula.from_clauses_in.Goals as goal
 

@@ -1,5 +1,5 @@
 use Rattle.std.proofs.Common.{◌≡◌, take, map}
-use Rattle.varisat_formula.specs.Formulas.{no_clauses, with_more}
+use Rattle.varisat_formula.specs.promises.Formulas.{no_clauses, with_more}
 use Rattle.varisat_formula.proofs.formula.cnf.CnfFormula.from_clauses_in.Given as goal
 
 abbrev pub invariant-loop-clause : goal.invariant-loop-clause

@@ -1,5 +1,5 @@
 use Rattle.std.proofs.Common.{ap}
-use Rattle.varisat_formula.specs.Streams.{CutText}
+use Rattle.varisat_formula.specs.promises.Streams.{CutText}
 use Rattle.varisat_formula.proofs.CutTexts.{given_more, left_less, at_end}
 use Rattle.varisat_formula.proofs.io.cut.CutSourceByteSource.fill.Goals as goal
 

@@ -1,5 +1,5 @@
 use Rattle.std.proofs.Common.{ap}
-use Rattle.varisat_formula.specs.Streams.{CutTaken}
+use Rattle.varisat_formula.specs.promises.Streams.{CutTaken}
 use Rattle.varisat_formula.proofs.CutTexts.{part_taken}
 use Rattle.varisat_formula.proofs.io.cut.CutTargetProofTarget.put.Goals as goal
 

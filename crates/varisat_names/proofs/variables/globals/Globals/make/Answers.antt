@@ -1,6 +1,6 @@
 use Rattle.std.proofs.lemmas.Grind.{common_steps}
 use Rattle.std.proofs.Common.{sym, subst, slice_set, arith}
-use Rattle.varisat_names.specs.VarData.{fresh, IsDataAt}
+use Rattle.varisat_names.specs.promises.VarData.{fresh, IsDataAt}
 use Rattle.varisat_names.proofs.Tables.{set-kept}
 use Rattle.varisat_names.proofs.variables.globals.Globals.make.Goals as goal
 

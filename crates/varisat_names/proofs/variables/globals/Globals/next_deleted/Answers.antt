@@ -1,6 +1,6 @@
 use Rattle.std.proofs.lemmas.Grind.{common_steps}
 use Rattle.std.proofs.Common.{sym, subst, arith}
-use Rattle.varisat_names.specs.VarData.{AreDeleted}
+use Rattle.varisat_names.specs.promises.VarData.{AreDeleted}
 use Rattle.varisat_names.proofs.variables.globals.Globals.next_deleted.Goals as goal
 
 pub returns-in-Some-clause-near : goal.returns-in-Some-clause-near

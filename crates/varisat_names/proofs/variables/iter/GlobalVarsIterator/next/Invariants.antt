@@ -1,5 +1,5 @@
 use Rattle.std.proofs.Common.{◌≡◌, ◌≤◌, ◌-◌, ◌^◌, length, drop}
-use Rattle.varisat_names.specs.VarData.{live_from}
+use Rattle.varisat_names.specs.promises.VarData.{live_from}
 use Rattle.varisat_names.proofs.variables.iter.GlobalVarsIterator.next.Given as goal
 
 abbrev pub invariant-globals : goal.invariant-globals

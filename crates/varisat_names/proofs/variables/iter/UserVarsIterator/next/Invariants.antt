@@ -1,5 +1,5 @@
 use Rattle.std.proofs.Common.{◌≡◌, ◌≤◌, ◌-◌, ◌^◌, length, drop}
-use Rattle.varisat_names.specs.VarMap.{mapped_from}
+use Rattle.varisat_names.specs.promises.VarMap.{mapped_from}
 use Rattle.varisat_names.proofs.variables.iter.UserVarsIterator.next.Given as goal
 
 abbrev pub invariant-names : goal.invariant-names

@@ -1,10 +1,10 @@
 use Rattle.std.proofs.Common.{sym, ap, ◌∙◌, refl}
-use Rattle.varisat_names.specs.VarMap.{at}
-use Rattle.varisat_names.specs.VarBiMap.{turned}
-use Rattle.varisat_names.specs.Variables.{Tables}
+use Rattle.varisat_names.specs.promises.VarMap.{at}
+use Rattle.varisat_names.specs.promises.VarBiMap.{turned}
+use Rattle.varisat_names.specs.promises.Variables.{Tables}
 use Rattle.varisat_names.proofs.Linked.{keep-dead, same-tables, on-either, unused-none}
 use Rattle.varisat_names.proofs.LinkedCalls.{begun}
-use Rattle.varisat_names.specs.VarData.{dead}
+use Rattle.varisat_names.specs.promises.VarData.{dead}
 use Rattle.varisat_names.proofs.variables.linked.LinkedVariables.delete_global_if_unused.Goals as goal
 
 pub invariant_of-self : goal.invariant_of-self

@@ -1,7 +1,7 @@
 use Rattle.std.proofs.lemmas.Grind.{common_steps}
 use Rattle.std.proofs.Common.{sym, ap, ◌∙◌, refl, true, arith}
-use Rattle.varisat_names.specs.VarMap.{at}
-use Rattle.varisat_names.specs.VarBiMap.{turned}
+use Rattle.varisat_names.specs.promises.VarMap.{at}
+use Rattle.varisat_names.specs.promises.VarBiMap.{turned}
 use Rattle.varisat_names.proofs.Tables.{live-inside}
 use Rattle.varisat_names.proofs.Linked.{free-solvers, part-solvers, parted-turned, same-tables, on-either, on-either-two, unused-none}
 use Rattle.varisat_names.proofs.LinkedCalls.{begun, taken-before, taken-live}

@@ -1,7 +1,7 @@
 use Rattle.std.proofs.Common.{sym, ap, ◌∙◌, subst, refl}
-use Rattle.varisat_names.specs.VarMap.{at}
-use Rattle.varisat_names.specs.VarData.{fresh, data_at, IsDataAt}
-use Rattle.varisat_names.specs.Variables.{AreLinked, AreListed}
+use Rattle.varisat_names.specs.promises.VarMap.{at}
+use Rattle.varisat_names.specs.promises.VarData.{fresh, data_at, IsDataAt}
+use Rattle.varisat_names.specs.promises.Variables.{AreLinked, AreListed}
 use Rattle.varisat_names.proofs.Linked.{give-users, same-tables, same-deleted}
 use Rattle.varisat_names.proofs.variables.linked.LinkedVariables.give_user_var.Goals as goal
 

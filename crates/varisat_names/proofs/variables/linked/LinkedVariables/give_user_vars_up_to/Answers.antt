@@ -1,6 +1,6 @@
 use Rattle.std.proofs.lemmas.Grind.{common_steps}
 use Rattle.std.proofs.Common.{length, subst, arith}
-use Rattle.varisat_names.specs.Variables.{IsGiven, AreNextGiven}
+use Rattle.varisat_names.specs.promises.Variables.{IsGiven, AreNextGiven}
 use Rattle.varisat_names.proofs.Tables.{one-more}
 use Rattle.varisat_names.proofs.variables.linked.LinkedVariables.give_user_vars_up_to.Goals as goal
 

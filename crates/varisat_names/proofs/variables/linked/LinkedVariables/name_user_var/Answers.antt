@@ -1,6 +1,6 @@
 use Rattle.std.proofs.Common.{sym, ap, ◌∙◌, refl, arith}
-use Rattle.varisat_names.specs.Variables.{InUse, Free}
-use Rattle.varisat_names.specs.VarMap.{at}
+use Rattle.varisat_names.specs.promises.Variables.{InUse, Free}
+use Rattle.varisat_names.specs.promises.VarMap.{at}
 use Rattle.varisat_names.proofs.Maps.{is_none-none, some-of}
 use Rattle.varisat_names.proofs.variables.linked.LinkedVariables.name_user_var.Goals as goal
 

@@ -1,7 +1,7 @@
 use Rattle.std.proofs.lemmas.Grind.{common_steps}
 use Rattle.std.proofs.Common.{ap, ◌∙◌, arith}
-use Rattle.varisat_names.specs.VarMap.{at}
-use Rattle.varisat_names.specs.VarData.{data_at}
+use Rattle.varisat_names.specs.promises.VarMap.{at}
+use Rattle.varisat_names.specs.promises.VarData.{data_at}
 use Rattle.varisat_names.proofs.Linked.{keep-live, join-users}
 use Rattle.varisat_names.proofs.LinkedCalls.{begun, names-stay}
 use Rattle.varisat_names.proofs.variables.linked.LinkedVariables.show.Goals as goal

@@ -1,8 +1,8 @@
 use Rattle.std.proofs.Common.{sym, ap, ◌∙◌, subst, refl}
-use Rattle.varisat_names.specs.VarMap.{at}
-use Rattle.varisat_names.specs.VarData.{data_at}
-use Rattle.varisat_names.specs.VarBiMap.{turned}
-use Rattle.varisat_names.specs.Variables.{AreLinked, AreListed}
+use Rattle.varisat_names.specs.promises.VarMap.{at}
+use Rattle.varisat_names.specs.promises.VarData.{data_at}
+use Rattle.varisat_names.specs.promises.VarBiMap.{turned}
+use Rattle.varisat_names.specs.promises.Variables.{AreLinked, AreListed}
 use Rattle.varisat_names.proofs.Linked.{join-solvers, joined-turned, same-tables, on-either}
 use Rattle.varisat_names.proofs.variables.linked.LinkedVariables.take_solver_var.Goals as goal
 

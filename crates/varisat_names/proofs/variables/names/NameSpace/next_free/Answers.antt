@@ -1,6 +1,6 @@
 use Rattle.std.proofs.lemmas.Grind.{common_steps}
 use Rattle.std.proofs.Common.{sym, subst, arith}
-use Rattle.varisat_names.specs.Variables.{AreFree}
+use Rattle.varisat_names.specs.promises.Variables.{AreFree}
 use Rattle.varisat_names.proofs.Tables.{least-free}
 use Rattle.varisat_names.proofs.variables.names.NameSpace.next_free.Goals as goal
 

@@ -1,8 +1,8 @@
 use Rattle.std.proofs.lemmas.Grind.{common_steps}
 use Rattle.std.proofs.Common.{ap, sym, ◌∙◌, subst, arith}
-use Rattle.varisat_names.specs.VarMap.{at}
-use Rattle.varisat_names.specs.Maps.{IsInverse}
-use Rattle.varisat_names.specs.VarBiMap.{IsJoined}
+use Rattle.varisat_names.specs.promises.VarMap.{at}
+use Rattle.varisat_names.specs.promises.Maps.{IsInverse}
+use Rattle.varisat_names.specs.promises.VarBiMap.{IsJoined}
 use Rattle.varisat_names.proofs.VarMap.{put-padded, joined-inverse, cut-back}
 use Rattle.varisat_names.proofs.variables.var_map.VarBiMap.insert.Goals as goal
 

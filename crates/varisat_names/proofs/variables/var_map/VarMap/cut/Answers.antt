@@ -1,5 +1,5 @@
 use Rattle.std.proofs.Common.{ap, ◌∙◌, map, take}
-use Rattle.varisat_names.specs.VarMap.{mapped}
+use Rattle.varisat_names.specs.promises.VarMap.{mapped}
 use Rattle.varisat_names.proofs.VarMap.{cut-mapped}
 use Rattle.varisat_names.proofs.variables.var_map.VarMap.cut.Goals as goal
 

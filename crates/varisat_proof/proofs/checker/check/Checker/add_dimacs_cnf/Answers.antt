@@ -1,6 +1,6 @@
 -- A clause is refused, or the text has a fault, or none.
 use Rattle.std.proofs.Common.{sym, ap, ◌∙◌}
-use Rattle.varisat_proof.specs.Calls.{Added}
+use Rattle.varisat_proof.specs.promises.Calls.{Added}
 use Rattle.varisat_proof.proofs.AddedTexts.{joins_in_turn, refused_reading, text_refused}
 use Rattle.varisat_proof.proofs.checker.check.Checker.add_dimacs_cnf.Goals as goal
 

@@ -1,7 +1,7 @@
 use Rattle.std.proofs.Common.{◌≡◌, Ok, Err, refl, ap}
 use Rattle.varisat_proof.specs.declared.checker.error.CheckVerdict.TheVariants.{Refutation}
-use Rattle.varisat_proof.specs.Marked.{state_of}
-use Rattle.varisat_proof.specs.DratChecks.{IsDratResult}
+use Rattle.varisat_proof.specs.promises.Marked.{state_of}
+use Rattle.varisat_proof.specs.promises.DratChecks.{IsDratResult}
 use Rattle.varisat_proof.proofs.CheckedSources.{checks_exact}
 use Rattle.varisat_proof.proofs.DratCheck.{drat_ok, drat_err, drat_check_sound}
 use Rattle.varisat_proof.proofs.checker.check.Checker.check_drat.Goals as goal

@@ -1,8 +1,8 @@
 use Rattle.std.proofs.Common.{Ok, ap}
-use Rattle.varisat_proof.specs.Calls.{IsMarkedResult}
+use Rattle.varisat_proof.specs.promises.Calls.{IsMarkedResult}
 use Rattle.varisat_proof.proofs.CheckedSources.{checks_exact}
 use Rattle.varisat_proof.proofs.CheckResults.{marked_ok, marked_err, marked_err_exact, marked_true}
-use Rattle.varisat_proof.specs.Marked.{state_of}
+use Rattle.varisat_proof.specs.promises.Marked.{state_of}
 use Rattle.varisat_proof.proofs.checker.check.Checker.check_marked.Goals as goal
 
 pub returns-in-Ok-clause-checks : goal.returns-in-Ok-clause-checks

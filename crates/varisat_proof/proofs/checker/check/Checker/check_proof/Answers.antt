@@ -1,8 +1,8 @@
 use Rattle.std.proofs.Common.{Ok, Err, refl, ap}
-use Rattle.varisat_proof.specs.Results.{IsResult}
+use Rattle.varisat_proof.specs.promises.Results.{IsResult}
 use Rattle.varisat_proof.proofs.CheckedSources.{checks_exact}
 use Rattle.varisat_proof.proofs.CheckResults.{plain_ok, plain_err, check_sound}
-use Rattle.varisat_proof.specs.Marked.{state_of}
+use Rattle.varisat_proof.specs.promises.Marked.{state_of}
 use Rattle.varisat_proof.proofs.checker.check.Checker.check_proof.Goals as goal
 
 pub returns-in-Ok-clause-checks : goal.returns-in-Ok-clause-checks

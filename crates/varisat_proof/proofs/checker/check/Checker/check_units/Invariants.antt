@@ -1,6 +1,6 @@
 use Rattle.std.proofs.Common.{◌≡◌, take, false}
-use Rattle.varisat_theory.specs.Derivations.{Derives}
-use Rattle.varisat_theory.specs.StepLaws.{unit_lines}
+use Rattle.varisat_theory.specs.promises.Derivations.{Derives}
+use Rattle.varisat_theory.specs.inside.StepLaws.{unit_lines}
 use Rattle.varisat_proof.proofs.checker.check.Checker.check_units.Given as goal
 
 abbrev pub invariant-loop-i : goal.invariant-loop-i

@@ -1,5 +1,5 @@
 use Rattle.std.proofs.Common.{ap, subst}
-use Rattle.varisat_plain.specs.Checking.{IsAbsent}
+use Rattle.varisat_plain.specs.promises.Checking.{IsAbsent}
 use Rattle.varisat_proof.proofs.checker.check.Checker.delete_line.Goals as goal
 
 pub returns-clause-absent : goal.returns-clause-absent

@@ -1,11 +1,11 @@
 use Rattle.std.proofs.Common.{sym, ap, ◌∙◌, subst, Err}
-use Rattle.varisat_proof.specs.Checks.{EndsWith}
+use Rattle.varisat_proof.specs.inside.Checks.{EndsWith}
 use Rattle.varisat_proof.specs.declared.checker.error.CheckerError.TheVariants.{Parse}
 use Rattle.varisat_proof.proofs.CheckedLines.{EndsAt, state_is, ends_fault, end_wrong, last_outside, ends_at_more, ends_at_line, ends_at_end}
-use Rattle.varisat_proof.specs.Marked.{state_of}
+use Rattle.varisat_proof.specs.promises.Marked.{state_of}
 use Rattle.varisat_proof.proofs.checker.check.Checker.end_proof.Goals as goal
 use Rattle.varisat_proof.proofs.checker.check.Checker.end_proof.Goals.{in-More, in-Ended+in-Ok-next_line}
-use Rattle.varisat_proof.specs.DratChecks.{rules_of}
+use Rattle.varisat_proof.specs.promises.DratChecks.{rules_of}
 
 pub returns-in-Fault-clause-ends : goal.returns-in-Fault-clause-ends
 returns-in-Fault-clause-ends g c = λ f P text lines r s.

@@ -1,7 +1,7 @@
 use Rattle.std.proofs.Common.{List, ap, subst}
-use Rattle.varisat_theory.specs.Literals.{Clause}
-use Rattle.varisat_theory.specs.Membership.{◌∈◌, SameSet}
-use Rattle.varisat_plain.specs.Checking.{IsAbsent}
+use Rattle.varisat_theory.specs.promises.Literals.{Clause}
+use Rattle.varisat_theory.specs.promises.Membership.{◌∈◌, SameSet}
+use Rattle.varisat_plain.specs.promises.Checking.{IsAbsent}
 use Rattle.varisat_proof.proofs.checker.check.Checker.has_clause.Goals as goal
 
 pub returns : goal.returns

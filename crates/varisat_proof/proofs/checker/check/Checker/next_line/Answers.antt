@@ -1,13 +1,13 @@
 use Rattle.std.proofs.Common.{◌≡◌, List, [], ◌∷◌, ◌++◌, sym, ap, subst, ◌∙◌}
-use Rattle.varisat_theory.specs.Literals.{Clause}
+use Rattle.varisat_theory.specs.promises.Literals.{Clause}
 use Rattle.varisat_proof.specs.declared.checker.line.LineStatus.TheVariants.{Taken}
 use Rattle.varisat_proof.specs.declared.checker.error.CheckerError.TheVariants.{CheckFailed, NoSuchClause, CoreNotAssumed}
-use Rattle.varisat_proof.specs.Lines.{line_of_kind}
-use Rattle.varisat_proof.specs.Checks.{StopsBehind}
+use Rattle.varisat_proof.specs.promises.Lines.{line_of_kind}
+use Rattle.varisat_proof.specs.inside.Checks.{StopsBehind}
 use Rattle.varisat_proof.proofs.CheckedLines.{error_of, still_refuted, on_wrong, on_taken}
-use Rattle.varisat_proof.specs.Marked.{state_of}
+use Rattle.varisat_proof.specs.promises.Marked.{state_of}
 use Rattle.varisat_proof.proofs.checker.check.Checker.next_line.Goals as goal
-use Rattle.varisat_proof.specs.DratChecks.{rules_of}
+use Rattle.varisat_proof.specs.promises.DratChecks.{rules_of}
 
 pub returns-in-Unproved-clause-takes : goal.returns-in-Unproved-clause-takes
 returns-in-Unproved-clause-takes g c =

@@ -1,10 +1,10 @@
 use Rattle.std.proofs.lemmas.Grind.{common_steps}
-use Rattle.varisat_proof.specs.Marked.{state_of}
+use Rattle.varisat_proof.specs.promises.Marked.{state_of}
 use Rattle.std.proofs.Common.{sym, ap, ◌∙◌, arith}
 use Rattle.varisat_proof.proofs.CheckedLines.{state_is, stands_along, so_far_more, so_far_line, piece_fault, piece_wrong}
 use Rattle.varisat_proof.proofs.checker.check.Checker.read_piece.Goals as goal
 use Rattle.varisat_proof.proofs.checker.check.Checker.read_piece.Goals.{in-More, in-Ended+in-Ok-next_line}
-use Rattle.varisat_proof.specs.DratChecks.{rules_of}
+use Rattle.varisat_proof.specs.promises.DratChecks.{rules_of}
 
 pub returns-in-Fault-clause-reads : goal.returns-in-Fault-clause-reads
 returns-in-Fault-clause-reads g c = λ f P text lines r s.

@@ -1,11 +1,11 @@
 use Rattle.std.proofs.Common.{◌≡◌, ℕ, List, ◌++◌, take}
 use Rattle.varisat_proof.specs.declared.proof.format.Encoding.{Encoding}
-use Rattle.varisat_proof.specs.Lines.{ProofLine}
-use Rattle.varisat_proof.specs.Marked.{ProofState, state_of}
-use Rattle.varisat_proof.specs.Checks.{HasRead, IsAfterLines}
+use Rattle.varisat_proof.specs.promises.Lines.{ProofLine}
+use Rattle.varisat_proof.specs.promises.Marked.{ProofState, state_of}
+use Rattle.varisat_proof.specs.inside.Checks.{HasRead, IsAfterLines}
 use Rattle.varisat_proof.proofs.CheckedLines.{SoFar}
 use Rattle.varisat_proof.proofs.checker.check.Checker.read_piece.Given as goal
-use Rattle.varisat_proof.specs.DratChecks.{rules_of}
+use Rattle.varisat_proof.specs.promises.DratChecks.{rules_of}
 
 abbrev pub invariant-loop-b : goal.invariant-loop-b
 invariant-loop-b g l = record {

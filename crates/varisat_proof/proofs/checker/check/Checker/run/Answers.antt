@@ -1,9 +1,9 @@
 use Rattle.std.proofs.Common.{refl, ap, subst, take, length, ◌<◌, rules, ◌∙◌, Ok, Err}
 use Rattle.varisat_proof.proofs.CheckedLines.{state_is}
 use Rattle.varisat_proof.proofs.CheckedSources.{Gave, underway_start, underway_more, breaks_inside, source_fails, ends_check, no_memory, gave_nothing, ended_here}
-use Rattle.varisat_proof.specs.Marked.{state_of}
+use Rattle.varisat_proof.specs.promises.Marked.{state_of}
 use Rattle.varisat_proof.proofs.checker.check.Checker.run.Goals as goal
-use Rattle.varisat_proof.specs.DratChecks.{rules_of}
+use Rattle.varisat_proof.specs.promises.DratChecks.{rules_of}
 
 pub pieces-init : goal.pieces-init
 pieces-init g c = record {

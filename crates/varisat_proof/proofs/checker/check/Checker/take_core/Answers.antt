@@ -1,6 +1,6 @@
 use Rattle.std.proofs.Common.{List, ap, subst, refl, ◌∙◌}
-use Rattle.varisat_theory.specs.Literals.{Clause}
-use Rattle.varisat_theory.specs.Propagation.{Conflicts}
+use Rattle.varisat_theory.specs.promises.Literals.{Clause}
+use Rattle.varisat_theory.specs.promises.Propagation.{Conflicts}
 use Rattle.varisat_plain.proofs.Scans.{refused, granted}
 use Rattle.varisat_proof.proofs.CheckedLines.{state_is}
 use Rattle.varisat_proof.proofs.checker.check.Checker.take_core.Goals as goal

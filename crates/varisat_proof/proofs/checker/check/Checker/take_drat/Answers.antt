@@ -1,7 +1,7 @@
 use Rattle.std.proofs.Common.{List, [], ap, sym, subst}
-use Rattle.varisat_theory.specs.Literals.{Clause}
-use Rattle.varisat_theory.specs.Propagation.{Conflicts}
-use Rattle.varisat_proof.specs.DratChecks.{IsDratStatusOf}
+use Rattle.varisat_theory.specs.promises.Literals.{Clause}
+use Rattle.varisat_theory.specs.promises.Propagation.{Conflicts}
+use Rattle.varisat_proof.specs.promises.DratChecks.{IsDratStatusOf}
 use Rattle.varisat_proof.proofs.checker.check.Checker.take_drat.Goals as goal
 
 pub returns-clause-status : goal.returns-clause-status

@@ -1,9 +1,9 @@
 use Rattle.std.proofs.Common.{sym, subst}
 use Rattle.varisat_proof.specs.declared.checker.line.LineRules.{LineRules}
-use Rattle.varisat_proof.specs.Lines.{line_of_kind}
-use Rattle.varisat_proof.specs.Marked.{state_of}
-use Rattle.varisat_proof.specs.Checks.{IsLineStatus}
-use Rattle.varisat_proof.specs.DratChecks.{rules_of}
+use Rattle.varisat_proof.specs.promises.Lines.{line_of_kind}
+use Rattle.varisat_proof.specs.promises.Marked.{state_of}
+use Rattle.varisat_proof.specs.inside.Checks.{IsLineStatus}
+use Rattle.varisat_proof.specs.promises.DratChecks.{rules_of}
 use Rattle.varisat_proof.proofs.DratCheck.{drat_status}
 use Rattle.varisat_proof.proofs.checker.check.Checker.take_line.Goals as goal
 

@@ -1,6 +1,6 @@
 use Rattle.varisat_proof.proofs.CheckedLines.{state_is, absent_status}
 use Rattle.std.proofs.Common.{refl}
-use Rattle.varisat_proof.specs.Marked.{state_of}
+use Rattle.varisat_proof.specs.promises.Marked.{state_of}
 use Rattle.varisat_proof.proofs.checker.check.Checker.take_strict_line.Goals as goal
 
 pub returns-then-not-delete_line-clause-status : goal.returns-then-not-delete_line-clause-status

@@ -1,5 +1,5 @@
 use Rattle.std.proofs.Common.{ℕ, List, subst, sym}
-use Rattle.varisat_theory.specs.Membership.{SameSet}
+use Rattle.varisat_theory.specs.promises.Membership.{SameSet}
 use Rattle.varisat_proof.proofs.checker.marked.ReportBuilder.assume.Goals as goal
 
 pub invariant_of-self : goal.invariant_of-self

@@ -1,5 +1,5 @@
 use Rattle.std.proofs.Common.{List, ℕ, IsTrue, ◌↔◌, ap, subst}
-use Rattle.varisat_theory.specs.Membership.{◌⊆◌}
+use Rattle.varisat_theory.specs.promises.Membership.{◌⊆◌}
 use Rattle.varisat_present.proofs.MarkedLists.{within_marked}
 use Rattle.varisat_proof.proofs.checker.marked.ReportBuilder.assumes.Goals as goal
 

@@ -1,5 +1,5 @@
 use Rattle.std.proofs.Common.{take}
-use Rattle.varisat_proof.specs.Mapping.{MapsLits}
+use Rattle.varisat_proof.specs.inside.Mapping.{MapsLits}
 use Rattle.varisat_proof.proofs.proof.step.MapStep.map_lits.Given as goal
 
 abbrev pub invariant-loop-lit : goal.invariant-loop-lit

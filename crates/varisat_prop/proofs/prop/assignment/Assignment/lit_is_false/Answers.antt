@@ -1,5 +1,5 @@
 use Rattle.std.proofs.Common.{length, ap, arith}
-use Rattle.varisat_prop.proofs.LiteralStates.{value-read, false-told}
+use Rattle.varisat_prop.proofs.trails.LiteralStates.{value-read, false-told}
 use Rattle.varisat_prop.proofs.prop.assignment.Assignment.lit_is_false.Goals as goal
 
 pub returns : goal.returns

@@ -1,5 +1,5 @@
 use Rattle.std.proofs.Common.{length, ap, arith}
-use Rattle.varisat_prop.proofs.LiteralStates.{value-read, true-told}
+use Rattle.varisat_prop.proofs.trails.LiteralStates.{value-read, true-told}
 use Rattle.varisat_prop.proofs.prop.assignment.Assignment.lit_is_true.Goals as goal
 
 pub returns : goal.returns

@@ -1,5 +1,5 @@
 use Rattle.std.proofs.Common.{length, ap, arith}
-use Rattle.varisat_prop.proofs.LiteralStates.{value-read, unknown-told}
+use Rattle.varisat_prop.proofs.trails.LiteralStates.{value-read, unknown-told}
 use Rattle.varisat_prop.proofs.prop.assignment.Assignment.lit_is_unk.Goals as goal
 
 pub returns : goal.returns

@@ -1,6 +1,6 @@
 use Rattle.std.proofs.Common.{length, ap, ◌∙◌, arith}
 use Rattle.varisat_prop.specs.Parts.{negated}
-use Rattle.varisat_prop.proofs.LiteralStates.{parts-set}
+use Rattle.varisat_prop.proofs.trails.LiteralStates.{parts-set}
 use Rattle.varisat_prop.proofs.prop.assignment.Assignment.set_var.Goals as goal
 
 pub invariant_of-self : goal.invariant_of-self

@@ -1,5 +1,5 @@
 use Rattle.std.proofs.Common.{length, ap, arith}
-use Rattle.varisat_prop.proofs.LiteralStates.{parts-more}
+use Rattle.varisat_prop.proofs.trails.LiteralStates.{parts-more}
 use Rattle.varisat_prop.proofs.prop.assignment.Assignment.set_var_count.Goals as goal
 
 pub invariant_of-self-in_default-resize : goal.invariant_of-self-in_default-resize

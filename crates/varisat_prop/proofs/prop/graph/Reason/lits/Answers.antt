@@ -5,7 +5,7 @@ use Rattle.varisat_clause.specs.Collected.{live_clauses}
 use Rattle.varisat_clause.proofs.LiveStore.{live-place}
 use Rattle.varisat_prop.specs.declared.prop.graph.Reason.{Reason}
 use Rattle.varisat_prop.specs.Changes.{NamesClause, causes_of}
-use Rattle.varisat_prop.proofs.ReadElements.{others-read, reason-read}
+use Rattle.varisat_prop.proofs.views.ReadElements.{others-read, reason-read}
 use Rattle.varisat_prop.proofs.prop.graph.Reason.lits.Goals as goal
 
 pub lits-requires-clause-place : goal.lits-requires-clause-place

@@ -1,8 +1,8 @@
 use Rattle.std.proofs.Common.{rules, ◌≡◌, length, not, arith}
 use Rattle.std.proofs.lemmas.Fn.{filter_same}
-use Rattle.varisat_theory.specs.Literals.{variable_of}
+use Rattle.varisat_theory.specs.promises.Literals.{variable_of}
 use Rattle.varisat_prop.specs.Leaving.{leaves}
-use Rattle.varisat_prop.proofs.Leaving.{trail-left}
+use Rattle.varisat_prop.proofs.views.Leaving.{trail-left}
 use Rattle.varisat_prop.proofs.prop.trail.Trail.remove_units.Goals as goal
 
 pub returns : goal.returns

@@ -1,5 +1,5 @@
 use Rattle.std.proofs.Common.{◌≡◌, ◌<◌, [], length}
-use Rattle.varisat_theory.specs.Literals.{Literal}
+use Rattle.varisat_theory.specs.promises.Literals.{Literal}
 use Rattle.varisat_prop.specs.Watches.{watches_of}
 use Rattle.varisat_prop.proofs.prop.watch.Watchlists.disable.Given as goal
 

@@ -1,7 +1,7 @@
 use Rattle.std.proofs.Common.{◌≡◌, ◌<◌, ◌++◌, [], ◌∷◌, length, ap, sym, ◌∙◌, subst, arith, length-set}
 use Rattle.varisat_prop.specs.Watches.{Watches, watches_of, literal_in}
-use Rattle.varisat_prop.proofs.ReadElements.{element, item-∈}
-use Rattle.varisat_prop.proofs.WatchKept.{watch-two, watch-whole, watch-off}
+use Rattle.varisat_prop.proofs.views.ReadElements.{element, item-∈}
+use Rattle.varisat_prop.proofs.watching.WatchKept.{watch-two, watch-whole, watch-off}
 use Rattle.varisat_prop.proofs.prop.watch.Watchlists.watch_clause.Goals as goal
 
 pub returns-then-not-enabled : goal.returns-then-not-enabled

@@ -1,6 +1,6 @@
 use Rattle.std.proofs.Common.{◌<◌, ◌≤◌, ◌∙◌, sym, arith}
 use Rattle.std.proofs.lemmas.Grind.{common_steps}
-use Rattle.varisat_prop.proofs.ShortLists.{short_few, short_many}
+use Rattle.varisat_prop.proofs.pairs.ShortLists.{short_few, short_many}
 use Rattle.varisat_prop.proofs.prop.watch_list.WatchList.as_slice.Goals as goal
 
 pub returns-then-count-le-FEW : goal.returns-then-count-le-FEW

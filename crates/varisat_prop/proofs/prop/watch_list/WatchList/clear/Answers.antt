@@ -1,5 +1,5 @@
 use Rattle.std.proofs.Common.{arith}
-use Rattle.varisat_prop.proofs.ShortLists.{short_few}
+use Rattle.varisat_prop.proofs.pairs.ShortLists.{short_few}
 use Rattle.varisat_prop.proofs.prop.watch_list.WatchList.clear.Goals as goal
 
 pub returns : goal.returns

@@ -1,6 +1,6 @@
 use Rattle.std.proofs.Common.{◌∷◌, [], arith}
 use Rattle.varisat_prop.specs.declared.prop.watch_list.Watch.{Watch}
-use Rattle.varisat_prop.proofs.ShortLists.{short_few}
+use Rattle.varisat_prop.proofs.pairs.ShortLists.{short_few}
 use Rattle.varisat_prop.proofs.prop.watch_list.WatchList.new_in.Goals as goal
 
 pub returns : goal.returns

@@ -1,6 +1,6 @@
 use Rattle.std.proofs.Common.{◌<◌, arith}
 use Rattle.std.proofs.lemmas.Grind.{common_steps}
-use Rattle.varisat_prop.proofs.ShortLists.{short_pushed}
+use Rattle.varisat_prop.proofs.pairs.ShortLists.{short_pushed}
 use Rattle.varisat_prop.proofs.prop.watch_list.WatchList.push.Goals as goal
 
 pub returns-then-self-gt-FEW : goal.returns-then-self-gt-FEW

@@ -1,0 +1,88 @@
+-- What a client holds, and what of the calls and answers so far it stands for.
+use Rattle.std.specs.Prelude.{◌≡◌, ℕ, ◌<◌, ◌≤◌, Bool, true, Option, Some, None, List, map}
+use Rattle.varisat_theory.specs.promises.Membership.{◌∈◌, ◌⊆◌, IsDistinct}
+use Rattle.varisat_theory.specs.promises.Literals.{Literal, Clause, variable_of, IsSatisfiable, IsFailedCore}
+use Rattle.varisat_literals.specs.promises.Numbers.{variable_limit}
+use Rattle.varisat_solver.specs.promises.States.{State, Unsat}
+use Rattle.varisat_solver.specs.promises.Names.{through_names, AreInOrder}
+use Rattle.varisat_solver.specs.promises.Models.{IsCompletable, AreNamesInUse}
+use Rattle.varisat_solver.specs.promises.Summaries.{Summary, Represents, HasFullStore}
+use Rattle.varisat_client.specs.inside.LiteralSets.{IsSetOf}
+use Rattle.varisat_client.specs.promises.Pasts.{Past}
+use Rattle.varisat_client.specs.declared.client.SearchEnd.{SearchEnd}
+use Rattle.varisat_client.specs.declared.client.SearchEnd.TheVariants as end
+use Rattle.varisat_client.specs.declared.refusal.Refusal.{Refusal}
+use Rattle.varisat_client.specs.declared.refusal.Refusal.TheVariants.{OutOfMemory, ClauseStoreFull}
+
+-- What the solver holds; the clause that is being given, and the assumptions for the next search; the literals of the last model and
+-- of the last core, as sets; why a call was refused, if one was.
+pub record Client : Type 0 where
+  pub solver : Summary
+  pub clause : List Literal
+  pub assumptions : List Literal
+  pub model : List Bool
+  pub core : List Bool
+  pub refusal : Option Refusal
+
+-- The state of the solver has the clauses P that were given to their end, and the assumptions A; it made so many steps in all, and may
+-- make `most` in one call. As no name is ever freed, names are in order, and each literal stands for itself.
+pub record WasGiven (s : State) (P : List Clause) (A : List Literal) (made most : ℕ) : Type 0 where
+  pub valid : s.ledger.valid ≡ true
+  pub count : ℕ
+  pub order : AreInOrder count s.naming
+  pub in_range : count ≤ variable_limit
+  -- a clause is not accepted only once those before it have no model
+  pub same : IsSatisfiable s.clauses → s.clauses ≡ P
+  pub fewer : s.clauses ⊆ P
+  pub refuted : s.verdict ≡ Unsat → IsSatisfiable s.clauses → ⊥
+  pub assumed : s.assumptions ≡ A
+  pub named : (c : Clause) (l : Literal) → c ∈ s.clauses → l ∈ c → variable_of l < count
+  pub assumed_named : (l : Literal) → l ∈ s.assumptions → variable_of l < count
+  pub steps : s.ledger.steps ≡ made
+  pub limit : s.ledger.settings.max_steps ≡ most
+
+-- The state counts these variables alone, or some of them, each once.
+pub record CountsAmong (s : State) (known : List ℕ) : Type 0 where
+  pub within : s.counted ⊆ known
+  pub once : IsDistinct s.counted
+
+-- What is held stands for the past, where no call was refused.
+pub record HoldsPast (g : Client) (p : Past) : Type 0 where
+  pub state : State
+  pub stands : Represents g.solver state
+  pub fits : WasGiven state p.clauses p.assumed p.steps p.limit
+  pub counted : CountsAmong state p.counted
+  pub clause : g.clause ≡ p.clause
+  pub assumptions : g.assumptions ≡ p.assumptions
+  pub model : IsSetOf p.model g.model
+  pub core : IsSetOf p.core g.core
+
+-- The client stands for the past. Of one that refused a call only the reason is told, and where that is a full store of clauses, that
+-- a clause of all variables of the search would bring it to 2^32 words or more.
+pub record RepresentsPast (g : Client) (p : Past) : Type 0 where
+  pub refusal : g.refusal ≡ p.refusal
+  pub full : p.refusal ≡ Some ClauseStoreFull → HasFullStore g.solver
+  pub holds : p.refusal ≡ None → HoldsPast g p
+
+-- The call moves any past that the client stands for so.
+abbrev pub Moves : (Past → Past → Type 0) → Client → Client → Type 0
+Moves R g h = (p : Past) → RepresentsPast g p → (q : Past) × R p q × RepresentsPast h q
+
+-- memory ran out
+pub record RunsOutOfMemory (r : SearchEnd) (h : Client) : Type 0 where
+  pub answer : r ≡ end.Refused
+  pub refusal : h.refusal ≡ Some OutOfMemory
+
+-- The model is kept that the solver tells, or memory ran out.
+pub data KeepsModel (r : SearchEnd) (g h : Client) : Type 0 where
+  Refused : RunsOutOfMemory r h → KeepsModel r g h
+  Kept : (m : List Literal) → r ≡ end.Satisfiable →
+      ((s : State) → Represents g.solver s → IsCompletable s.naming s.clauses s.assumptions s.counted m) →
+      IsSetOf m h.model → h ≡ record g { model = h.model } → KeepsModel r g h
+
+-- The core is kept that the solver tells, or memory ran out.
+pub data KeepsCore (r : SearchEnd) (g h : Client) : Type 0 where
+  Refused : RunsOutOfMemory r h → KeepsCore r g h
+  Kept : (core : List Literal) → r ≡ end.Unsatisfiable →
+      ((s : State) → Represents g.solver s → AreNamesInUse s.naming core × IsFailedCore s.clauses s.assumptions (map (through_names s.naming) core)) →
+      IsSetOf core h.core → h ≡ record g { core = h.core } → KeepsCore r g h

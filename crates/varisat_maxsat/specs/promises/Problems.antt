@@ -1,0 +1,52 @@
+-- What is asked of a solver, and what its answer says.
+use Rattle.std.specs.Prelude.{◌≡◌, ℕ, ◌+◌, ◌≤◌, Bool, false, ◌||◌, if◌then◌else◌, List, [], ◌∷◌, ◌++◌, length, slice_index_or}
+use Rattle.varisat_theory.specs.promises.Literals.{Clause, Assignment, value, SatisfiesAll}
+
+-- A soft clause, and what an assignment costs that does not satisfy it.
+pub record Soft : Type 0 where
+  pub weight : ℕ
+  pub clause : Clause
+
+-- Hard clauses, which must be satisfied, and soft ones. All their variables are below the count.
+pub record Problem : Type 0 where
+  pub variables : ℕ
+  pub hard : List Clause
+  pub soft : List Soft
+
+-- no clauses yet
+abbrev pub starting : ℕ → Problem
+starting n = record { variables = n; hard = []; soft = [] }
+
+-- each clause with its weight
+abbrev pub paired : List ℕ → List Clause → List Soft
+paired (w ∷ ws) (c ∷ cs) = record { weight = w; clause = c } ∷ paired ws cs
+paired _ _ = []
+
+-- one more hard clause
+abbrev pub with_hard : Clause → Problem → Problem
+with_hard c p = record p { hard = p.hard ++ c ∷ [] }
+
+-- one more soft clause
+abbrev pub with_soft : ℕ → Clause → Problem → Problem
+with_soft w c p = record p { soft = p.soft ++ record { weight = w; clause = c } ∷ [] }
+
+-- whether a literal of the clause is true
+abbrev pub is_satisfied : Assignment → Clause → Bool
+is_satisfied a [] = false
+is_satisfied a (l ∷ ls) = value a l || is_satisfied a ls
+
+-- the sum of the weights of the clauses that the assignment does not satisfy
+abbrev pub cost : Assignment → List Soft → ℕ
+cost a [] = 0
+cost a (s ∷ ss) = (if is_satisfied a s.clause then 0 else s.weight) + cost a ss
+
+-- the assignment that a list of values writes
+abbrev pub assignment_of : List Bool → Assignment
+assignment_of values v = slice_index_or values v false
+
+-- The values satisfy the hard clauses at this cost, and no assignment that satisfies these costs less.
+pub record IsOptimum (p : Problem) (c : ℕ) (values : List Bool) : Type 0 where
+  pub each : length values ≡ p.variables
+  pub satisfied : SatisfiesAll (assignment_of values) p.hard
+  pub costs : cost (assignment_of values) p.soft ≡ c
+  pub least : (a : Assignment) → SatisfiesAll a p.hard → c ≤ cost a p.soft

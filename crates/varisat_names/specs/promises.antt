@@ -1,0 +1,7 @@
+-- What a promise to users rests on. Who wants to know what is proved reads these files, in the order that docs/GUARANTEES.md gives.
+pub mod Maps
+pub mod VarMap
+pub mod VarBiMap
+pub mod VarData
+pub mod Variables
+pub mod Settings

@@ -1,0 +1,5 @@
+pub mod AssumptionLevels
+pub mod AssumptionSteps
+pub mod AssumptionContexts
+pub mod NextAssumption
+pub mod AssumptionOutcomes

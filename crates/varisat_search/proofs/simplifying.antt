@@ -1,0 +1,17 @@
+pub mod ClausesExchanged
+pub mod HeaderChanges
+pub mod DiscardedClauses
+pub mod RepackedView
+pub mod ProvedUnits
+pub mod UnassignedLiterals
+pub mod SimplifiedLines
+pub mod SimplifiedKept
+pub mod ShrunkClauses
+pub mod FilteredUnits
+pub mod SimplifiedSearch
+pub mod SimplifiedContext
+pub mod SimplifiedBinary
+pub mod RootSimplified
+pub mod MendedLists
+pub mod MentionedFlags
+pub mod TracedClauses

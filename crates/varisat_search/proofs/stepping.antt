@@ -1,0 +1,15 @@
+pub mod StepErrors
+pub mod Backtrack
+pub mod BacktrackValues
+pub mod PropagatedBeforeDecisions
+pub mod RestartSteps
+pub mod StepOutcome
+pub mod StepRanks
+pub mod StepWithoutLines
+pub mod FixedLiterals
+pub mod ViewSearch
+pub mod DueReductions
+pub mod ReadyAfter
+pub mod PropagatedContext
+pub mod MadeSteps
+pub mod Frames

@@ -1,0 +1,9 @@
+pub mod SetVarCount
+pub mod DecidableVariables
+pub mod TakenVariables
+pub mod SkippedHead
+pub mod ForgottenViews
+pub mod ForgottenValues
+pub mod KeptNames
+pub mod SolverVariables
+pub mod TakenSolvers

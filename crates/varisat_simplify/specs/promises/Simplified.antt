@@ -1,0 +1,56 @@
+-- What a simplified formula is.
+use Rattle.std.specs.Prelude.{◌≡◌, ℕ, ◌≤◌, Bool, List, [], ◌++◌, ◌⊎◌, length, take}
+use Rattle.varisat_theory.specs.promises.Literals.{Clause, Assignment, SatisfiesAll}
+use Rattle.varisat_theory.specs.promises.Derivations.{Line, IsDerivation, Refutes, SpeakOf}
+use Rattle.varisat_theory.specs.promises.Held.{SameClauses}
+use Rattle.varisat_formula.specs.promises.Formulas.{Formula, AreBelow}
+use Rattle.varisat_simplify.specs.promises.Leading.{LeadsTo, IsNamedBy, AreNamedBy}
+use Rattle.varisat_simplify.specs.promises.Stacks.{assignment_of, extended}
+use Rattle.varisat_simplify.specs.inside.States.{State, live_clauses, Reduces, Becomes}
+
+-- the formula has just the live clauses
+pub record Lists (s : State) (f : Formula) : Type 0 where
+  pub count : s.var_count ≤ f.var_count
+  pub same : f.clauses ≡ live_clauses s
+
+-- The clauses P were loaded, so many of them, and the state was made of that.
+pub record IsReduced (P : List Clause) (n : ℕ) (frozen : List Bool) (count : ℕ) (t : State) : Type 0 where
+  pub loaded : State
+  pub reduces : Reduces P loaded
+  pub same : SameClauses loaded.clauses P
+  pub becomes : Becomes loaded t
+  pub vars : loaded.var_count ≡ n
+  pub flags : loaded.frozen ≡ frozen
+  pub whole : count ≡ length loaded.clauses
+
+-- What is handed out is what is live, or the first clauses as they are.
+abbrev pub Finishes : State → ℕ → Formula → List Clause → List Line → Type 0
+Finishes s count g stack lines =
+    (Lists s g × (stack ≡ s.stack) × (lines ≡ s.lines)) ⊎
+    ((g.clauses ≡ take count s.clauses) × (stack ≡ []) × (lines ≡ []))
+
+-- The formula g was made of f. The stack extends its models, and the lines are a proof that leads to it.
+pub record IsMadeOf (f g : Formula) (stack : List Clause) (lines : List Line) : Type 0 where
+  -- what satisfies f satisfies g
+  pub keeps : (a : Assignment) → SatisfiesAll a f.clauses → SatisfiesAll a g.clauses
+  -- values for all variables that f names that satisfy g are extended to ones that satisfy f
+  pub extends : (vs : List Bool) → AreBelow (length vs) f.clauses → SatisfiesAll (assignment_of vs) g.clauses →
+      SatisfiesAll (assignment_of (extended stack vs)) f.clauses
+  -- The lines are a derivation from the clauses of f: each added clause follows where its line stands, each deletion names a clause
+  -- that is present, and in the end just the clauses of g are present.
+  pub leads : LeadsTo f.clauses lines g.clauses
+  -- the literals of g and of the lines are some of f
+  pub named : AreNamedBy f.clauses g.clauses
+  pub spoken : SpeakOf (IsNamedBy f.clauses) lines
+
+-- Behind the lines each derivation from the clauses of g is one from those of f.
+abbrev pub DerivesBehind : Type 0
+DerivesBehind =
+    (f g : Formula) (stack : List Clause) (lines more : List Line) → IsMadeOf f g stack lines → IsDerivation g.clauses more →
+    IsDerivation f.clauses (lines ++ more)
+
+-- Behind the lines each refutation of g is one of f.
+abbrev pub RefutesBehind : Type 0
+RefutesBehind =
+    (f g : Formula) (stack : List Clause) (lines more : List Line) → IsMadeOf f g stack lines → Refutes g.clauses more →
+    Refutes f.clauses (lines ++ more)

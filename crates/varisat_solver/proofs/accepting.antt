@@ -1,0 +1,10 @@
+pub mod AcceptClause
+pub mod AcceptLoad
+pub mod AcceptSolverVariables
+pub mod Additions
+pub mod AssumeList
+pub mod NamesComing
+pub mod NamingStates
+pub mod NewNames
+pub mod SolversInTurn
+pub mod Joins

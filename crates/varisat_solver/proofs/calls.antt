@@ -1,0 +1,9 @@
+pub mod CallStates
+pub mod ChangeEnds
+pub mod Carried
+pub mod Counted
+pub mod ModelsFit
+pub mod ReadPlaces
+pub mod SettingsCalls
+pub mod SolverCalls
+pub mod SpacesAgree

@@ -1,0 +1,9 @@
+pub mod HiddenTables
+pub mod HiddenStates
+pub mod VariableMoves
+pub mod ModeChanges
+pub mod TableMarks
+pub mod RecycledGlobals
+pub mod ShownStates
+pub mod VariableStates
+pub mod VariableChanges

@@ -1,0 +1,9 @@
+pub mod BegunSteps
+pub mod FindVerdictSteps
+pub mod RootSimplifiedParts
+pub mod SearchLinks
+pub mod SearchRounds
+pub mod SearchVerdicts
+pub mod SinceSteps
+pub mod SolveVerdict
+pub mod SolverSteps

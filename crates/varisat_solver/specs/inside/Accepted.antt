@@ -1,0 +1,48 @@
+-- Which states a solver stands for once a clause was accepted, or a list of assumptions.
+use Rattle.std.specs.Prelude.{◌≡◌, ℕ, ◌≤◌, Option, List, [], ◌∷◌, ◌++◌, map, length}
+use Rattle.varisat_theory.specs.promises.Literals.{Literal, Clause}
+use Rattle.varisat_theory.specs.promises.Journals.{Entry, Accepts, Assumes}
+use Rattle.varisat_search.specs.declared.context.Context.{Context}
+use Rattle.varisat_search.specs.declared.state.SolverState.{SolverState}
+use Rattle.varisat_tracer.specs.inside.Tracing.{TracerState}
+use Rattle.varisat_solver.specs.promises.States.{State, with_variables, Verdict}
+use Rattle.varisat_solver.specs.promises.Names.{name_all, through_names}
+use Rattle.varisat_solver.specs.promises.Calls.{with_naming, VerdictAfter, append_clause, with_assumptions}
+use Rattle.varisat_solver.specs.promises.Journals.{with_entries, LogsStaying, LogsToProof}
+use Rattle.varisat_solver.specs.inside.Spaces.{SpacesFit, KeepVariables}
+use Rattle.varisat_solver.specs.promises.Summaries.{spaces_with}
+
+-- the literals over identities, once their names are named
+abbrev pub identity_literals : State → List Literal → List Literal
+identity_literals s d = map (through_names (name_all d s.naming)) d
+
+-- the verdict may change, and whether the formula is empty
+abbrev pub KeepsValidity : SolverState → SolverState → Type 0
+KeepsValidity old new = new ≡ record old { sat_state = new.sat_state; formula_is_empty = new.formula_is_empty }
+
+-- Once the names of the clause are in use, the search y has at most as many variables as there are identities.
+abbrev pub IsWithinIdentities : {A : Type 0} → Clause → TracerState → Context A → Context A → Type 0
+IsWithinIdentities d p x y =
+    (s : State) → SpacesFit (spaces_with p.tables p.proof.checker x) s → length y.assignment.current ≤ (name_all d s.naming).made
+
+-- The clause was accepted: the journal goes on with it, and then with lines, and so does what a proof was told. Identities that are
+-- new have variables then.
+abbrev pub RepresentsOnceAccepted : {A : Type 0} → Clause → TracerState → Context A → TracerState → Context A → Type 0
+RepresentsOnceAccepted d p x q y =
+    (s : State) → SpacesFit (spaces_with p.tables p.proof.checker x) s →
+    (v : Verdict) × (logged : List Entry) × (variables : ℕ → Option ℕ) × VerdictAfter s.clauses (identity_literals s d) s.verdict v
+    × LogsStaying 0 (s.logged ++ Accepts (identity_literals s d) ∷ []) logged
+    × KeepVariables s.naming.made s.variables variables × LogsToProof variables s.logged logged p.proof q.proof
+    × SpacesFit (spaces_with q.tables q.proof.checker y)
+    (with_variables variables (with_entries logged (append_clause (identity_literals s d) v (with_naming (name_all d s.naming) s))))
+
+-- The list is assumed in place of the one before, and the journal goes on with it, and so does what a proof was told. Identities
+-- that are new have variables then.
+abbrev pub RepresentsOnceAssumed : {A : Type 0} → List Literal → TracerState → Context A → TracerState → Context A → Type 0
+RepresentsOnceAssumed d p x q y =
+    (s : State) → SpacesFit (spaces_with p.tables p.proof.checker x) s →
+    (variables : ℕ → Option ℕ) × KeepVariables s.naming.made s.variables variables
+    × LogsToProof variables s.logged (s.logged ++ Assumes (identity_literals s d) ∷ []) p.proof q.proof
+    × SpacesFit (spaces_with q.tables q.proof.checker y)
+    (with_variables variables (with_entries (s.logged ++ Assumes (identity_literals s d) ∷ [])
+    (with_assumptions (identity_literals s d) (with_naming (name_all d s.naming) s))))

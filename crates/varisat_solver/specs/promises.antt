@@ -1,0 +1,19 @@
+-- What a promise to users rests on. Who wants to know what is proved reads these files, in the order that docs/GUARANTEES.md gives.
+pub mod Names
+pub mod OpenProofs
+pub mod ProofBytes
+pub mod ProofCalls
+pub mod States
+pub mod Models
+pub mod Refusals
+pub mod Targets
+pub mod Budgets
+pub mod Additions
+pub mod Calls
+pub mod ReturnedLists
+pub mod Summaries
+pub mod StepEntries
+pub mod Journals
+pub mod Usage
+pub mod ClauseCalls
+pub mod Detaching

@@ -1,0 +1,14 @@
+pub mod Members
+pub mod Values
+pub mod Assigned
+pub mod Growth
+pub mod Implication
+pub mod Sound
+pub mod RatLines
+pub mod ConflictForms
+pub mod Saturated
+pub mod Learning
+pub mod Example
+pub mod Held
+pub mod Lines
+pub mod Places

@@ -48,7 +48,7 @@ is-true seen taken call.CloseProof (answer.CloseProof r) v s t g m = close taken
 is-true seen taken call.EnableSelfChecking (answer.EnableSelfChecking r) v s t g m = enable-checking v s t r g m
 is-true seen taken _ _ v s t g m = absurd m
 
--- what was told is the past's journal, as it is the state's
+-- what was logged is the past's journal, as it is the state's
 past-journal : (v : Findings) (s : State) → Agrees v s → (IsValid s → IsJournal s) → (IsValid s → IsLoggedWithin s.ledger.steps s.logged) → IsValid s →
     IsPastJournal (past_of v s)
 past-journal v s g logged within c =

@@ -10,7 +10,7 @@ use Rattle.varisat_theory.proofs.journals.NewClauses.{adding_leads, adding_adds}
 use Rattle.varisat_theory.proofs.steps.StepAccounts.{added_append}
 use Rattle.varisat_solver.specs.promises.Journals.{LogsMore, AreDerived}
 
--- What was told leads somewhere, and its lines add at least as many clauses as interrupted calls made steps.
+-- What was logged leads somewhere, and its lines add at least as many clauses as interrupted calls made steps.
 pub record KnowsLogged (logged : List Entry) (interrupted : ℕ) : Type 0 where
   pub held : List Clause
   pub led : Leads [] logged held
@@ -22,7 +22,7 @@ led-on a b es held after e d l = subst (λ xs. Leads [] xs after) (sym e) (leads
 added-on : (a b es : List Entry) → b ≡ a ++ es → added (lines_of b) ≡ added (lines_of a) + added (lines_of es)
 added-on a b es e = ap (λ xs. added (lines_of xs)) e ∙ ap added (lines_append a es) ∙ added_append (lines_of a) (lines_of es)
 
--- further entries are told
+-- further entries are logged
 pub logged-more : (n : ℕ) (a b : List Entry) (steps : ℕ) → KnowsLogged a steps → LogsMore n a b → KnowsLogged b steps
 logged-more n a b steps k m =
     let (after, d) = m.goes k.held k.led in

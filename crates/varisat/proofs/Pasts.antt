@@ -482,7 +482,7 @@ may-tell-core v s None k e = false_from_ne_true v.has_core (λ h. no-core s.verd
 may-tell-core v s (Some core) k e =
     (no-model-false v s k (core-answer s.verdict (map (through_names s.naming) core) e.1), e.0, logged-fails s core k.right e)
 
--- what is told of a state is told of the past
+-- what holds of a state holds of the past
 tell-list : (of-state : Option (List Literal) → Type 0) (of-past : Option (List Literal) → Type 0) (v : Findings) (s t : State)
     (r : Result (Option (List Literal)) AllocError) → Agrees v s → ((list : Option (List Literal)) → Knows v s → of-state list → of-past list) →
     ReturnsList of-state s r t → Leads (ReturnsList of-past (past_of v s) r) t

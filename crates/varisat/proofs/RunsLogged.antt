@@ -1,4 +1,4 @@
--- What the calls of a run tell together.
+-- What the calls of a run log together.
 use Rattle.std.proofs.Common.{List, [], ◌∷◌, ◌++◌, refl, subst, ◌≡◌, ℕ, ◌+◌, ◌-◌, Bool, true, false, Option, None, map, inl, inr, Result, Ok, Err, sym, ap, ◌∙◌, arith}
 use Rattle.std.specs.declared.alloc.AllocError.{AllocError}
 use Rattle.varisat_formula.specs.promises.Streams.{Input, Taken}
@@ -62,7 +62,7 @@ logs-same s t e v = record {
   logged = subst (λ (x : State). LogsMore 0 s.logged x.logged) (sym e) (logs-nothing s.logged);
 }
 
--- steps are counted anew, and nothing is told
+-- steps are counted anew, and nothing is logged
 logs-anew : (s t : State) → t ≡ state.count_anew s → state.IsValid t → LogsOn s t
 logs-anew s t e v = record {
   valid = subst state.IsValid e v;
@@ -71,7 +71,7 @@ logs-anew s t e v = record {
   logged = subst (λ (x : State). LogsMore 0 s.logged x.logged) (sym e) (logs-nothing s.logged);
 }
 
--- the count stays, and nothing that is told counts
+-- the count stays, and nothing that is logged counts
 logs-plainly : (s t : State) → state.IsValid s → t.ledger.steps ≡ s.ledger.steps → LogsMore 0 s.logged t.logged → LogsOn s t
 logs-plainly s t v e m = record { valid = v; made = 0; count = omega (arith, e); logged = m }
 
@@ -212,7 +212,7 @@ config s t u (Err Invalid) a w = logs-same s t a.1 w
 config s t u (Err (ConfigOutOfRange field)) a w = logs-same s t a.2 w
 config s t u (Err e) a w = absurd a
 
--- a proof opens, and nothing is told
+-- a proof opens, and nothing is logged
 open-proof : {W : Type 0} (taken : W → Taken) (target : W) (format : ProofFormat) (s t : State) (r : Result (Unit {0}) (SolverError × W)) →
     OpensProof taken target format s r t → state.IsValid t → LogsOn s t
 open-proof taken target format s t (Ok x) (v, n, b, e) w = logs-plainly s t v (ap (λ (x : State). x.ledger.steps) e)
@@ -222,14 +222,14 @@ open-proof taken target format s t (Err (ProofOpen, back)) a w = logs-same s t a
 open-proof taken target format s t (Err (ProofTooLate, back)) a w = logs-same s t a.4 w
 open-proof taken target format s t (Err e) a w = absurd a
 
--- a proof closes, and nothing is told
+-- a proof closes, and nothing is logged
 close : {W : Type 0} (taken : W → Taken) (s t : State) (r : Result (Option W) (SolverError × W)) → ClosesProof taken s r t → state.IsValid t → LogsOn s t
 close taken s t (Ok back) (h, has, e) w = logs-plainly s t (subst state.IsValid e w) (ap (λ (x : State). x.ledger.steps) e)
     (subst (λ (x : State). LogsMore 0 s.logged x.logged) (sym e) (logs-nothing s.logged))
 close taken s t (Err (ProofIoError cause, target)) (closed, has, b) w = absurd (no-way (with_proof None s) t b w)
 close taken s t (Err e) a w = absurd a
 
--- self checking is switched on, and nothing is told
+-- self checking is switched on, and nothing is logged
 enable-checking : (s t : State) (r : Result (Unit {0}) SolverError) → EnablesChecking s r t → state.IsValid t → LogsOn s t
 enable-checking s t (Ok x) (v, b, e) w = logs-plainly s t v (ap (λ (x : State). x.ledger.steps) e)
     (subst (λ (x : State). LogsMore 0 s.logged x.logged) (sym e) (logs-nothing s.logged))
@@ -262,7 +262,7 @@ call-logs seen taken call.CloseProof (answer.CloseProof r) s t m w = close taken
 call-logs seen taken call.EnableSelfChecking (answer.EnableSelfChecking r) s t m w = enable-checking s t r m w
 call-logs seen taken _ _ s t m w = absurd m
 
--- what is told in all, from call to call
+-- what is logged in all, from call to call
 pub call-within : {W S A : Type 0} (seen : S → Input) (taken : W → Taken) (c : Call W S A) (a : Answer W S A) (s t : State) →
     MakesCall seen taken s c a t → (state.IsValid s → IsLoggedWithin s.ledger.steps s.logged) → state.IsValid t → IsLoggedWithin t.ledger.steps t.logged
 call-within seen taken c a s t m w v = let on = call-logs seen taken c a s t m v in within-on s t on (w on.valid)

@@ -23,7 +23,7 @@ use Rattle.varisat.proofs.Pasts.{IsCapped, Knows, Agrees, Leads, past_of, like-p
 abbrev answered : Bool → Findings → Findings
 answered b v = record v { has_model = b; has_core = not b }
 
--- nothing is told where the verdict was known
+-- nothing is logged where the verdict was known
 same-logged : (s t : State) (b : Bool) → ReturnsVerdict by_state s b t → s.verdict ≢ Unknown → t.logged ≡ s.logged
 same-logged s t b r n = go r.steps
   where
@@ -97,7 +97,7 @@ some-with s t r =
     let right = subst (IsRight t.clauses t.assumptions t.counted) e r.right.right in
     (a, subst (SatisfiesAll a) (same-clauses r.rest) right.0, subst (MakesTrue a) (same-assumptions r.rest) right.1)
 
--- what was told refutes where false is returned and nothing assumed
+-- what was logged refutes where false is returned and nothing assumed
 conflict-logged : (s t : State) → ReturnsVerdict by_state (once_searched s) false t → s.assumptions ≡ [] → LogsConflict t.logged
 conflict-logged s t r n = go t.verdict refl
   where
@@ -120,11 +120,11 @@ none-with s t r =
     (subst (λ A. IsSatisfiableWith t.clauses A → ⊥) (same-assumptions r.rest)
     (right-false t.clauses t.assumptions t.counted t.verdict r.right.answer r.right.right))
 
--- nothing is told where the verdict was known, so what is told are lines and variables that leave
+-- nothing is logged where the verdict was known, so what is logged are lines and variables that leave
 nothing-logged : (s t : State) (b : Bool) (r : ReturnsVerdict by_state (once_searched s) b t) → s.verdict ≢ Unknown → AreDerived r.logged.entries
 nothing-logged s t b r n = nothing-said r.logged (same-logged (once_searched s) t b r n)
 
--- what is told where true is returned
+-- what is logged where true is returned
 logs-true : (s t : State) (r : ReturnsVerdict by_state (once_searched s) true t) → AreDerived r.logged.entries
 logs-true s t r = go t.verdict refl (is-unknown-or-not s.verdict)
   where

@@ -89,7 +89,7 @@ same-but : (y : Story) (p q : State) (l : Ledger) (u : Option OpenProof) → q �
     Sees y p → Sees y q
 same-but y p q l u e v h = subst (Sees y) (sym e) (sees-counted y p l u v h)
 
--- what is told beside, and the bytes of a proof
+-- what is logged beside, and the bytes of a proof
 sees-like : {may_leave : Bool} (y : Story) (p q : State) → Sees y p → IsLikeButLeft may_leave p q → Sees y q
 sees-like y p q h e = subst (Sees y) (sym e.same) (go h)
   where
@@ -364,7 +364,7 @@ true-core : (m : List ℕ) (f : Option Bool) (p : State) → IsValid p → Fits 
 true-core m f p c k None h = λ e. no-core p.verdict h (k.found false e)
 true-core m f p c k (Some core) h = (c, h.0, logged-fails p core k.right h)
 
--- a list is told, or none
+-- a list is logged, or none
 tell-list : (of-state : Option (List Literal) → Type 0) (of-story : Story → Option (List Literal) → Type 0) (y : Story) (p q : State)
     (r : Result (Option (List Literal)) AllocError) → Sees y p → (y.found ≡ None → of-story y None) →
     (IsValid p → (m : List ℕ) (f : Option Bool) → Fits m f p → (list : Option (List Literal)) → of-state list → of-story (story_of m f p) list) →

@@ -1,4 +1,4 @@
--- What the bytes of a proof say: the clauses accepted, the cores told, and that a marked proof passes.
+-- What the bytes of a proof say: the clauses accepted, the cores logged, and that a marked proof passes.
 use Rattle.std.proofs.Common.{◌≡◌, ◌∙◌, ℕ, Bool, Option, List, [], ◌∷◌, ◌++◌, map, sym, ap, subst, append_assoc, true, false, inl, inr, refl, Result}
 use Rattle.std.proofs.lemmas.List.{append-nil, map-append, append_cancel_left}
 use Rattle.varisat_theory.specs.promises.Literals.{Literal, Clause}
@@ -31,7 +31,7 @@ use Rattle.varisat_proof.proofs.PassingJournals.{marked_accepted, journals_pass}
 use Rattle.varisat.specs.promises.Pasts.{by_answers}
 use Rattle.varisat_proof.specs.declared.proof.format.LineKind.TheVariants as kind
 
--- A core that a call of `solve` finds is told and written, and conflicts with what is held then.
+-- A core that a call of `solve` finds is logged and written, and conflicts with what is held then.
 
 pub cores-are-logged : (s t : State) (b : Bool) (core : List Literal) (held : List Clause) → ReturnsVerdict by_state s b t → s.verdict ≡ Unknown →
     t.verdict ≡ UnsatUnderAssumptions core → Leads [] t.logged held → Conflicts held core

@@ -30,7 +30,7 @@ pub struct SolveOptions {
     pub check: bool,
     /// How many steps the search may make, where they are limited.
     pub max_steps: Option<u64>,
-    /// After how many steps each it is told how far the search is, if it is.
+    /// After how many steps each it is reported how far the search is, if it is.
     pub progress: Option<u64>,
     /// How a proof is written, where there is one.
     pub format: ProofFormat,
@@ -46,7 +46,7 @@ pub enum Report<A: Allocator + Copy> {
 }
 
 /// Decides a DIMACS CNF text. A target takes the lines of the search as a proof, which is opened before a clause is
-/// accepted and closed at the end; then the target is there again. After an error it is gone. How far the search is is told
+/// accepted and closed at the end; then the target is there again. After an error it is gone. How far the search is goes
 /// on `err`, where that is wanted.
 // The new solver has a function of its own: it is dropped in one place and in one step, not at each return of `decide_in`
 // and part by part. Where all went well nothing but memory is left of it, and the program ends: a list for each literal is

@@ -29,7 +29,7 @@ pub fn again_is_no_step()
     ensures { AgainIsNoStep }
 {}
 
-/// A core that is found is told, and conflicts with what is held then.
+/// A core that is found is logged, and conflicts with what is held then.
 pub fn cores_are_logged()
     ensures { CoresAreLogged }
 {}
@@ -39,7 +39,7 @@ pub fn cores_are_written()
     ensures { CoresAreWritten }
 {}
 
-/// Where nothing was ever hidden a check of a marked proof, from no clause, finds nothing wrong. It tells just the
+/// Where nothing was ever hidden a check of a marked proof, from no clause, finds nothing wrong. It reports just the
 /// accepted clauses and the cores, up to where propagation first conflicts, and refutes where the clauses are refuted.
 pub fn marked_proofs_pass()
     ensures { MarkedProofsPass }

@@ -32,7 +32,7 @@ pub const STATUS_UNSATISFIABLE: u8 = 20;
 
 /// Runs a session: each line of the input is one call of a new solver, and gets one line of answer. The status is 0 at
 /// the end of the input. Where memory runs out for a line, or the reader or the writer fails, `error: ` and the cause
-/// are told on `err`, and the status is 2.
+/// are reported on `err`, and the status is 2.
 pub fn session_lines<A: Allocator + Copy, R: Read + Drop, W: Write, E: Write>(
     alloc: A,
     input: R,
@@ -48,9 +48,9 @@ pub fn session_lines<A: Allocator + Copy, R: Read + Drop, W: Write, E: Write>(
 /// Reads a DIMACS CNF text and decides it. Prints `s SATISFIABLE` and a `v` line with the model, status 10, or `s
 /// UNSATISFIABLE`, status 20; or `s UNKNOWN`, status 0, where the steps are spent before that is known. A target takes
 /// the lines of the search as a proof, which is opened before a clause is accepted and closed before anything is
-/// printed; then the target is there again. A fault of the text, its source, a target or memory is told on `err`, and
+/// printed; then the target is there again. A fault of the text, its source, a target or memory is reported on `err`, and
 /// the status is 2; nothing is printed then, or, where `out` failed, a beginning of what was to be. With `check` a
-/// checker runs inside the solver, and with `progress` it is told on `err`, after so many steps each and at the end,
+/// checker runs inside the solver, and with `progress` it is reported on `err`, after so many steps each and at the end,
 /// how far the search is. Where the text was decided the solver's memory is kept: this is for a program that ends then.
 /// The source and the targets have to have counted fewer than 2^64-1 faults.
 pub fn solve_lines<A: Allocator + Copy, S: ByteSource, P: ProofTarget, T: ProofTarget, E: Write>(
@@ -139,7 +139,7 @@ fn put_literal<T: ProofTarget>(out: &mut T, buffer: &mut Buffer, literal: Lit) -
 pub fn print_fault<E: Write, F: Display>(err: &mut E, fault: &F) -> u8
     ensures { result ≡ fault_status }
 {
-    // Of a writer that fails here nothing is left to tell.
+    // A writer that fails here leaves nothing to report.
     let _ = writeln!(err, "error: {fault}");
     STATUS_FAULT
 }

@@ -1,4 +1,4 @@
--- Which clauses are reasons, and marks that tell it.
+-- Which clauses are reasons, and marks that say it.
 use Rattle.std.proofs.Common.{◌≡◌, ℕ, Bool, true, false, ◌&&◌, ◌<◌, Option, None, List, [], ◌∷◌, length, get_or, cond, refl, sym, ap, ◌∙◌, subst, arith}
 use Rattle.std.specs.Prelude.{is_some}
 use Rattle.varisat_theory.specs.promises.Membership.{◌∈◌}

@@ -216,7 +216,7 @@ fn resolve<A: Allocator + Copy>(
     let mut count = add_literals(parts, scratch, var_flags, conflict.lits(parts.clause_alloc))?;
     // The other literals of a reason are false by earlier places of the trail. So backwards over the trail no literal
     // comes back once it was resolved, and `count`, the marked literals of the current level that are still ahead,
-    // tells when the last one is met.
+    // says when the last one is met.
     let mut place = parts.trail.trail().len();
     'places: loop {
         place -= 1;

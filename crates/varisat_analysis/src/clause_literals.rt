@@ -49,7 +49,7 @@ fn clear_flagged(flags: &mut [bool], lits: &[Lit])
     }
 }
 
-/// Copies the clause's literals, each once. Returns whether one of them is another's opposite. The flags tell what was
+/// Copies the clause's literals, each once. Returns whether one of them is another's opposite. The flags say what was
 /// copied already, so that a long clause takes time in proportion to its length; all are false again at the end.
 pub fn collect_flagged<A: Allocator + Copy>(
     lits: &mut Vec<Lit, A>,

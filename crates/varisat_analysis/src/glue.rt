@@ -98,7 +98,7 @@ fn clear_levels<A: Allocator + Copy>(flags: &mut [bool], impl_graph: &ImplGraph<
     }
 }
 
-/// The glue of the clause: how many levels its literals have, less one. The flags tell which levels were counted, so
+/// The glue of the clause: how many levels its literals have, less one. The flags say which levels were counted, so
 /// that no memory is taken; all are false again at the end.
 pub fn compute_glue<A: Allocator + Copy>(
     flags: &mut [bool],

@@ -1,4 +1,4 @@
--- A search whose end is told by a number.
+-- A search whose end is returned as a number.
 use Rattle.std.proofs.Common.{◌≡◌, ℕ}
 use Rattle.varisat_client.specs.declared.client.SearchEnd.{SearchEnd}
 use Rattle.varisat_client.specs.promises.Pasts.{IsSearchEnd}

@@ -29,7 +29,7 @@ abbrev pub MovesHeld : (Past → Past → Type 0) → Option Client → Option C
 MovesHeld R (Some g) (Some h) = Moves R g h
 MovesHeld R _ _ = ⊥
 
--- What is told holds of all that the client behind the handle stands for.
+-- What is said holds of all that the client behind the handle stands for.
 abbrev pub IsTrueBehind : (Past → Type 0) → Option Client → Type 0
 IsTrueBehind P (Some g) = (p : Past) → RepresentsPast g p → P p
 IsTrueBehind P None = ⊥

@@ -1,4 +1,4 @@
--- The numbers by which a C program is told a number or a refusal.
+-- The numbers by which a C program is given a number or a refusal.
 use Rattle.std.specs.Prelude.{◌≡◌, ℕ, ◌-◌, ◌^◌, min, ℤ, pos, ◌-ℤ◌, Result, Ok, Err}
 use Rattle.varisat_literals.specs.promises.Numbers.{variable_number}
 use Rattle.varisat_calls.specs.Callers.{Caller, NamesNew}
@@ -14,10 +14,10 @@ abbrev pub count_answer : Result ℕ ℕ → ℤ
 count_answer (Ok n) = pos (min n (2 ^ 63 - 1))
 count_answer (Err n) = pos 0 -ℤ pos n
 
--- the number tells of the variable that came into use
+-- the number speaks of the variable that came into use
 abbrev pub NamesBy : Caller → ℤ → Caller → Type 0
 NamesBy g n h = (r : Result ℕ ℕ) × (n ≡ variable_answer r) × NamesNew g r h
 
--- the number tells of the text that ended
+-- the number speaks of the text that ended
 abbrev pub EndsBy : Caller → ℤ → Caller → Type 0
 EndsBy g n h = (r : Result ℕ ℕ) × (n ≡ count_answer r) × EndsText g r h

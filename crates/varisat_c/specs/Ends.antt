@@ -1,4 +1,4 @@
--- The numbers by which a C program is told how a search ended, and why calls are refused.
+-- The numbers by which a C program is given how a search ended, and why calls are refused.
 use Rattle.std.specs.Prelude.{◌≡◌, ℕ, Option, Some, None}
 use Rattle.varisat_client.specs.declared.client.SearchEnd.{SearchEnd}
 use Rattle.varisat_client.specs.declared.client.SearchEnd.TheVariants.{Satisfiable, Unsatisfiable, Interrupted, Refused}
@@ -20,6 +20,6 @@ refusal_code (Some OutOfMemory) = 1
 refusal_code (Some VariableLimit) = 2
 refusal_code (Some ClauseStoreFull) = 3
 
--- the search that the number tells of moves the past so
+-- the search that the number speaks of moves the past so
 abbrev pub SearchesBy : ℕ → Past → Past → Type 0
 SearchesBy code p q = (end : SearchEnd) × (code ≡ end_code end) × IsSearchEnd end p q

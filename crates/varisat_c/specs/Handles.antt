@@ -31,7 +31,7 @@ abbrev pub MovesHeld : (Caller → Caller → Type 0) → Option Caller → Opti
 MovesHeld R (Some g) (Some h) = R g h
 MovesHeld R _ _ = ⊥
 
--- What is told holds of the caller behind the handle.
+-- What is said holds of the caller behind the handle.
 abbrev pub IsTrueBehind : (Caller → Type 0) → Option Caller → Type 0
 IsTrueBehind P (Some g) = P g
 IsTrueBehind P None = ⊥

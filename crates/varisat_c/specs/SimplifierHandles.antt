@@ -27,7 +27,7 @@ abbrev pub MovesHeld : (Simplifier → Simplifier → Type 0) → Option Simplif
 MovesHeld R (Some g) (Some h) = R g h
 MovesHeld R _ _ = ⊥
 
--- What is told holds of the simplifier behind the handle.
+-- What is said holds of the simplifier behind the handle.
 abbrev pub IsTrueBehind : (Simplifier → Type 0) → Option Simplifier → Type 0
 IsTrueBehind P (Some g) = P g
 IsTrueBehind P None = ⊥

@@ -1,4 +1,4 @@
-//! The numbers by which a C program is told a number or a refusal.
+//! The numbers by which a C program is given a number or a refusal.
 ghost use Rattle.std.specs.Prelude.{◌≡◌};
 ghost use Rattle.varisat_c.specs.Codes.{count_answer, variable_answer};
 

@@ -1,4 +1,4 @@
-//! The numbers by which a C program is told how a search ended, and why calls are refused.
+//! The numbers by which a C program is given how a search ended, and why calls are refused.
 ghost use Rattle.std.specs.Prelude.{◌≡◌};
 ghost use Rattle.varisat_c.specs.Ends.{end_code, refusal_code};
 

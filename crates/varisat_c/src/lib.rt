@@ -238,7 +238,7 @@ pub extern "C" fn caller_is_failed(alloc: Global, handle: &mut Handle, number: i
     answer
 }
 
-/// Brings the hidden variables back as witnesses, and tells their names.
+/// Brings the hidden variables back as witnesses, and returns their names.
 #[unsafe(no_mangle)]
 pub extern "C" fn caller_observe(alloc: Global, handle: &mut Handle) -> u8
     requires { IsSome handle.old.held }
@@ -349,7 +349,7 @@ pub extern "C" fn caller_is_valid(alloc: Global, handle: &mut Handle) -> bool
     answer
 }
 
-/// How many numbers the list has that was told last.
+/// How many numbers the list has that was returned last.
 #[unsafe(no_mangle)]
 pub extern "C" fn caller_told_len(alloc: Global, handle: &mut Handle) -> usize
     requires { IsSome handle.old.held }

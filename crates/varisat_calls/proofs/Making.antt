@@ -65,16 +65,16 @@ mode-set variable found mode u g mid h n answer is positive named number same ma
     let changes = subst (λ (v : ℕ). Makes (λ s r t. ChangesMode mode s v r t) g answer mid) named makes in
     Made mode (sym is) positive (answer, number, subst (λ x. Makes (changing mode variable) g answer x) (sym same) changes)
 
--- 2. Lists that are told.
+-- 2. Lists that are returned.
 
--- the list is told that the solver told
+-- the list is returned that the solver returned
 pub list-returned : (R : State → Result (Option (List Literal)) AllocError → State → Type 0) (g h : Caller) (list : List Literal) →
     LeadsRepresented g.solver (λ s t. R s (Ok (Some list)) t) h.solver → h.returned ≡ returned_numbers list → h ≡ record g { returned = h.returned } →
     ReturnsListOf R g 0 h
 list-returned R g h list call returned rest =
     Returned list refl call (rest ∙ ap (λ ts. let made : Caller = record g { returned = ts } in made) returned)
 
--- the names are told under which hidden variables came back
+-- the names are returned under which hidden variables came back
 pub names-returned : (g h : Caller) (us : List ℕ) → ShowsNames us g h → h.returned ≡ returned_names us →
     h ≡ record g { solver = h.solver; returned = h.returned } → Shows g 0 h
 names-returned g h us shows returned rest =

@@ -1,6 +1,6 @@
 -- What a caller holds, and what the number of a call's answer says: the relation that the call of `Solver` has, over the literals of
 -- the numbers given. Numbers of answers are 0, those of the solver's refusals, 14 where what was given is none of what it should be,
--- and 15 where there is nothing to tell.
+-- and 15 where there is nothing to return.
 use Rattle.std.specs.Prelude.{◌≡◌, ◌⊎◌, ℕ, ℤ, pos, ◌<ℤ◌, ◌≤ℤ◌, Bool, true, false, Option, Some, None, List, [], ◌∷◌, ◌++◌, Result, Ok, Err, map}
 use Rattle.std.specs.declared.alloc.AllocError.{AllocError}
 use Rattle.varisat_theory.specs.promises.Membership.{◌∈◌}
@@ -23,7 +23,7 @@ use Rattle.varisat_calls.specs.Numbers.{returned_numbers, returned_names}
 use Rattle.varisat_calls.specs.Codes.{answer_number, verdict_number, numbered}
 
 -- The solver; what was given of the clause that is given a literal at a time, unless one of its literals found no memory; the numbers
--- of the list that was told last; and how far the DIMACS text came that is being given, if one is.
+-- of the list that was returned last; and how far the DIMACS text came that is being given, if one is.
 pub record Caller : Type 0 where
   pub solver : Summary
   pub clause : Option (List Literal)
@@ -35,14 +35,14 @@ abbrev pub clause_of : Bool → List Literal → Option (List Literal)
 clause_of true c = None
 clause_of false c = Some c
 
--- a caller of a new solver, to which nothing was told yet
+-- a caller of a new solver, to which nothing was returned yet
 pub record IsNew (g : Caller) : Type 0 where
   pub solver : Represents g.solver empty_state
   pub clause : g.clause ≡ Some []
   pub returned : g.returned ≡ []
   pub text : g.text ≡ None
 
--- what a call answers that has nothing to tell but whether it was refused
+-- what a call answers that has nothing to return but whether it was refused
 abbrev pub Answer : Type 0
 Answer = Result (Unit {0}) SolverError
 
@@ -112,7 +112,7 @@ pub data SetsMode (variable : ℤ) (mode : Option SamplingMode) (g : Caller) (n 
   Made : (m : SamplingMode) → mode ≡ Some m → pos 1 ≤ℤ variable → MakesNumbered (changing m variable) g n h →
       SetsMode variable mode g n h
 
--- The list is told that the solver tells, if it does. It is 3 where there was no room for the list, and then another one may be told.
+-- The list is returned that the solver returns, if it does. It is 3 where there was no room for the list, and then another one may be returned.
 pub data ReturnsListOf (R : State → Result (Option (List Literal)) AllocError → State → Type 0) (g : Caller)
     (n : ℕ) (h : Caller) : Type 0 where
   Returned : (list : List Literal) → n ≡ 0 → LeadsRepresented g.solver (λ s t. R s (Ok (Some list)) t) h.solver →
@@ -124,7 +124,7 @@ pub data ReturnsListOf (R : State → Result (Option (List Literal)) AllocError 
 abbrev pub ShowsNames : List ℕ → Caller → Caller → Type 0
 ShowsNames us g h = LeadsRepresented g.solver (λ s t. Observes s (Ok us) t) h.solver
 
--- Hidden variables come back, and their names are told, or there is no room for that; or the call is refused.
+-- Hidden variables come back, and their names are returned, or there is no room for that; or the call is refused.
 pub data Shows (g : Caller) (n : ℕ) (h : Caller) : Type 0 where
   Returned : (us : List ℕ) → n ≡ 0 → ShowsNames us g h →
       h ≡ record g { solver = h.solver; returned = returned_names us } → Shows g n h

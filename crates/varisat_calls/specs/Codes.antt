@@ -1,4 +1,4 @@
--- The numbers by which callers name formats, settings and modes, and by which they are told answers.
+-- The numbers by which callers name formats, settings and modes, and by which they are given answers.
 use Rattle.std.specs.Prelude.{ℕ, nat_eq, if◌then◌else◌, Bool, true, false, Option, Some, None, Result, Ok, Err}
 use Rattle.varisat_names.specs.declared.config.ConfigField.{ConfigField}
 use Rattle.varisat_names.specs.declared.config.ConfigField.TheVariants.{VsidsDecay, ClauseActivityDecay, ReduceLocalsInterval, ReduceMidsInterval, LubyRestartIntervalScale}

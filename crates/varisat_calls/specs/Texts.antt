@@ -28,7 +28,7 @@ pub record AddsClauses (read : Progress) (answer : Answer) (text : Option Progre
   pub call : LeadsRepresented g.solver (λ s t. AddsFormula s read.reading.clauses answer t) h.solver
   pub rest : h ≡ record g { solver = h.solver; text = text }
 
--- The clauses that ended are added, and then the text goes on, or its fault is told. A text that is refused is over.
+-- The clauses that ended are added, and then the text goes on, or its fault is reported. A text that is refused is over.
 pub data AddsRead (read : Progress) (g : Caller) (n : ℕ) (h : Caller) : Type 0 where
   GoesOn : read.reading.fault ≡ None → n ≡ 0 →
       AddsClauses read (Ok tt) (Some (without_clauses read)) g h → AddsRead read g n h
@@ -40,7 +40,7 @@ pub data AddsRead (read : Progress) (g : Caller) (n : ℕ) (h : Caller) : Type 0
 abbrev pub Feeds : List ℕ → Caller → ℕ → Caller → Type 0
 Feeds piece g n h = (read : Progress) × ReadsPiece (text_of g.text) piece read × AddsRead read g n h
 
--- what ends with the text is added; then the highest number of its header and its literals is told, or its fault
+-- what ends with the text is added; then the highest number of its header and its literals is returned, or its fault
 pub data EndsRead (read : Progress) (g : Caller) (r : Result ℕ ℕ) (h : Caller) : Type 0 where
   Ended : read.reading.fault ≡ None → r ≡ Ok read.reading.highest →
       AddsClauses read (Ok tt) None g h → EndsRead read g r h

@@ -37,7 +37,7 @@ pub struct Caller<A: Allocator + Copy> {
     // The literals of the clause or the assumptions that are given at once.
     given: Vec<Lit, A>,
     lookups: Lookups<A>,
-    // The list that was told last.
+    // The list that was returned last.
     returned: Vec<i32, A>,
     // The DIMACS text that is being given, if one is.
     text: Option<DimacsParser<A>>,
@@ -299,7 +299,7 @@ impl<A: Allocator + Copy> Caller<A> {
         }
     }
 
-    /// Brings the hidden variables back as witnesses, and tells their names.
+    /// Brings the hidden variables back as witnesses, and returns their names.
     pub fn observe(&mut self) -> u8
         ensures { Shows self.old result self.new }
     {
@@ -313,7 +313,7 @@ impl<A: Allocator + Copy> Caller<A> {
         }
     }
 
-    /// The list that was told last.
+    /// The list that was returned last.
     pub fn returned(&self) -> &[i32]
         ensures { result.now ≡ self.now.returned }
     {
@@ -458,7 +458,7 @@ impl<A: Allocator + Copy> Caller<A> {
     }
 
     /// Takes out what a proof wrote since the last call: from now on that is `written`. No contract says what bytes these are, since they
-    /// pass through a cell; what the target took is told by `close_proof`.
+    /// pass through a cell; what the target took is returned by `close_proof`.
     pub fn take_written(&mut self)
         ensures { self.new ≡ self.old }
     {

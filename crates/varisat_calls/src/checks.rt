@@ -26,14 +26,14 @@ pub const WRONG_PROOF: u8 = 16;
 /// A marked proof was given a clause that the text has not.
 pub const OTHER_CLAUSE: u8 = 17;
 
-/// What a check tells: a number, and the line of the proof, its byte or the line of the text that is wrong.
+/// What a check returns: a number, and the line of the proof, its byte or the line of the text that is wrong.
 #[derive(Clone, Copy)]
 pub struct Returned {
     pub number: u8,
     pub place: u64,
 }
 
-/// What a refusal tells.
+/// What a refusal has.
 fn returned_error(error: &CheckerError) -> Returned
     ensures { result.number ≢ 20 }
 {
@@ -48,7 +48,7 @@ fn returned_error(error: &CheckerError) -> Returned
     Returned { number, place }
 }
 
-/// What the end of a proof tells.
+/// What the end of a proof returns.
 fn returned_verdict(verdict: CheckVerdict) -> Returned
     ensures { result.number ≡ 20 → verdict ≡ Refutation }
 {

@@ -12,7 +12,7 @@ pub const DONE: u8 = 0;
 /// A call that was given no literal, no variable, no setting, no mode or no format.
 pub const WRONG: u8 = 14;
 
-/// A call that found no list or proof to tell.
+/// A call that found no list or proof to return.
 pub const NOTHING: u8 = 15;
 
 /// The setting of the number.

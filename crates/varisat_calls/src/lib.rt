@@ -1,5 +1,5 @@
 //! A solver for callers in other languages: lists of DIMACS numbers and pieces of texts go in, a number comes out of each call, and
-//! a list that is told is kept until the next one.
+//! a list that is returned is kept until the next one.
 #![tactic(auto)]
 
 ghost use Rattle.std.specs.Prelude.{◌≡◌};

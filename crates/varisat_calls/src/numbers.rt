@@ -1,4 +1,4 @@
-//! Lists of DIMACS numbers, by which callers give literals and are told them.
+//! Lists of DIMACS numbers, by which callers give literals and are given them.
 ghost use Rattle.std.specs.Prelude.{◌≡◌, ◌≢◌, ◌∷◌, ◌++◌, [], pos, map, true, false, Ok, OnOk};
 ghost use Rattle.varisat_theory.specs.promises.Membership.{◌∈◌};
 ghost use Rattle.varisat_literals.specs.promises.Numbers.{literal_numbered};

@@ -100,7 +100,7 @@ found-at buf (q ∷ ps) p h =
     (λ n. stored-later (clause_in buf q) (map (clause_in buf) ps) p n ∙ found-at buf ps p (⊎_elim (λ e. absurd (n (sym e))) (λ i. i) h))
     (equal_or_not q p)
 
--- what a place tells of a sound store
+-- what an offset says of a sound store
 pub record Found (s : Store) (p : ℕ) : Type 0 where
   pub ends : p + 3 + len_at s.words p ≤ length s.words
   pub long : 3 ≤ len_at s.words p

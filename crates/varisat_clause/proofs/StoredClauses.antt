@@ -58,7 +58,7 @@ from-literals (k ∷ ks) c (inr h) = let (j, i, e) = from-literals ks c h in (j,
 pub kept-at : (ks : List StoredClause) (p : ℕ) → IsClauseRef ks p → literals_at ks p ∈ literals_of ks
 kept-at ks p h = literals-∈ ks (stored_at ks p) (stored-∈ ks p h)
 
--- where the places rise, each tells its clause
+-- where the offsets rise, each names its clause
 pub stored-found : (ks : List StoredClause) → AreRising ks → (k : StoredClause) → k ∈ ks → stored_at ks k.place ≡ k
 stored-found [] r k h = absurd h
 stored-found (j ∷ ks) r k (inl e) = stored-here j ks k.place (sym (ap (λ x. x.place) e)) ∙ sym e

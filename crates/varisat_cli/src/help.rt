@@ -1,4 +1,4 @@
-//! What the program tells of itself.
+//! What the program says of itself.
 ghost use Rattle.std.specs.Prelude.{OnOk};
 ghost use Rattle.std.specs.Io.KnownBytes.{Appends};
 

@@ -159,14 +159,14 @@ fn check_format(options: &[String]) -> Option<ProofFormat> {
     }
 }
 
-// After how many steps each `--progress` tells how far the search is.
+// After how many steps each `--progress` reports how far the search is.
 const PROGRESS_INTERVAL: u64 = 10_000;
 
 // The least heap that a solver can be given, in bytes.
 const LEAST_HEAP: u64 = 4096;
 
 // The options of `solve`: where a proof goes, whether it is binary or marked, whether the search is checked, whether it is
-// told how far it is, whether nothing is simplified, a limit of steps, and the size of the solver's heap.
+// reported how far it is, whether nothing is simplified, a limit of steps, and the size of the solver's heap.
 #[derive(Drop)]
 struct SolveWords<'a> {
     proof: Option<&'a str>,
@@ -547,7 +547,7 @@ fn refuse_folder(found: &Metadata) -> io::Result<()>
 fn print_file_fault<E: Write, F: Display>(err: &mut E, path: &str, fault: &F) -> u8
     ensures { result ≡ fault_status }
 {
-    // Of a writer that fails here nothing is left to tell.
+    // A writer that fails here leaves nothing to report.
     let _ = writeln!(err, "error: '{path}': {fault}");
     STATUS_FAULT
 }

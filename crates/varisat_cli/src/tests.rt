@@ -91,7 +91,7 @@ fn words_of(rt: &HostRuntime, line: &str) -> Result<Vec<String>, Fail> {
 }
 
 // What options of `solve` are read as: the proof, whether it is binary, whether the search is checked, the limit of steps, and
-// after how many steps each progress is told.
+// after how many steps each progress is reported.
 type Options = Option<(Option<&'static str>, bool, bool, Option<u64>, Option<u64>)>;
 
 /// Words behind `solve`, and the options that they are read as.

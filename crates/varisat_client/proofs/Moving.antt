@@ -32,7 +32,7 @@ use Rattle.varisat_client.proofs.Refusing.{is-full, clause-refused, list-refused
 
 -- 1. A new client.
 
--- what a client stands for that refused no call
+-- what a client represents that refused no call
 stands-free : (g : Client) (p : Past) → g.refusal ≡ p.refusal → p.refusal ≡ None → HoldsPast g p → RepresentsPast g p
 stands-free g p e free k = record { refusal = e; full = λ f. absurd (let z : None ≡ Some ClauseStoreFull = sym free ∙ f in cc); holds = λ _. k }
 

@@ -13,7 +13,7 @@ use Rattle.varisat_client.specs.promises.Pasts.{Past, refuse, Refuses, Memory, L
 use Rattle.varisat_client.specs.inside.Clients.{WasGiven}
 use Rattle.varisat_client.proofs.Fitting.{past-limit}
 
--- what errors are told as
+-- what errors are returned as
 cases-refusal : (e : SolverError) → (e ≡ error.VariableLimit) ⊎ ((e ≡ error.ClauseStoreFull) ⊎ (refusal_for e ≡ OutOfMemory))
 cases-refusal error.VariableLimit = inl refl
 cases-refusal error.ClauseStoreFull = inr (inl refl)
@@ -29,7 +29,7 @@ cases-refusal error.ProofTooLate = inr (inr refl)
 cases-refusal (error.ConfigOutOfRange field) = inr (inr refl)
 cases-refusal (error.Dimacs cause) = inr (inr refl)
 
--- only one is told as a full store
+-- only one is returned as a full store
 pub is-full : (e : SolverError) → refusal_for e ≡ ClauseStoreFull → e ≡ error.ClauseStoreFull
 is-full e q =
     ⊎_elim

@@ -1,4 +1,4 @@
-//! A client of the solver that takes clauses and assumptions a literal at a time, and tells values one at a time.
+//! A client of the solver that takes clauses and assumptions a literal at a time, and returns values one at a time.
 ghost use Rattle.std.specs.Prelude.{◌≡◌, ◌≢◌, ◌∷◌, [], ◌++◌, pos, OnOk, false, None};
 ghost use Rattle.varisat_literals.specs.promises.Numbers.{literal_numbered};
 ghost use Rattle.varisat_solver.specs.promises.Summaries.{Represents};

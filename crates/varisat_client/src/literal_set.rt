@@ -64,7 +64,7 @@ impl<A: Allocator + Copy> LitSet<A> {
         code < self.flags.len() && self.flags[code]
     }
 
-    /// Puts these literals in place of those before. Where memory runs out nothing is told of what is left.
+    /// Puts these literals in place of those before. Where memory runs out nothing is known of what is left.
     pub fn replace(&mut self, lits: &[Lit]) -> Result<(), AllocError>
         ensures { OnOk result (IsSetOf lits.now self.new) }
     {

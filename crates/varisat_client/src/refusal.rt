@@ -15,7 +15,7 @@ pub enum Refusal {
     ClauseStoreFull,
 }
 
-/// As which reason a client tells an error of the solver. Only these three come: a client opens no proof, hides no
+/// As which reason a client returns an error of the solver. Only these three come: a client opens no proof, hides no
 /// variable, and calls nothing more after a refusal.
 pub(crate) fn refusal_for(error: &SolverError) -> Refusal
     ensures { result ≡ refusal_for error.now }

@@ -24,7 +24,7 @@ end_whole p q h f (inr o) = by_over p.over refl
     by_over true d = absurd (o.wants.more (over_gives GoesOn p (32 ∷ []) d ∙ sym (over_gives GoesOn p [] d)))
     by_over false d = absurd (no_fault (sym f ∙ ap (λ z. z.fault) (o.reading ∙ breaks_off OutOfMemory p d h)))
 
--- the end is told of where the reader was before it took nothing
+-- the end is that of where the reader was before it took nothing
 ends_before : (p m q : Progress) → AdvancesBy p [] m → IsEnding m q → IsEnding p q
 ends_before p m q z (inl e) = inl (e ∙ z.same Ends [])
 ends_before p m q z (inr o) = inr (record {

@@ -26,8 +26,8 @@ pub const STATUS_UNSATISFIABLE: u8 = 20;
 pub const STATUS_OPTIMUM: u8 = 30;
 
 /// Solves the problem of a WCNF text, and prints the answer as the MaxSAT Evaluations ask for it: `o`, `s OPTIMUM FOUND` and
-/// `v`, status 30; `s UNSATISFIABLE`, status 20; or `s UNKNOWN`, status 0, where a limit was met, which is told on `err`. A
-/// fault of the text, the target or memory is told on `err`, and the status is 2.
+/// `v`, status 30; `s UNSATISFIABLE`, status 20; or `s UNKNOWN`, status 0, where a limit was met, which is reported on `err`. A
+/// fault of the text, the target or memory is reported on `err`, and the status is 2.
 pub fn solve_lines<A: Allocator + Copy, T: ProofTarget, E: Write>(
     alloc: A,
     text: &[u8],
@@ -57,7 +57,7 @@ fn solve_problem<A: Allocator + Copy, T: ProofTarget, E: Write>(
         Ok(Some(optimum)) => print_optimum(alloc, &optimum, out, err),
         Ok(None) => print_answer(b"s UNSATISFIABLE\n", STATUS_UNSATISFIABLE, out, err),
         Err(error) => {
-            // Of a writer that fails here nothing is left to tell.
+            // A writer that fails here leaves nothing to report.
             let _ = writeln!(err, "{error}");
             print_answer(b"s UNKNOWN\n", STATUS_UNKNOWN, out, err)
         }

@@ -1,4 +1,4 @@
-//! Why no answer is told.
+//! Why no answer is returned.
 ghost use Rattle.std.specs.Prelude.{◌≡◌};
 ghost use Rattle.varisat_maxsat.specs.declared.refusal.MaxSatError.TheVariants.{OutOfMemory};
 
@@ -7,7 +7,7 @@ use thiserror::Error;
 use varisat_client::refusal::Refusal;
 use varisat_formula::formula::FormulaError;
 
-/// Why no answer is told.
+/// Why no answer is returned.
 #[derive(Clone, Copy, Debug, PartialEq, Eq, Error)]
 pub enum MaxSatError {
     /// Memory ran out.

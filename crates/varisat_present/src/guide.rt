@@ -91,7 +91,7 @@ impl<A: Allocator + Copy> Guide<A> {
         self.way.as_slice()
     }
 
-    /// The next place has a clause, which is watched by the two literals that are best to watch, if it has two. A watch tells
+    /// The next place has a clause, which is watched by the two literals that are best to watch, if it has two. A watch has
     /// all of a clause of two literals, which needs no copy.
     fn watch_next(&mut self, known: &Known<A>, clause: &[Lit]) -> Result<(), AllocError> {
         let Some((one, other)) = best_two(known, clause) else {

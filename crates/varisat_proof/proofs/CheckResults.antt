@@ -58,7 +58,7 @@ checks_sound format P Q (Err x) old new e k = absurd cc
 abbrev by_builder : List Clause → MarkedLog → MarkedLog → CheckVerdict → List Clause → List ℕ → Type 0
 by_builder P none logged v Q bytes = IsCheckOf (Text true) (state_of P none) bytes (Ok v) (state_of Q logged)
 
--- the report of what was told
+-- the report of what was logged
 pub record Reports {A : Type 0} (logged : MarkedLog) (v : CheckVerdict) (report : MarkedReport A) : Type 0 where
   pub verdict : report.verdict ≡ v
   pub inputs : report.inputs ≡ logged.inputs

@@ -1,4 +1,4 @@
--- A check of lines has one result, and they told one thing.
+-- A check of lines has one result, and they logged one thing.
 use Rattle.std.proofs.Common.{◌≡◌, ℕ, suc, List, [], ◌∷◌, ◌++◌, length, refl, sym, ap, subst, ◌∙◌, ⊎_elim, ◌⊎◌, inl, inr, Option, Some, None, Result, Ok, Err}
 use Rattle.std.proofs.lemmas.List.{append-nil}
 use Rattle.varisat_theory.specs.promises.Membership.{◌⊆◌}

@@ -29,7 +29,7 @@ pub fn derivation_is_accepted(_format: ProofFormat)
     ensures { DerivationIsAccepted _format }
 {}
 
-/// Over all bytes just one result of a check of marked lines is right, and the clauses and cores that were told up to
+/// Over all bytes just one result of a check of marked lines is right, and the clauses and cores that were logged up to
 /// where it stops are determined.
 pub fn one_check_is_right(_format: ProofFormat)
     ensures { CheckOnce (encoding_of _format) }
@@ -47,7 +47,7 @@ pub fn right_lines_pass(_format: ProofFormat)
     ensures { CheckGoesThrough (encoding_of _format) }
 {}
 
-/// A check from no clause finds nothing wrong in the marked proof of a right journal, and tells its clauses and its cores,
+/// A check from no clause finds nothing wrong in the marked proof of a right journal, and reports its clauses and its cores,
 /// up to where propagation first conflicts.
 pub fn right_journals_pass()
     ensures { JournalsPass }

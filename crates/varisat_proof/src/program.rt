@@ -27,7 +27,7 @@ pub const STATUS_FAULT: u8 = 2;
 /// refutes them, and `s NOT VERIFIED`, status 1, where it does not: no beginning of it conflicts, a line fails, or its
 /// bytes are no lines. A marked proof is checked from no clause, and is verified where it refutes and each clause of
 /// its `i` lines is equal as a set to one of the text. A fault of the text, the sources or `out`, and out of memory, is
-/// told on `err`, and the status is 2; `out` takes nothing then, unless it is `out` that failed, which has a beginning
+/// reported on `err`, and the status is 2; `out` takes nothing then, unless it is `out` that failed, which has a beginning
 /// of what was to be printed. The status is 0 only where no assignment satisfies the text's clauses. Each source and
 /// `out` have to have counted fewer than 2^64-1 faults.
 pub fn check_lines<A: Allocator + Copy, S: ByteSource, P: ByteSource, T: ProofTarget, E: Write>(
@@ -52,7 +52,7 @@ pub fn check_lines<A: Allocator + Copy, S: ByteSource, P: ByteSource, T: ProofTa
 }
 
 /// As `check_lines`, but for the lines that `Checker::check_drat` takes. Why a line fails, and how many lines a check of
-/// plain lines would have refused, is told on `err`. The status is 0 only where no assignment satisfies the text's
+/// plain lines would have refused, is reported on `err`. The status is 0 only where no assignment satisfies the text's
 /// clauses.
 pub fn check_drat_lines<
     A: Allocator + Copy,
@@ -122,7 +122,7 @@ fn verify_drat_in<A: Allocator + Copy, S: ByteSource, P: ByteSource, E: Write>(
 /// Tells which line of a DRAT proof is wrong, which bytes it has, and for which clause it is not RAT on its first literal.
 fn print_line<E: Write>(err: &mut E, step: u64, counts: &DratCounts, stopper: Option<&[Lit]>) {
     let (begin, end) = (counts.begin, counts.end);
-    // Where this writer fails nothing is left to tell of it.
+    // A writer that fails here leaves nothing to report.
     let _ = write!(
         err,
         "line {step}, from byte {begin} up to {end}: neither follows nor is RAT"

@@ -39,7 +39,7 @@ negated lit_value.Unknown = lit_value.Unknown
 negated lit_value.True = lit_value.False
 negated lit_value.False = lit_value.True
 
--- the list tells of each literal its value
+-- the list has each literal's value
 abbrev pub AreValuesOf : List (Option Bool) → List LitValue → Type 0
 AreValuesOf values told = (l : Literal) → slice_index_or told l lit_value.Unknown ≡ literal_value (value_in values l)
 

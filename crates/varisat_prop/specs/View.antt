@@ -97,7 +97,7 @@ level_of s l = (node_of s l).level
 abbrev pub node_at : View → ℕ → ImplNode
 node_at s k = node_of s (literal_at s k)
 
--- the literal stands on the trail before place k
+-- the literal is on the trail before place k
 abbrev pub IsOnTrailBefore : View → ℕ → Literal → Type 0
 IsOnTrailBefore s k l = (j : ℕ) × (j < k) × (literal_at s j ≡ l)
 
@@ -118,7 +118,7 @@ pub record WellFormed (s : View) : Type 0 where
   -- each variable has a node, and there are at most 2^28 variables
   pub nodes_are : length s.nodes ≡ length s.values
   pub small : length s.values ≤ variable_limit
-  -- the places rise, so that each tells its clause
+  -- the places rise, so that each names its clause
   pub places : AreRising s.clauses
   -- a kept clause names known variables and has two literals or more, none of them twice
   pub in_range : (c : Clause) → c ∈ kept s → (l : Literal) → l ∈ c → variable_of l < length s.values
@@ -131,7 +131,7 @@ pub record WellFormed (s : View) : Type 0 where
   pub is_true : (k : ℕ) → k < length s.trail → IsTrueIn s (literal_at s k)
   pub stands : (l : Literal) → IsTrueIn s l → IsOnTrailBefore s (length s.trail) l
   pub head : s.queue_head ≤ length s.trail
-  -- a literal's depth tells its place, so that none stands twice
+  -- a literal's depth gives its place, so that none stands twice
   pub depth_is : (k : ℕ) → k < length s.trail → (node_at s k).depth ≡ suc k
   -- the decisions stand on the trail, in rising order, each with reason Unit
   pub decided : (j : ℕ) → j < length s.decisions → (decision_at s j < length s.trail) × ((node_at s (decision_at s j)).reason ≡ reason.Unit)

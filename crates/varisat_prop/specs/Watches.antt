@@ -66,7 +66,7 @@ WatchesHoldTo s q = (i j p : ℕ) → IsClauseRef s.clauses i → j < 2 → p < 
 abbrev pub IsImpliedTo : View → ℕ → Type 0
 IsImpliedTo s q = (m p : ℕ) → p < q → m ∈ implied_by s (literal_at s p) → IsCovered s (m ∷ []) p
 
--- The lists, which are kept up to date, watch the clauses, and what stands before place q is settled; no decision stands behind it.
+-- The lists, which are kept up to date, watch the clauses, and hold to place q; no decision stands behind it.
 pub record IsWatched (W : Watches) (s : View) (q : ℕ) : Type 0 where
   pub lists : length W.lists ≡ 2 * length s.values
   pub enabled : W.enabled ≡ true

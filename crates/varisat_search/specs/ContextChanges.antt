@@ -53,7 +53,7 @@ with_settings update x = record x {
   vsids = record x.vsids { decay = unwrap_or update.vsids_decay x.vsids.decay };
 }
 
--- Settings are changed, or the first whose value is out of its range is told, and nothing changes.
+-- Settings are changed, or the first whose value is out of its range is returned, and nothing changes.
 abbrev pub ChangesSettings : {A : Type 0} → SolverConfigUpdate → Context A → Context A → Result (Unit {0}) ConfigError → Type 0
 ChangesSettings update old new r =
     MatchResult r

@@ -82,7 +82,7 @@ pub record BeginsStep {A : Type 0} (are : List Line → Type 0) (x z : Context A
   pub rest : ChangesPlaces begun z
 
 -- A step begins with a restart down to the last assumption, where that is due; then come the reductions, which delete
--- clauses, and the collection; then, at level 0, units are settled; then lines lead from what is left to the search after
+-- clauses, and the collection; then, at level 0, the root level is simplified; then lines lead from what is left to the search after
 -- the step. The lines are these, in turn.
 pub record GoesBySchedule {A : Type 0} (lines : List Line) (x z : Context A) : Type 0 where
   pub begun : Context A

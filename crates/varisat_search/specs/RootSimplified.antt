@@ -1,4 +1,4 @@
--- What comes of a search that settles its units of level 0 before a step.
+-- What comes of a search that simplifies the root level before a step.
 use Rattle.std.specs.Prelude.{◌≡◌, ◌≢◌, ◌⊎◌, ℕ, ◌<◌, ◌++◌, Bool, None, Result, MatchResult, List, [], ◌∷◌, length, take, slice_index_or}
 use Rattle.varisat_theory.specs.promises.Membership.{◌∈◌}
 use Rattle.varisat_theory.specs.promises.Literals.{Literal, Clause, variable_of}
@@ -68,16 +68,16 @@ pub record GoesOnByLines {A : Type 0} (are : List Line → Type 0) (x y : Contex
   pub decidable : SameDecidable (view x) x.vsids (view y) y.vsids
   pub last : y.assignment.last ≡ x.assignment.last
 
--- units are settled, by lines for which `are` holds
+-- the root level is simplified, by lines for which `are` holds
 abbrev pub SimplifiesRootByLines : {A : Type 0} → (List Line → Type 0) → Context A → Context A → Result (Unit {0}) Conflict → Type 0
 SimplifiesRootByLines are x y end = GoesOnByLines (λ lines. SimplifiesRoot lines (view x) (view y) end × are lines) x y
 
--- Where some are unsettled they are settled, and else there is no line. In any case the search goes on by lines for which `are` holds.
+-- Where there are root news the root level is simplified, and else there is no line. In any case the search goes on by lines for which `are` holds.
 abbrev pub SimplifiesRootIfNews : {A : Type 0} → (List Line → Type 0) → Context A → Context A → Result (Unit {0}) Conflict → Type 0
 SimplifiesRootIfNews are x y end = GoesOnByLines
     (λ lines. (HasRootNews (view x) → SimplifiesRoot lines (view x) (view y) end) × ((HasRootNews (view x) → ⊥) → lines ≡ []) × are lines) x y
 
--- Units are settled, and the step goes on from there: the lines are those of both, in turn.
+-- The root level is simplified, and the step goes on from there: the lines are those of both, in turn.
 pub record SimplifiesThenSteps {A : Type 0} (lines : List Line) (x z : Context A) : Type 0 where
   pub settled : Context A
   pub end : Result (Unit {0}) Conflict
@@ -87,11 +87,11 @@ pub record SimplifiesThenSteps {A : Type 0} (lines : List Line) (x z : Context A
   pub simplifies_root : SimplifiesRoot first (view x) (view settled) end
   pub steps : StepsTo (λ ls. ls ≡ rest) settled z
 
--- a step that begins unsettled settles its units first
+-- a step that begins with root news simplifies the root level first
 abbrev pub SimplifiesRootFirst : {A : Type 0} → List Line → Context A → Context A → Type 0
 SimplifiesRootFirst lines x z = HasRootNews (view x) → SimplifiesThenSteps lines x z
 
--- a step that has none to settle, and after which the search goes on, deletes nothing: it adds what was learned
+-- a step without root news, and after which the search goes on, deletes nothing: it adds what was learned
 abbrev pub LearnsAlone : {A : Type 0} → List Line → Context A → Context A → Type 0
 LearnsAlone lines x z = (HasRootNews (view x) → ⊥) → AddOneIfUnknown lines z
 

@@ -19,7 +19,7 @@ abbrev pub step_error_of_trace : TraceError → StepError
 step_error_of_trace trace.Memory = step.Memory
 step_error_of_trace (trace.Target cause) = step.Target cause
 
--- how many faults at the tracer's target the error of a step tells
+-- how many faults at the tracer's target the error of a step stands for
 abbrev pub step_faults : StepError → ℕ
 step_faults step.Full = 0
 step_faults step.Memory = 0
@@ -33,7 +33,7 @@ RefusesStoring n x y = (2 ^ 32 ≤ length y.clause_alloc.words + 3 + n) × (y.as
 abbrev pub HasNoRoom : {A : Type 0} → Context A → Type 0
 HasNoRoom x = 2 ^ 32 ≤ length x.clause_alloc.words + 3 + length x.assignment.current
 
--- However a step or the loading of a clause ends, the schedule stays. It tells that the store is full only where that has no
+-- However a step or the loading of a clause ends, the schedule stays. It says that the store is full only where that has no
 -- room for a clause of all variables, and then there are as many variables as before.
 pub record EndsStep {A : Type 0} (r : Result (Unit {0}) StepError) (x y : Context A) : Type 0 where
   pub schedule : KeepsSchedule x y

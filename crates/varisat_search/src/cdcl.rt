@@ -220,7 +220,7 @@ fn learn_from_conflict<A: Allocator + Copy, P: ProofTracer>(
     trace_learned(proof, ctx)?;
     bump_involved(ctx);
     bump_involved_clauses(ctx)?;
-    // The glue of the learned clause is told by the levels at the conflict.
+    // The glue of the learned clause is known by the levels at the conflict.
     let header = assess_learned(ctx);
     // At this level the learned clause leaves its first literal, and no earlier propagation is lost.
     backtrack(ctx, level);
@@ -340,7 +340,7 @@ fn find_and_learn<A: Allocator + Copy, P: ProofTracer>(
     Ok(())
 }
 
-/// Makes one step: settles the units of level 0, then finds a conflict and learns from it, or finds a model or that
+/// Makes one step: simplifies the root level, then finds a conflict and learns from it, or finds a model or that
 /// assumptions fail. A step that learns raises the rank of the trail, so that there are only finitely many of them. Fails
 /// where it is out of memory, the clause store is full or the tracer fails.
 pub fn conflict_step<A: Allocator + Copy, P: ProofTracer>(

@@ -1,4 +1,4 @@
-//! What a search tells its proof before clauses change.
+//! What a search has its proof log before clauses change.
 ghost use Rattle.std.specs.Prelude.{◌≡◌, ℕ, ◌<◌, ◌≤◌, List, Option, Bool, length, false, OnOk};
 ghost use Rattle.varisat_theory.specs.promises.Membership.{◌∈◌};
 ghost use Rattle.varisat_theory.specs.promises.Literals.{Literal, Clause, variable_of, opposite};

@@ -51,7 +51,7 @@ pub const SESSIONS: [Exchange; 17] = [
         "add 1\nadd -1\nadd 5\nnew\nmodel\n",
         "ok\nok\nok\nok 2\nok none\n",
     ),
-    // A model is told until a clause comes, and a name that came after it is false.
+    // A model is returned until a clause comes, and a name that came after it is false.
     (
         "add 1\nsolve\nnew\nmodel\nadd 3\nmodel\nsolve\nmodel\n",
         "ok\nok true\nok 2\nok 1 -2 0\nok\nok none\nok true\nok 1 -2 3 0\n",
@@ -94,7 +94,7 @@ pub const PROOF_SESSIONS: [Exchange; 4] = [
     ),
 ];
 
-/// Sessions with ample memory alone: they ask for the steps, which an invalid solver tells too, have settings, or take
+/// Sessions with ample memory alone: they ask for the steps, which an invalid solver returns too, have settings, or take
 /// much memory.
 pub const AMPLE_SESSIONS: [Exchange; 31] = [
     (
@@ -115,7 +115,7 @@ pub const AMPLE_SESSIONS: [Exchange; 31] = [
         "config max_steps 1\nadd 1 2\nadd -1 2\nadd 1 -2\nadd -1 -2\nsolve\nconfig max_steps 1\nsince\nsolve\nsince\nsteps\n",
         "ok\nok\nok\nok\nok\nerr 1\nok\nok 0\nok false\nok 1\nok 2\n",
     ),
-    // Refused calls, lines that are none, and calls that only tell something leave them.
+    // Refused calls, lines that are none, and calls that only return something leave them.
     (
         "since\nsolve\nsince\nmodel\ncore\nsteps\nsolve\nadd 268435457\nassume 268435457\nhide 268435457\nconfig vsids_decay 1\nbad\nsince\n",
         "ok 0\nok true\nok 1\nok 0\nok none\nok 1\nok true\nerr 7\nerr 7\nerr 7\nerr 12\nbad line\nok 1\n",
@@ -269,7 +269,7 @@ pub const ASSUMING_SESSIONS: [Exchange; 13] = [
         "add -1 2\nassume 1 2\nsolve\nmodel\n",
         "ok\nok\nok true\nok 1 2 0\n",
     ),
-    // No core is told before `solve`, nor with a model, nor once other literals are assumed.
+    // No core is returned before `solve`, nor with a model, nor once other literals are assumed.
     (
         "core\nassume 1\nsolve\ncore\nadd -1\ncore\nsolve\ncore\nassume\ncore\n",
         "ok none\nok\nok true\nok none\nok\nok none\nok false\nok 1 0\nok\nok none\n",

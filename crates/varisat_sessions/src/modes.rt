@@ -15,7 +15,7 @@ pub const MODE_SESSIONS: [Exchange; 12] = [
         "add 1 2\nhide 1\nadd -1\nadd -2\nsolve\nmodel\n",
         "ok\nok\nok\nok\nok true\nok -1 -2 0\n",
     ),
-    // A model is told of the names in use, and a name that came after it is false.
+    // A model is returned of the names in use, and a name that came after it is false.
     (
         "add 1\nsolve\nhide 1\nmodel\nnew\nmodel\n",
         "ok\nok true\nok\nok 0\nok 1\nok -1 0\n",
@@ -25,7 +25,7 @@ pub const MODE_SESSIONS: [Exchange; 12] = [
         "witness 1\nadd 1 2\nsolve\nmodel\nadd\nadd 1\nassume 1\nnew\n",
         "ok\nerr 6\nok true\nok -1 0\nok\nok\nerr 6\nok 2\n",
     ),
-    // A name past the limit is told before a witness.
+    // A name past the limit is returned before a witness.
     (
         "witness 1\nwitness 2\nadd 3 2 1\nadd 268435457 1\nnew\n",
         "ok\nok\nerr 6\nerr 7\nok 3\n",

@@ -8,7 +8,7 @@ ghost use Rattle.varisat_theory.specs.promises.Searches.{IsTautology};
 use std::alloc::{AllocError, Allocator};
 use varisat_literals::Lit;
 
-/// How a literal stands in a clause.
+/// How a literal occurs in a clause.
 #[derive(Clone, Copy)]
 pub enum Sign {
     /// Not known.

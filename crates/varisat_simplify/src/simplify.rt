@@ -75,7 +75,7 @@ fn raised(count: usize, clause: &[Lit]) -> usize
     most
 }
 
-/// How many variables there are up to the highest that the clauses name. A text's head may tell many more.
+/// How many variables there are up to the highest that the clauses name. A text's head may name many more.
 fn named_count<A: Allocator + Copy>(formula: &CnfFormula<A>) -> usize
     ensures least { (n : ℕ) → AreBelow n formula.now.clauses → result ≤ n }
     ensures small { result ≤ 2 ^ 31 }

@@ -109,7 +109,7 @@ fn decide_simplified<W: ProofTarget, A: Allocator + Copy, S: ByteSource, E: Writ
     Ok(report)
 }
 
-/// Simplifies a formula, of which no variable is frozen. What is left of it is told on `err`, if that is wanted.
+/// Simplifies a formula, of which no variable is frozen. What is left of it is reported on `err`, if that is wanted.
 fn simplify_reporting<A: Allocator + Copy, E: Write, C: Clock>(
     alloc: A,
     formula: CnfFormula<A>,
@@ -154,7 +154,7 @@ fn milliseconds_since<C: Clock>(start: io::Result<Instant>, clock: &C) -> u128 {
 
 /// Tells how many of so many clauses are left, how many are saved, by which models are extended, and how long that took.
 fn print_simplified<E: Write>(err: &mut E, clauses: usize, left: usize, saved: usize, milliseconds: u128) {
-    // Of a writer that fails here nothing is left to tell.
+    // A writer that fails here leaves nothing to report.
     let _ = writeln!(
         err,
         "c simplified: {left} of {clauses} clauses left, {saved} saved for models, {milliseconds} ms"

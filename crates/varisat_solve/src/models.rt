@@ -22,7 +22,7 @@ fn raised(count: usize, literals: &[Lit]) -> usize
     most
 }
 
-/// How many variables there are up to the highest that the clauses name. A text's head may tell many more.
+/// How many variables there are up to the highest that the clauses name. A text's head may name many more.
 pub fn named_count<A: Allocator + Copy>(formula: &CnfFormula<A>) -> usize
     ensures count { result ≡ named_count formula.now.clauses }
     ensures small { result ≤ 2 ^ 31 }

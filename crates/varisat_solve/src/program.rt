@@ -15,7 +15,7 @@ use varisat::program::{print_report, status_of, print_fault};
 
 /// Reads a DIMACS CNF text and decides it, as `varisat::program::solve_lines` does, but that the text's formula is simplified
 /// before it is searched, where that is wanted. A model is one of the text's formula, and a proof one from the text's clauses.
-/// A proof as marked text gives each clause of the text, and so none is simplified then. With `progress` it is told on `err`
+/// A proof as marked text gives each clause of the text, and so none is simplified then. With `progress` it is reported on `err`
 /// what is left, and how long simplifying took.
 pub fn solve_lines<
     A: Allocator + Copy,

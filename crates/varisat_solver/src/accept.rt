@@ -92,7 +92,7 @@ fn log_assumptions<W: ProofTarget, A: Allocator + Copy>(
     Ok(())
 }
 
-/// Brings the names of the clause into use, takes solver variables for them, tells the proof of the clause, and loads
+/// Brings the names of the clause into use, takes solver variables for them, has the proof log the clause, and loads
 /// it over these variables. `literals` is overwritten.
 pub fn accept_user_clause<W: ProofTarget, A: Allocator + Copy>(
     tracer: &mut SolverTracer<W, A>,
@@ -130,7 +130,7 @@ pub fn accept_user_clause<W: ProofTarget, A: Allocator + Copy>(
 }
 
 /// Brings the names of the list into use, takes solver variables for them, assumes the list in place of the one before,
-/// and tells the proof of it. `literals` is overwritten.
+/// and has the proof log it. `literals` is overwritten.
 pub fn assume_list<W: ProofTarget, A: Allocator + Copy>(
     tracer: &mut SolverTracer<W, A>,
     ctx: &mut Context<A>,

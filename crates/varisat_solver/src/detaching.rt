@@ -74,7 +74,7 @@ fn flag_variables<A: Allocator + Copy>(
 }
 
 /// Drops the solver variable. Its global variable is gone for good where it has no name and is isolated, and the proof is
-/// told so.
+/// logs that.
 fn detach_solver_var<W: ProofTarget, A: Allocator + Copy>(
     tracer: &mut SolverTracer<W, A>,
     solver: Var,
@@ -89,7 +89,7 @@ fn detach_solver_var<W: ProofTarget, A: Allocator + Copy>(
     Ok(())
 }
 
-/// Drops the solver variables of the literals, which are true for good. What is kept of their global variables tells
+/// Drops the solver variables of the literals, which are true for good. What is kept of their global variables says
 /// the values from then on, and that they are isolated, so that those without a name may be used again.
 fn detach_fixed_vars<W: ProofTarget, A: Allocator + Copy>(
     tracer: &mut SolverTracer<W, A>,
@@ -178,7 +178,7 @@ fn detach_unfixed_vars<W: ProofTarget, A: Allocator + Copy>(
 }
 
 /// Lets the variables leave that have a value and are not assumed, where the search is at level 0 and all of it is
-/// settled. The proof is told which are gone for good. `literals` is overwritten.
+/// simplified. The proof logs which are gone for good. `literals` is overwritten.
 fn detach_listed<W: ProofTarget, A: Allocator + Copy>(
     tracer: &mut SolverTracer<W, A>,
     ctx: &mut Context<A>,
@@ -203,7 +203,7 @@ fn detach_listed<W: ProofTarget, A: Allocator + Copy>(
 }
 
 /// Lets the hidden variables leave that no kept clause names, where those with a value left that are not assumed. The
-/// proof is told which are gone for good. Where the search has no hidden variable it passes over no clause. `literals` is
+/// proof logs which are gone for good. Where the search has no hidden variable it passes over no clause. `literals` is
 /// overwritten.
 fn detach_unneeded<W: ProofTarget, A: Allocator + Copy>(
     tracer: &mut SolverTracer<W, A>,
@@ -233,9 +233,9 @@ fn detach_unneeded<W: ProofTarget, A: Allocator + Copy>(
     Ok(())
 }
 
-/// At level 0, where literals are still to be propagated, settles the units and lets the variables leave the search
+/// At level 0, where literals are still to be propagated, simplifies the root level and lets the variables leave the search
 /// that have a value and are not assumed, and the hidden ones that no kept clause names. The tracer takes the lines of
-/// settling, and the proof is told which variables are gone for good. Does nothing at another level or where there is no
+/// simplifying, and the proof logs which variables are gone for good. Does nothing at another level or where there is no
 /// such news, so that a step passes over all clauses no more often than its conflict step would. Lets none leave where a
 /// clause is false. `literals` is overwritten.
 pub fn detach_fixed<W: ProofTarget, A: Allocator + Copy>(

@@ -1,4 +1,4 @@
-//! How far a search is, in columns with a head, as other solvers tell it.
+//! How far a search is, in columns with a head, as other solvers report it.
 use std::alloc::Allocator;
 use std::io::{self, Write};
 use varisat_literals::Var;

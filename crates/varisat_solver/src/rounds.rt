@@ -1,4 +1,4 @@
-//! A search in rounds, behind each of which it is told how far it is.
+//! A search in rounds, behind each of which it is reported how far it is.
 ghost use Rattle.std.specs.Prelude.{◌≡◌, ◌↔◌, ◌<◌, ◌≤◌, IsTrue, Err};
 ghost use Rattle.varisat_solver.specs.promises.States.{State};
 ghost use Rattle.varisat_solver.specs.promises.Summaries.{Represents, LeadsRepresented};
@@ -10,7 +10,7 @@ use std::alloc::Allocator;
 use std::io::Write;
 use varisat_formula::io::ProofTarget;
 
-/// Searches as `solve` does. Where there is an interval, it is told on `err` how far the search is: after so many steps each, and
+/// Searches as `solve` does. Where there is an interval, `err` gets how far the search is: after so many steps each, and
 /// at the end.
 pub fn search<W: ProofTarget, A: Allocator + Copy, E: Write>(
     solver: &mut Solver<W, A>,
@@ -25,7 +25,7 @@ pub fn search<W: ProofTarget, A: Allocator + Copy, E: Write>(
     }
 }
 
-/// Searches as `solve` does, and tells how far it is.
+/// Searches as `solve` does, and reports how far it is.
 fn search_in_rounds<W: ProofTarget, A: Allocator + Copy, E: Write>(
     solver: &mut Solver<W, A>,
     interval: u64,
@@ -34,7 +34,7 @@ fn search_in_rounds<W: ProofTarget, A: Allocator + Copy, E: Write>(
     ensures { (s : State) → Represents solver.old s → (t : State) × Solves by_state s result t × Represents solver.new t }
 {
     let max_steps = solver.max_steps();
-    // Of a writer that fails here nothing is left to tell.
+    // A writer that fails here leaves nothing to report.
     let _ = write_head(err);
     let found = seek_in_rounds(solver, max_steps, interval, err);
     solver.set_max_steps(max_steps);

@@ -93,7 +93,7 @@ impl SolverError {
     ghost use Rattle.std.specs.Prelude.{◌↔◌, ◌≡◌, ◌<◌, ◌⊎◌, IsTrue};
     ghost use Rattle.varisat_solver.specs.promises.Refusals.{refusal_number};
 
-    /// The number under which a session tells the refusal.
+    /// The number under which a session prints the refusal.
     pub fn number(&self) -> u8
         ensures { result ≡ refusal_number self.now }
     {
@@ -222,7 +222,7 @@ pub struct Solver<W: ProofTarget, A: Allocator + Copy> {
     // Whether a clause, a variable or a list of assumptions was accepted. From then on no proof can be opened; no other
     // call reads it.
     started: bool,
-    // How many steps were made before the last change: a call but `solve` and those that only tell something, which was
+    // How many steps were made before the last change: a call but `solve` and those that only return something, which was
     // not refused, or accepted a clause before it was.
     changed_at: u64,
 }
@@ -292,7 +292,7 @@ impl<W: ProofTarget, A: Allocator + Copy> Solver<W, A> {
     }
 
     /// Changes the settings for which the update has values. Refused in an invalid solver, and where a value is out of
-    /// its range: then nothing changes, and the first such setting is told.
+    /// its range: then nothing changes, and the first such setting is returned.
     pub fn config(&mut self, update: &SolverConfigUpdate) -> Result<(), SolverError>
         ensures { LeadsRepresented self.old (λ s t. Configures s update.now result t) self.new }
     {
@@ -330,7 +330,7 @@ impl<W: ProofTarget, A: Allocator + Copy> Solver<W, A> {
     }
 
     /// How many steps calls of `solve` made together since the last change. A change is any call but `solve` and those
-    /// that only tell something, unless it was refused; and one that accepted a clause before it was refused. In a
+    /// that only return something, unless it was refused; and one that accepted a clause before it was refused. In a
     /// valid solver they are fewer than (n+2)*2^(n+2), and so than 2^(2n+3), where the clauses and all assumptions so far
     /// name n variables, however often a call was interrupted.
     pub fn steps_since_change(&self) -> u64
@@ -387,7 +387,7 @@ impl<W: ProofTarget, A: Allocator + Copy> Solver<W, A> {
         !self.ctx.solver_state.state_is_invalid
     }
 
-    /// Does nothing when it runs. Its contract says of a valid solver that what a proof would have been told so far is
+    /// Does nothing when it runs. Its contract says of a valid solver that what a proof would have logged so far is
     /// right, and that an open proof has just its lines. Where no variable was ever hidden these are a derivation from
     /// the accepted clauses, which refutes them once they are known to be unsatisfiable. And few steps were made since the
     /// last change.
@@ -611,7 +611,7 @@ impl<W: ProofTarget, A: Allocator + Copy> Solver<W, A> {
     /// of the steps are written to an open proof, which is then flushed, also where nothing is left to search. Refused in
     /// an invalid solver, and where the steps are spent before it is known: `max_steps` of the settings, or 2^64-1 in all.
     /// The next call then goes on. Where memory runs out, the clause store is full or the target of an open proof fails,
-    /// the solver is invalid; a proof that cannot be flushed is told in place of spent steps.
+    /// the solver is invalid; a proof that cannot be flushed is returned in place of spent steps.
     pub fn solve(&mut self) -> Result<bool, SolverError>
         ensures call { LeadsRepresented self.old (λ s t. Solves by_state s result t) self.new }
         ensures satisfiable { result ≡ Ok true → (s : State) → Represents self.old s → IsSatisfiableWith s.clauses s.assumptions }
@@ -633,7 +633,7 @@ impl<W: ProofTarget, A: Allocator + Copy> Solver<W, A> {
         found
     }
 
-    /// Notes that a search was begun, which no call tells.
+    /// Notes that a search was begun, which no call returns.
     fn begin_search(&mut self)
         ensures { self.new ≡ self.old }
     {

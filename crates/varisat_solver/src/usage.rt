@@ -66,7 +66,7 @@ fn set_named_mode<A: Allocator + Copy>(
 }
 
 /// Lets the hidden variable leave for good where it is unused: it has no solver variable, and clauses do not hold it. The
-/// proof is told so.
+/// proof logs that.
 fn retire_if_unused<W: ProofTarget, A: Allocator + Copy>(
     tracer: &mut SolverTracer<W, A>,
     global: Var,
@@ -82,7 +82,7 @@ fn retire_if_unused<W: ProofTarget, A: Allocator + Copy>(
 }
 
 /// Names the name, frees it, and hides its variable, which leaves for good where it is unused. Once the clauses are known
-/// to be unsatisfiable none leaves: nothing more is told to the proof then, and what it was told stays a refutation.
+/// to be unsatisfiable none leaves: the proof logs nothing more then, and what it logged stays a refutation.
 fn hide_named<W: ProofTarget, A: Allocator + Copy>(
     tracer: &mut SolverTracer<W, A>,
     var: Var,

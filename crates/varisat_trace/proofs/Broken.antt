@@ -1,4 +1,4 @@
--- What is told after an error that is passed on.
+-- What is logged after an error that is passed on.
 use Rattle.std.specs.Prelude.{Result, Ok, Err}
 use Rattle.std.specs.Result.{IsErr, IfErr, OnErr, IsErrAnd}
 use Rattle.std.proofs.Common.{◌≡◌, ℕ, Bool, true, false, List, [], ◌++◌, sym, subst}

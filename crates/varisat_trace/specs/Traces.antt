@@ -35,7 +35,7 @@ TakesLines takes x lines y = takes x (written lines) y
 abbrev pub TakesStep : {Q : Type 0} → (Q → List Entry → Q → Type 0) → Q → List Line → Outcome → Q → Type 0
 TakesStep takes x lines v y = takes x (written lines ++ verdict_entries v) y
 
--- how many faults at the target an error tells
+-- how many faults at the target an error stands for
 abbrev pub faults_of : TraceError → ℕ
 faults_of Memory = 0
 faults_of (Target cause) = 1

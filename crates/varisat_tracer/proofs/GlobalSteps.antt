@@ -1,4 +1,4 @@
--- Steps over global variables, literal by literal, and that they can be told and what telling them is.
+-- Steps over global variables, literal by literal, and that they can be logged and what logging them is.
 use Rattle.std.proofs.Common.{◌≡◌, ℕ, ◌+◌, ◌<◌, List, [], ◌∷◌, ◌++◌, length, take, get_or, refl, sym, ap, ◌∙◌, subst, map, append-nil, take_all, arith, inl, ⊎_elim, Option, Some, None, Result, Ok, Err}
 use Rattle.std.proofs.lemmas.List.{map-append, take_more, get_or_read}
 use Rattle.varisat_theory.specs.promises.Literals.{Literal, Clause}
@@ -69,7 +69,7 @@ fails-globally x core others e (held, r, k) =
     let (now, next, h, l) = leads-globally x (Fails core ∷ []) held held r (held, (k, refl), refl) in
     (now, h, subst (λ y. Conflicts now y) (sym e) l.1.0)
 
--- 3. The entries that were told.
+-- 3. The entries that were logged.
 pub takes-logged : (x y : TracerState) (entries others : List Entry) → y.tables ≡ x.tables → others ≡ logged_as (global_literal x.tables) entries →
     IsLogged x.proof others y.proof → TakesGlobally x entries y
 takes-logged x y entries others e o t = record { tables = e; logged = subst (λ es. IsLogged x.proof es y.proof) o t }
@@ -95,7 +95,7 @@ pub takes-parts : (x y z : TracerState) (entries others : List Entry) → y ≡ 
     IsLogged y.proof others z.proof → TakesGlobally x entries z
 takes-parts x y z entries others e f o t = subst (λ (w : TracerState). TakesGlobally w entries z) e (takes-logged y z entries others f o t)
 
--- 5. What telling returns.
+-- 5. What logging returns.
 pub logs-logged : (x y : TracerState) (entries others : List Entry) (r : Result (Unit {0}) TraceError) → y.tables ≡ x.tables →
     others ≡ logged_as (global_literal x.tables) entries → Logs x.proof others r y.proof → LogsGlobally x entries r y
 logs-logged x y entries others (Ok u) e o t = takes-logged x y entries others e o t
@@ -105,7 +105,7 @@ nothing-begun : (o : Option OpenState) (lines : Encoding → List ProofLine) →
 nothing-begun None lines = (refl, refl)
 nothing-begun (Some p) lines = record { rest = refl; bytes = (0, sym (append-nil p.taken.bytes)); faults = omega arith }
 
--- memory ran out before anything was told
+-- memory ran out before anything was logged
 pub unlogged : (x : TracerState) (entries : List Entry) → LogsGlobally x entries (Err Memory) x
 unlogged x entries = (refl, inl (nothing-begun x.proof.opened (logged (logged_as (global_literal x.tables) entries)), refl))
 
@@ -148,7 +148,7 @@ pub breaks-before : (x : TracerState) (entries : List Entry) → BreaksGlobally 
 breaks-before x entries =
     record { tables = refl; begun = nothing-begun x.proof.opened (logged (logged_as (global_literal x.tables) entries)); runs = refl }
 
--- as an accepted clause or list is told
+-- as an accepted clause or list is logged
 pub breaks-logged-globally : (x y : TracerState) (entries : List Entry) (e : TraceError) → LogsGlobally x entries (Err e) y →
     BreaksGlobally x entries (faults_of e) y
 breaks-logged-globally x y entries e (t, h) = breaks-logged x y entries (logged_as (global_literal x.tables) entries) e t refl h

@@ -1,4 +1,4 @@
--- A tracer that can be told of entries goes on so.
+-- A tracer that can log entries goes on so.
 use Rattle.std.proofs.Common.{◌≡◌, ℕ, List, [], ◌++◌, sym, ap, ◌∙◌, subst, refl, Option, None}
 use Rattle.varisat_theory.specs.promises.Literals.{Clause}
 use Rattle.varisat_theory.specs.promises.Journals.{Entry}

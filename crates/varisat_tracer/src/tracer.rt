@@ -145,7 +145,7 @@ impl<W: ProofTarget, A: Allocator + Copy> ProofTracer for SolverTracer<W, A> {
     }
 
     // `DeleteVar` is not handed on: it says that a solver variable leaves the search, and its global variable may live on.
-    // Where that is gone too, `retire_var_if_unused` tells so.
+    // Where that is gone too, `retire_var_if_unused` logs that.
     fn add_step(&mut self, step: &ProofStep<'_>) -> Result<(), TraceError> {
         if !self.proof.is_active() {
             return Ok(());

@@ -81,7 +81,7 @@ impl<A: Allocator + Copy> Vsids<A> {
         }
     }
 
-    /// How many variables there are. The clauses tell what holds between calls.
+    /// How many variables there are. The clauses say what holds between calls.
     pub fn var_count(&self) -> usize
         ensures count { result ≡ length self.now.activity }
         ensures available { length self.now.available ≡ length self.now.activity }

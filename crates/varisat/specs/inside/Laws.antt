@@ -1,5 +1,5 @@
 -- What holds of names as long as none is freed: they come into use in order, and each stands for the identity of its number. So a
--- user who hides nothing may read what is said over identities as said over names. What is told and written of a core that is found.
+-- user who hides nothing may read what is said over identities as said over names. What is logged and written of a core that is found.
 -- And what a check of a proof's bytes returns.
 use Rattle.std.specs.Prelude.{◌≡◌, ◌≢◌, Bool, true, false, ℕ, ◌+◌, ◌%◌, ◌≤◌, Option, List, [], ◌∷◌, ◌++◌, map, Result, Ok}
 use Rattle.varisat_theory.specs.promises.Literals.{Literal, Clause}
@@ -62,20 +62,20 @@ GivenIsAccepted =
 abbrev pub CrowdedIsPastLimit : Type 0
 CrowdedIsPastLimit = (n : ℕ) (m : Naming) (ls : List Literal) → AreInOrder n m → n ≤ variable_limit → IsCrowded (name_all ls m) → IsPastLimit ls
 
--- Where a call of `solve` finds a core, propagation over what is held then conflicts with it: the core was told at last.
+-- Where a call of `solve` finds a core, propagation over what is held then conflicts with it: the core was logged last.
 abbrev pub CoresAreLogged : Type 0
 CoresAreLogged =
     (s t : State) (b : Bool) (core : List Literal) (held : List Clause) → ReturnsVerdict by_state s b t → s.verdict ≡ Unknown →
     t.verdict ≡ UnsatUnderAssumptions core → Leads [] t.logged held → Conflicts held core
 
--- Where a call tells a core at last, a marked proof of what was told ends with its line.
+-- Where a call logs a core last, a marked proof of what was logged ends with its line.
 abbrev pub CoresAreWritten : Type 0
 CoresAreWritten =
     (n : ℕ) (before after : List Entry) (more : LogsMore n before after) (core : List Literal) (variables : ℕ → Option ℕ) (bytes : List ℕ)
     → EndWithCore core more.entries → bytes ≡ logged_bytes Marked (entries_over variables after)
     → (front : List ℕ) × (bytes ≡ front ++ line_text (line_of_kind Fails (map (carry variables) core)))
 
--- Where nothing was ever hidden, a check of a marked proof from no clause finds no line wrong. It tells the accepted clauses and the
+-- Where nothing was ever hidden, a check of a marked proof from no clause finds no line wrong. It reports the accepted clauses and the
 -- cores, in order, each core with the number of clauses before it, up to where propagation first conflicts or all of them; and it
 -- refutes where the clauses are refuted.
 abbrev pub MarkedProofsPass : Type 0

@@ -103,7 +103,7 @@ abbrev pub EndsText : Option DimacsError → Story → Result (Unit {0}) SolverE
 EndsText None s r t = (r ≡ Ok tt) × (t ≡ s)
 EndsText (Some fault) s r t = ((r ≡ Err (Dimacs fault)) × (t ≡ s)) ⊎ ((r ≡ Err OutOfMemory) × (t ≡ ended s))
 
--- all clauses that a text gives are accepted, and then its end is told; or one of those that ended is refused
+-- all clauses that a text gives are accepted, and then its end is returned; or one of those that ended is refused
 pub data AcceptsText (s : Story) (old : Input) (r : Result (Unit {0}) SolverError) (new : Input) (t : Story) : Type 0 where
   ToItsEnd : (reading : Reading) (mid : Story) → GivesReading old reading new → AcceptsAll s reading.clauses (Ok tt) mid →
       EndsText reading.fault mid r t → AcceptsText s old r new t
@@ -130,7 +130,7 @@ IsTrueCore s (Some core) = (s.valid ≡ true) × AreNamesInUse s.naming core × 
 
 -- 5. The answers of all calls.
 
--- In the story s the call may have the answer, and then the story is t. `seen` tells how a source stands.
+-- In the story s the call may have the answer, and then the story is t. `seen` gives a source's input.
 abbrev pub IsAnswered : {W S A : Type 0} → (S → Input) → Story → Call W S A → Answer W S A → Story → Type 0
 IsAnswered seen s (call.AddClause c) (answer.AddClause r) t = Outcome (λ _. Accepts s c.items) s r t
 IsAnswered seen s (call.AddFormula f) (answer.AddFormula r) t = IfValid s r (AcceptsAll s f.clauses r t) t

@@ -150,7 +150,7 @@ words_of text = slice_split (λ b. b == 32) text
 abbrev pub literals_text : List Literal → List ℕ
 literals_text literals = flat_map (λ l. 32 ∷ literal_text l) literals ++ codes " 0"
 
--- a refusal is told by its number
+-- a refusal is printed as its number
 abbrev pub refusal_text : SolverError → List ℕ
 refusal_text error = codes "err " ++ decimal (refusal_number error)
 
@@ -159,7 +159,7 @@ abbrev pub truth_text : Bool → List ℕ
 truth_text true = codes "ok true"
 truth_text false = codes "ok false"
 
--- what is returned of a call that tells nothing: that it is done, or its refusal
+-- what is returned of a call that returns nothing: that it is done, or its refusal
 abbrev pub done_text : Result (Unit {0}) SolverError → List ℕ
 done_text (Ok _) = codes "ok"
 done_text (Err error) = refusal_text error

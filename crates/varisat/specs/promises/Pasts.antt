@@ -33,7 +33,7 @@ Past = Known Findings
 abbrev pub empty_past : Past
 empty_past = first_known (record { has_model = false; has_core = false; lists = []; interrupted_steps = 0 })
 
--- What was told is right, entry by entry, and at most as many of the clauses that its lines add count as steps were made in all, and
+-- What was logged is right, entry by entry, and at most as many of the clauses that its lines add count as steps were made in all, and
 -- at least as many lines add a clause as steps were made by interrupted calls. The clauses that it accepts are those accepted, in
 -- order, its lists of assumptions are those given, in order, the last one is that of the assumptions, and its cores are of what was
 -- assumed. A reader takes the numbers of all lines that a proof of it has. Where nothing was ever hidden no variable left, and so it takes
@@ -49,14 +49,14 @@ pub record IsPastJournal (p : Past) : Type 0 where
   pub in_range : p.ever_hidden ≡ false → AreInRange (logged_lines (Text true) p.logged)
   pub readable : AreInRange (logged_lines (Text true) (entries_over p.variables p.logged))
 
--- What a call tells that returns false: nothing where a core was found last. Else propagation over what is held conflicts then, or it
--- conflicts with a core that is told at last, and is one of the assumptions.
+-- What a call logs that returns false: nothing where a core was found last. Else propagation over what is held conflicts then, or it
+-- conflicts with a core that is logged last, and is one of the assumptions.
 pub data LogsFalse (p : Past) (logged : List Entry) (q : Past) : Type 0 where
   Again : p.verdict.has_core ≡ true → q.logged ≡ p.logged → LogsFalse p logged q
   Refuted : AreDerived logged → LogsConflict q.logged → LogsFalse p logged q
   Failed : (core : List Literal) → core ⊆ p.assumptions → EndWithCore core logged → LogsFalse p logged q
 
--- True is returned only if some assignment satisfies the clauses and the assumptions, and the call tells lines and which variables
+-- True is returned only if some assignment satisfies the clauses and the assumptions, and the call logs lines and which variables
 -- leave. False is returned only if none does, and where nothing is assumed propagation over what is held then conflicts.
 abbrev pub IsAnswer : Past → Bool → List Entry → Past → Type 0
 IsAnswer p true logged q =
@@ -65,13 +65,13 @@ IsAnswer p false logged q =
     (q.verdict ≡ record p.verdict { has_model = false; has_core = true }) × (IsSatisfiableWith p.clauses p.assumptions → ⊥) × LogsFalse p logged q
     × (p.assumptions ≡ [] → LogsConflict q.logged)
 
--- A model is told where one was found last: exactly the names in use, such that some assignment agrees with it through the names and
+-- A model is returned where one was found last: exactly the names in use, such that some assignment agrees with it through the names and
 -- satisfies the clauses and the assumptions.
 abbrev pub MayReturnModel : Past → Option (List Literal) → Type 0
 MayReturnModel p None = p.verdict.has_model ≡ false
 MayReturnModel p (Some model) = (p.verdict.has_model ≡ true) × IsCompletable p.naming p.clauses p.assumptions p.counted model
 
--- A core is told where `solve` returned false last: literals of names in use, which these carry to some of the assumptions that no
+-- A core is returned where `solve` returned false last: literals of names in use, which these carry to some of the assumptions that no
 -- assignment makes true together with the clauses.
 abbrev pub MayReturnCore : Past → Option (List Literal) → Type 0
 MayReturnCore p None = p.verdict.has_core ≡ false
@@ -79,7 +79,7 @@ MayReturnCore p (Some core) =
     (p.verdict.has_model ≡ false) × AreNamesInUse p.naming core × IsFailedCore p.clauses p.assumptions (map (through_names p.naming) core)
 
 -- What calls and answers say of verdicts. A clause is taken without a change only once no assignment satisfies those before it. A call
--- of `solve` makes no step only where a model or a core was found last, or that is so. Behind each call what was told is a journal of
+-- of `solve` makes no step only where a model or a core was found last, or that is so. Behind each call what was logged is a journal of
 -- the past, as long as that is valid.
 abbrev pub by_answers : Verdicts Findings
 by_answers = record {

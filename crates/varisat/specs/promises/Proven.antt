@@ -48,7 +48,7 @@ abbrev pub prepared : {W : Type 0} → (W → Taken) → ProofFormat → Bool �
 prepared taken format check limit None = configured check limit
 prepared taken format check limit (Some target) = count_anew (with_proof (Some (first_proof format (taken target))) (configured check limit))
 
--- What a solver in the state s comes to as it is asked: a model that it tells, that there is none, or that its steps are spent.
+-- What a solver in the state s comes to as it is asked: a model that it returns, that there is none, or that its steps are spent.
 abbrev pub Concludes : State → Conclusion → State → Type 0
 Concludes s Unknown t = Solves by_state s (Err Interrupted) t
 Concludes s (Decided None) t = Solves by_state s (Ok false) t
@@ -61,7 +61,7 @@ Reports s (Err Interrupted) t = ⊥
 Reports s (Err OutOfMemory) t = Solves by_state s (Err OutOfMemory) t ⊎ Solves by_state s (Ok true) t
 Reports s (Err e) t = Solves by_state s (Err e) t
 
--- The target took just the bytes of what was told, in numbers that a reader takes, and counted no fault. The lines are a derivation
+-- The target took just the bytes of what was logged, in numbers that a reader takes, and counted no fault. The lines are a derivation
 -- from the clauses, and refute them where the conclusion is that they have no model. DRAT has just these lines. Marked text gives
 -- clauses as they are, in order, and no assumptions, and is right from no clause. They are all, or the first ones where these have
 -- no model.
@@ -118,7 +118,7 @@ FailsBy taken o target old new e = Fails taken (prepared taken o.format o.check 
 abbrev pub Prints : Conclusion → ℕ → Taken → Taken → Type 0
 Prints conclusion status before printed = EndsPrinting (conclusion_status conclusion) (conclusion_text conclusion) status before printed
 
--- What the program's `solve` comes to: deciding fails, nothing is printed, and the status tells a fault; or the text is decided, and
+-- What the program's `solve` comes to: deciding fails, nothing is printed, and the status is that of a fault; or the text is decided, and
 -- the conclusion is printed.
 abbrev pub SolvesText : {W : Type 0} → (W → Taken) → SolveOptions → Input → Input → Option W → Option W →
     Taken → Taken → ℕ → Type 0

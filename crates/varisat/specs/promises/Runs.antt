@@ -34,7 +34,7 @@ story_now s = record {
   valid = s.ledger.valid;
 }
 
--- As long as it is valid what was told is right, and at most as many of the clauses that its lines add count as steps were made.
+-- As long as it is valid what was logged is right, and at most as many of the clauses that its lines add count as steps were made.
 abbrev pub HasRightLog : State → Type 0
 HasRightLog s = IsValid s → IsJournal s × IsLoggedWithin s.ledger.steps s.logged
 

@@ -14,7 +14,7 @@ use Rattle.varisat.specs.declared.session.Call.TheVariants as call
 use Rattle.varisat.specs.declared.session.Answer.TheVariants as answer
 
 module _ {V : Type 0} (by : Verdicts V) where
-  -- From s the call may get the answer and lead to t. `seen` tells how a source stands, as it was given and as it is given back,
+  -- From s the call may get the answer and lead to t. `seen` gives a source's input, as it was given and as it is given back,
   -- and `taken` what a target took.
   abbrev pub Makes : {W S A : Type 0} → (S → Input) → (W → Taken) → Known V → Call W S A → Answer W S A → Known V → Type 0
   Makes seen taken s (call.AddClause c) (answer.AddClause r) t = TakesOne by s c.items r t

@@ -20,7 +20,7 @@ const HEAPS: [(&str, Option<Option<usize>>); 8] = [
     ("--heap 4096 --heap 4096", None),
 ];
 
-// What is printed of the text, what is told of a fault, and the status, in a heap of that size.
+// What is printed of the text, what is reported of a fault, and the status, in a heap of that size.
 fn decides(rt: &HostRuntime, heap: Option<usize>, text: &[u8], wanted: (&[u8], &[u8], u8)) -> bool {
     let mut out = MemoryTarget::new_in(rt.alloc());
     let mut err = Vec::new(rt.alloc());

@@ -8,7 +8,7 @@ use std::test::Fail;
 use varisat::io::{MemoryTarget, ProofTarget};
 use varisat::program::solve_lines;
 
-// What a command prints, what it tells of a fault, and its status.
+// What a command prints, what it reports of a fault, and its status.
 type Printed = (&'static str, &'static str, u8);
 
 fn are_printed(out: &[u8], err: &[u8], status: u8, wanted: Printed) -> bool {
@@ -320,7 +320,7 @@ fn faults_of_targets_are_told(rt: HostRuntime) {
     }
 }
 
-// The heads of the columns in which it is told how far a search is.
+// The heads of the columns in which it is reported how far a search is.
 const HEADS: &str =
     "c      steps  conflicts  decisions propagations restarts variables   binary    irred    core     mid   local\n";
 
@@ -333,7 +333,7 @@ const FIRST_ROW: &str =
 const SECOND_ROW: &str =
     "c          2          2          1            0        1         0        4        0       0       0       0\n";
 
-// How many steps may be made, after how many each it is told how far the search is, what is printed with which status, and the
+// How many steps may be made, after how many each it is reported how far the search is, what is printed with which status, and the
 // one or two rows. Two steps decide the square.
 const PROGRESS: [(Option<u64>, u64, &str, u8, &str, &str); 6] = [
     (None, 1, "s UNSATISFIABLE\n", 20, FIRST_ROW, SECOND_ROW),
@@ -344,7 +344,7 @@ const PROGRESS: [(Option<u64>, u64, &str, u8, &str, &str); 6] = [
     (Some(1), 5, "s UNKNOWN\n", 0, FIRST_ROW, ""),
 ];
 
-// What a search for the square with these options prints, tells on standard error, and has in its proof.
+// What a search for the square with these options prints, reports on standard error, and has in its proof.
 fn solve_square(
     alloc: Global,
     options: SolveOptions,

@@ -57,7 +57,7 @@ pub record HoldsPast (g : Client) (p : Past) : Type 0 where
   pub model : IsSetOf p.model g.model
   pub core : IsSetOf p.core g.core
 
--- The client stands for the past. Of one that refused a call only the reason is told, and where that is a full store of clauses, that
+-- The client represents the past. Of one that refused a call only the reason is known, and where that is a full store of clauses, that
 -- a clause of all variables of the search would bring it to 2^32 words or more.
 pub record RepresentsPast (g : Client) (p : Past) : Type 0 where
   pub refusal : g.refusal ≡ p.refusal
@@ -73,14 +73,14 @@ pub record RunsOutOfMemory (r : SearchEnd) (h : Client) : Type 0 where
   pub answer : r ≡ end.Refused
   pub refusal : h.refusal ≡ Some OutOfMemory
 
--- The model is kept that the solver tells, or memory ran out.
+-- The model is kept that the solver returns, or memory ran out.
 pub data KeepsModel (r : SearchEnd) (g h : Client) : Type 0 where
   Refused : RunsOutOfMemory r h → KeepsModel r g h
   Kept : (m : List Literal) → r ≡ end.Satisfiable →
       ((s : State) → Represents g.solver s → IsCompletable s.naming s.clauses s.assumptions s.counted m) →
       IsSetOf m h.model → h ≡ record g { model = h.model } → KeepsModel r g h
 
--- The core is kept that the solver tells, or memory ran out.
+-- The core is kept that the solver returns, or memory ran out.
 pub data KeepsCore (r : SearchEnd) (g h : Client) : Type 0 where
   Refused : RunsOutOfMemory r h → KeepsCore r g h
   Kept : (core : List Literal) → r ≡ end.Unsatisfiable →

@@ -1,10 +1,10 @@
--- How a client tells an error of the solver.
+-- As what a client returns an error of the solver.
 use Rattle.varisat_solver.specs.declared.solver.SolverError.{SolverError}
 use Rattle.varisat_solver.specs.declared.solver.SolverError.TheVariants as error
 use Rattle.varisat_client.specs.declared.refusal.Refusal.{Refusal}
 use Rattle.varisat_client.specs.declared.refusal.Refusal.TheVariants.{OutOfMemory, VariableLimit, ClauseStoreFull}
 
--- the reason as which an error is told
+-- the reason as which an error is returned
 abbrev pub refusal_for : SolverError → Refusal
 refusal_for error.VariableLimit = VariableLimit
 refusal_for error.ClauseStoreFull = ClauseStoreFull

@@ -97,7 +97,7 @@ pub data IsSearchEnd (r : SearchEnd) (p q : Past) : Type 0 where
   Interrupted : r ≡ end.Interrupted → p.refusal ≡ None → (q.steps ≡ p.steps + p.limit) ⊎ (q.steps ≡ 2 ^ 64 - 1) → MakesFew p q →
       q ≡ record p { steps = q.steps } → IsSearchEnd r p q
 
--- A number is told where its literal is true in the last model, the opposite number where that is, and else 0: so it is for 0, for
+-- A number is returned where its literal is true in the last model, the opposite number where that is, and else 0: so it is for 0, for
 -- the number that has no opposite, and once a call was refused.
 pub data ReturnsValue (n r : ℤ) (p : Past) : Type 0 where
   True : r ≡ n → p.refusal ≡ None → literal_numbered n ∈ p.model → ReturnsValue n r p

@@ -6,7 +6,7 @@ use varisat_client::client::{Client, SearchEnd};
 use varisat_client::refusal::Refusal;
 use varisat_client::session::{Answer, Call, answers_of, make_call};
 
-// An answer as a number: the ends of searches and why calls are refused as a C program is told them.
+// An answer as a number: the ends of searches and why calls are refused as a C program is given them.
 fn number_of(answer: Answer) -> i32 {
     match answer {
         Answer::Done => 0,

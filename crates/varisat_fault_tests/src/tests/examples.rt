@@ -296,7 +296,7 @@ fn come_to<A: Allocator + Copy>(alloc: Global, heap: A, example: Example) -> Cam
     }
 }
 
-// How many growths of the example may be refused, each of which is told.
+// How many growths of the example may be refused, each of which is reported.
 fn sweep(alloc: Global, example: Example) -> Option<u64> {
     let heap = CutHeap::new(alloc);
     for number in 1..1000 {

@@ -1,5 +1,5 @@
 //! Commands of the program of which a growth is refused, or a call of a source or of the target of a proof fails: they print
-//! nothing, tell the cause, and end with the status of a fault.
+//! nothing, report the cause, and end with the status of a fault.
 use std::alloc::{Allocator, Global};
 use varisat::program::{SolveOptions, check_drat_lines, check_lines, solve_lines};
 use varisat::proof::ProofFormat;
@@ -83,7 +83,7 @@ const DRAT_ROW: Row = (
     VERIFIED,
 );
 
-/// Which command is run, and on what. A check that takes RAT lines tells how many there were.
+/// Which command is run, and on what. A check that takes RAT lines reports how many there were.
 #[derive(Clone, Copy)]
 struct Command {
     row: Row,
@@ -92,7 +92,7 @@ struct Command {
     has_checker: bool,
 }
 
-/// What came of a command: what it printed and told, its status, and how many calls there were.
+/// What came of a command: what it printed and reported, its status, and how many calls there were.
 #[derive(Drop)]
 struct Outcome {
     out: MemoryTarget<Global>,
@@ -181,7 +181,7 @@ fn is_answered(outcome: &Outcome, command: Command) -> bool {
         & (outcome.status == status)
 }
 
-// Whether the command failed and told this cause, by its beginning and end.
+// Whether the command failed and reported this cause, by its beginning and end.
 fn has_failed(outcome: &Outcome, cause: (&str, &str)) -> bool {
     outcome.out.bytes().is_empty()
         & (outcome.status == 2)

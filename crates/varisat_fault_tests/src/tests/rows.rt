@@ -35,7 +35,7 @@ const ROWS: [Row; 7] = [
         "+ok\n+ok\n-err 2\n-err 4\n-err 4\n-ok 692031203220300a71202d\n-ok none\n",
         (2, 0),
     ),
-    // A flush that fails is told before an interruption, and a target that failed is not flushed again.
+    // A flush that fails is returned before an interruption, and a target that failed is not flushed again.
     (
         (0, 0, 1),
         "proof text\nadd 1\nsolve\nsolve\nclose\n",

@@ -95,7 +95,7 @@ fn answer_usage<A: Allocator + Copy>(
     })
 }
 
-// Makes a call that only tells something.
+// Makes a call that only returns something.
 fn answer_question<A: Allocator + Copy>(
     solver: &mut CutSolver<A>,
     call: &LineCall,

@@ -1,5 +1,5 @@
 //! Each growth, each `put` and each `flush` of a session fails in turn: the answers are as they should be up to the one
-//! that tells it, and then those of an invalid solver.
+//! that returns it, and then those of an invalid solver.
 use super::scripts::{Cuts, WHOLE, answers_in};
 use std::alloc::{Allocator, Global};
 use std::str;
@@ -26,7 +26,7 @@ const OTHER_SESSIONS: [Exchange; 4] = [
     ),
 ];
 
-/// How answers are to those of a solver for which nothing failed: the same, cut where a call told a fault, or wrong.
+/// How answers are to those of a solver for which nothing failed: the same, cut where a call returned a fault, or wrong.
 #[derive(Clone, Copy, Debug, PartialEq, Eq)]
 enum Swept {
     Same,
@@ -42,7 +42,7 @@ fn is_beginning(answer: &str, whole: &str) -> bool {
     }
 }
 
-// Whether an invalid solver answers the line so, where it told this of the counts before.
+// Whether an invalid solver answers the line so, where it returned these counts before.
 fn is_invalid_answer(line: &str, answer: &str, whole: &str, reported: Option<&str>) -> bool {
     match line {
         "model" | "core" => answer == "-ok none",
@@ -61,7 +61,7 @@ fn is_refused_list(line: &str, answer: &str) -> bool {
     (line == "model" || line == "core") && answer == "+err 3"
 }
 
-// What an invalid solver told of its counts. They stay, but that a proof is closed sets the steps since then to 0.
+// What an invalid solver returned of its counts. They stay, but that a proof is closed sets the steps since then to 0.
 #[derive(Clone, Copy)]
 struct Reported<'a> {
     steps: Option<&'a str>,
@@ -69,7 +69,7 @@ struct Reported<'a> {
 }
 
 impl<'a> Reported<'a> {
-    // What was told in answer to the line.
+    // What was logged in answer to the line.
     fn of(&self, line: &str) -> Option<&'a str> {
         if line == "steps" {
             self.steps
@@ -199,7 +199,7 @@ fn joined(alloc: Global, settings: &str, session: &str) -> Option<String> {
     Some(script)
 }
 
-// The answers of a session, which say nothing of whether the solver is valid, with signs for that: it is until a call tells a
+// The answers of a session, which say nothing of whether the solver is valid, with signs for that: it is until a call returns a
 // fault, but for a list that gets no memory.
 fn with_signs(alloc: Global, script: &str, answers: &str) -> Option<String> {
     let mut signed = String::new(alloc);

@@ -178,7 +178,7 @@ abbrev pub is_above : Option Sizes → ℕ → Bool
 is_above None n = false
 is_above (Some s) n = nat_lt s.vars n
 
--- what a token makes of the reading; of several faults the first here is told
+-- what a token makes of the reading; of several faults the first here counts
 abbrev pub after_token : Reading → ℕ → Meaning → Reading
 after_token r n Wrong = failed r n UnexpectedInput
 after_token r n TooLarge = failed r n LiteralTooLarge

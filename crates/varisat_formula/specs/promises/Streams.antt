@@ -3,7 +3,7 @@ use Rattle.std.specs.Prelude.{◌≡◌, ℕ, zero, suc, ◌+◌, ◌-◌, ◌^�
 use Rattle.std.specs.Io.KnownBytes.{Consumes, IsAtEnd}
 
 -- the bytes that were given; those that are left, where they are known; how many pieces may still come; how many faults there
--- were; and whether the source told its end
+-- were; and whether the source gave its end
 pub record Input : Type 0 where
   pub given : List ℕ
   pub left : Option (List ℕ)
@@ -15,7 +15,7 @@ pub record Input : Type 0 where
 abbrev pub FillsFrom : {E : Type 0} → List ℕ → List ℕ → Result ℕ E → List ℕ → Type 0
 FillsFrom old new r buffer = MatchResult r (λ n. new ≡ old ++ take n buffer) (λ _. new ≡ old)
 
--- Whether a source told its end, after it gave n bytes for a buffer: bytes say that it has not ended, no bytes for a buffer that
+-- Whether a source gave its end, after it gave n bytes for a buffer: bytes say that it has not ended, no bytes for a buffer that
 -- is not empty say that it has, and else it is as before.
 abbrev pub ended_at : Bool → ℕ → List ℕ → Bool
 ended_at before n buffer = if nat_lt 0 n then false else (if nat_lt 0 (length buffer) then true else before)
@@ -31,7 +31,7 @@ pub record Reads (s : Input) (text : List ℕ) (t : Input) : Type 0 where
   pub consumed : Consumes s.left t.left text
   pub no_more : t.pieces ≤ s.pieces
 
--- the source told its end, and no byte is left that is known
+-- the source gave its end, and no byte is left that is known
 pub record HasEnded (t : Input) : Type 0 where
   pub reported : t.ended ≡ true
   pub at_end : IsAtEnd t.left
@@ -67,7 +67,7 @@ abbrev pub TakesPart : CutTaken → List ℕ → CutTaken → Type 0
 TakesPart old bytes new = (new.bytes ≡ old.bytes) ⊎ (new.bytes ≡ old.bytes ++ take old.part bytes)
 
 -- A source for tests: its text, how much of that it gave, how large its first and its other pieces are at most, how often it was
--- asked, which call fails, its faults, and whether it told its end.
+-- asked, which call fails, its faults, and whether it gave its end.
 pub record CutText : Type 0 where
   pub text : List ℕ
   pub place : ℕ
@@ -88,7 +88,7 @@ piece_size (suc place) first size = max size 1
 abbrev pub piece_count : CutText → ℕ → ℕ
 piece_count s room = min (min (length (drop s.place s.text)) room) (piece_size s.place s.first s.size)
 
--- how the source stands: it gave the text up to the place, and each further piece has a byte at least
+-- the source's input: it gave the text up to the place, and each further piece has a byte at least
 abbrev pub cut_input : CutText → Input
 cut_input s = record {
   given = take s.place s.text;

@@ -24,7 +24,7 @@ module _ {S E : Type 0} (takes : S → List Clause → Result (Unit {0}) E → S
     InMore : {s t : S} {clauses : List Clause} {r : Result (Unit {0}) E} (first rest : List Clause) (mid : S) → first ++ rest ≡ clauses →
         takes s first (Ok tt) mid → TakesInTurn mid rest r t → TakesInTurn s clauses r t
 
-  -- it took all clauses that a text gives, and the text's fault is told, if there is one
+  -- it took all clauses that a text gives, and the text's fault is returned, if there is one
   pub record TakesText (old : Input) (s : S) (fault : Option DimacsError) (new : Input) (t : S) : Type 0 where
     pub reading : Reading
     pub gives : GivesReading old reading new

@@ -35,7 +35,7 @@ pub trait ByteSource: Drop {
         ensures { result ≡ (input self.now).faults };
 }
 
-/// A law for proofs: what a source over known bytes gave until it told its end is all of them.
+/// A law for proofs: what a source over known bytes gave until it gave its end is all of them.
 pub fn known_bytes_are_read()
     ensures { (s t : Input) (text known : List ℕ) → s.left ≡ Some known → Reads s text t → HasEnded t → text ≡ known }
 {}
@@ -71,7 +71,7 @@ impl<R: Read + Drop> ReadSource<R> {
         }
     }
 
-    /// Whether the reader's end was told, and no byte came since.
+    /// Whether the reader's end came, and no byte came since.
     pub fn has_ended(&self) -> bool
         ensures { result ≡ self.now.ended }
     {

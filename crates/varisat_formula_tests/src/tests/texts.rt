@@ -308,7 +308,7 @@ fn failing(text: &'static [u8]) -> ReadSource<CutSource<'static>>
     ReadSource::new(by_three(text).failing_at(pieces.saturating_add(1)))
 }
 
-/// How many calls of a source that gives the text byte by byte may fail, each of which is told as a fault of the source.
+/// How many calls of a source that gives the text byte by byte may fail, each of which is reported as a fault of the source.
 fn failing_calls(alloc: Global, text: &'static [u8]) -> Option<u64> {
     for number in 1..100 {
         let mut source = CutSource::new(text).in_pieces(0, 1).failing_at(number);

@@ -1,5 +1,5 @@
 //! Variables that are hidden and brought back, by calls of a solver: the names that come back, the variable that a
-//! refusal tells, and many rounds. What sessions show stands with them.
+//! refusal has, and many rounds. What sessions show stands with them.
 use std::alloc::Global;
 use varisat::config::SolverConfigUpdate;
 use varisat::solver::{Solver, SolverError};
@@ -63,7 +63,7 @@ fn tells_either(solver: &TestSolver) -> bool {
     tells(solver, &lits![1, -2]) | tells(solver, &lits![-1, 2])
 }
 
-// A model tells the value of a variable that came back once it was found.
+// A model has the value of a variable that came back once it was found.
 fn tells_shown(solver: &mut TestSolver) -> Checked {
     solver.add_clause(&lits![1, 2])?;
     solver.hide_var(var!(2))?;
@@ -72,7 +72,7 @@ fn tells_shown(solver: &mut TestSolver) -> Checked {
     Ok(is_satisfiable & is_shown & tells_either(solver))
 }
 
-// A variable that comes back is told by the refusal of a clause, which names nothing, and by the model.
+// A variable that comes back shows by the refusal of a clause, which names nothing, and by the model.
 fn comes_back_before_search(alloc: Global, solver: &mut TestSolver) -> Checked {
     solver.add_clause(&lits![1, 2])?;
     solver.hide_var(var!(2))?;
@@ -83,7 +83,7 @@ fn comes_back_before_search(alloc: Global, solver: &mut TestSolver) -> Checked {
     Ok(is_shown & is_refused & is_satisfiable & tells_either(solver))
 }
 
-// The first witness of a clause is told, and a name past the limit before it. Neither clause names anything.
+// The first witness of a clause is returned, and a name past the limit before it. Neither clause names anything.
 fn tells_first_witness(alloc: Global, solver: &mut TestSolver) -> Checked {
     solver.witness_var(var!(1))?;
     solver.witness_var(var!(2))?;

@@ -3,7 +3,7 @@ use super::assignments::{Assignments, COUNT};
 use std::alloc::{AllocError, Global};
 use varisat_formula::formula::{Lit, Var};
 
-/// The number of a refusal with the index of the name that it tells, or none where a call is not refused.
+/// The number of a refusal with the index of the name that it has, or none where a call is not refused.
 pub type Refusal = Option<(u8, usize)>;
 
 // How many literals there are.
@@ -21,7 +21,7 @@ fn set(flags: &mut [bool], place: usize, flag: bool) {
     }
 }
 
-/// What the solver may be, as far as its answers tell.
+/// What the solver may be, as far as its answers say.
 #[derive(Clone, Copy)]
 pub struct PlainState {
     // The variable for which each name stands, if it is in use.
@@ -36,7 +36,7 @@ pub struct PlainState {
     joined: [bool; COUNT],
     // Whether each literal of variables is assumed.
     assumptions: [bool; LITERALS],
-    // Whether there was no room for a variable, after which nothing is told.
+    // Whether there was no room for a variable, after which nothing is known.
     is_full: bool,
     // The assignments that satisfy the clauses.
     models: Assignments,
@@ -344,7 +344,7 @@ impl PlainState {
         !kept.is_empty()
     }
 
-    /// A model was told, or none.
+    /// A model was returned, or none.
     pub fn model(&mut self, model: Option<&[Lit]>) {
         let is_right = match model {
             Some(model) => {
@@ -357,7 +357,7 @@ impl PlainState {
         self.is_possible &= is_right;
     }
 
-    /// A core was told, or none.
+    /// A core was returned, or none.
     pub fn core(&mut self, core: Option<&[Lit]>) {
         let is_right = match core {
             Some(core) => {

@@ -1,5 +1,5 @@
 //! Random sessions of calls that name, hide and constrain variables, beside plain states of the solver. Which hidden
-//! variables come back under which names isn't told, so there may be many states, of which one has to stay possible.
+//! variables come back under which names isn't known, so there may be many states, of which one has to stay possible.
 ghost use Rattle.std.specs.Prelude.{◌<◌, ◌≤◌};
 
 use super::plain_states::{PlainState, Refusal, shown_states};
@@ -19,7 +19,7 @@ const CALLS: usize = 14;
 // A session ends with so many states.
 const MOST_STATES: usize = 200;
 
-// The number of the refusal, with the index of the name that it tells.
+// The number of the refusal, with the index of the name that it has.
 fn refusal(answer: &Result<(), SolverError>) -> Refusal {
     match answer {
         Ok(()) => None,
@@ -44,7 +44,7 @@ fn assume(solver: &mut TestSolver, states: &mut [PlainState], literals: &[Lit]) 
 }
 
 fn new_var(solver: &mut TestSolver, states: &mut [PlainState]) {
-    // No name is one that a refusal tells.
+    // No name is one that a refusal has.
     let name = match solver.new_var() {
         Ok(var) => var.index(),
         Err(_) => usize::MAX,

@@ -112,7 +112,7 @@ updated_settings s u = record {
   max_steps = unwrap_or u.max_steps s.max_steps;
 }
 
--- The settings are changed as the update says; or a value would be out of its range, the first such setting is told, and nothing changes.
+-- The settings are changed as the update says; or a value would be out of its range, the first such setting is returned, and nothing changes.
 abbrev pub AppliesUpdate : SolverConfigUpdate → Settings → Result (Unit {0}) ConfigError → Settings → Type 0
 AppliesUpdate u old result new = MatchResult result
     (λ _. (first_bad u ≡ None) × (new ≡ updated_settings old u))

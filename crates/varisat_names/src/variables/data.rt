@@ -7,7 +7,7 @@ ghost use Rattle.varisat_names.specs.promises.VarData.{fresh, dead};
 pub enum SamplingMode {
     /// It has a name, and clauses may name it.
     Sample,
-    /// It has a name, and models tell its value, but clauses and assumptions may not name it.
+    /// It has a name, and models have its value, but clauses and assumptions may not name it.
     Witness,
     /// It has no name, and lives on in the clauses alone.
     Hide,

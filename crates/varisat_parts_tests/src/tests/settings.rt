@@ -41,7 +41,7 @@ fn refuse_interval(config: &mut SolverConfig) -> (Result<(), ConfigError>, u64) 
     (applied, config.luby_restart_interval_scale())
 }
 
-/// An update of two settings that are out of range. The first of them is told.
+/// An update of two settings that are out of range. The first of them is returned.
 fn bad_update() -> SolverConfigUpdate {
     let mut update = SolverConfigUpdate::new();
     update.luby_restart_interval_scale = Some(0);
@@ -91,7 +91,7 @@ fn is_name(alloc: Global, field: ConfigField, name: &str) -> Result<bool, AllocE
     Ok(same)
 }
 
-/// Whether a refusal of the setting is told by that name.
+/// Whether a refusal of the setting has that name.
 fn is_told(alloc: Global, field: ConfigField, name: &str) -> Result<bool, AllocError> {
     let told = ConfigError { field }.to_string(alloc)?;
     is_refusal(alloc, told.as_str(), name)

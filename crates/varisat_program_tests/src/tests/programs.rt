@@ -15,7 +15,7 @@ use varisat_sessions::{ALL_SESSIONS, Exchange, SETTINGS};
 use varisat_tests::readers::in_pieces;
 use varisat_tests::settings::reducing_every;
 
-// What a command prints, what it tells of a fault, and its status.
+// What a command prints, what it reports of a fault, and its status.
 type Printed = (&'static str, &'static str, u8);
 
 fn are_printed(out: &[u8], err: &[u8], status: u8, wanted: Printed) -> bool {
@@ -239,7 +239,7 @@ fn is_fault(err: &[u8], status: u8) -> bool {
     (status == 2) & err.starts_with(b"error: ")
 }
 
-// Whether a fault is told where the writer has room for so many bytes.
+// Whether a fault is reported where the writer has room for so many bytes.
 fn is_reported_with(alloc: Global, room: usize) -> bool {
     let mut bytes = [0; 5];
     let mut out = &mut bytes[..room.min(5)];

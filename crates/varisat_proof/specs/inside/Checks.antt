@@ -27,7 +27,7 @@ abbrev pub IsLineStatus : Rules → ProofState → ProofLine → LineStatus → 
 IsLineStatus R s line Taken t = R.takes s line t
 IsLineStatus R s line status t = R.wrong s line status × (t ≡ s)
 
--- the status tells it, unless memory ran out
+-- the status says it, unless memory ran out
 abbrev pub ReturnsStatus : {E : Type 0} → Rules → ProofState → ProofLine → Result LineStatus E → ProofState → Type 0
 ReturnsStatus R s line (Ok status) t = IsLineStatus R s line status t
 ReturnsStatus R s line (Err e) t = Unit {0}
@@ -59,7 +59,7 @@ pub record LastIsWrong (R : Rules) (s : ProofState) (lines : List ProofLine) (st
   pub wrong : R.wrong t line status
   pub numbered : step ≡ step_number (suc (length front))
 
--- The error tells what is wrong with the last line; where memory ran out nothing is told of it.
+-- The error says what is wrong with the last line; where memory ran out nothing is known of it.
 abbrev pub IsWrongLast : Rules → ProofState → List ProofLine → CheckerError → ProofState → Type 0
 IsWrongLast R s lines (CheckFailed step) t = LastIsWrong R s lines Unproved step t
 IsWrongLast R s lines (NoSuchClause step) t = LastIsWrong R s lines Absent step t
@@ -86,7 +86,7 @@ with_lines ls t = record { lines = ls ++ t.lines; fault = t.fault }
 pub record HasRead (encoding : Encoding) (text : List ℕ) (lines : List ProofLine) (p : ReaderState) : Type 0 where
   pub rest_is : (rest : List ℕ) → parsed encoding (text ++ rest) ≡ with_lines lines (parsed_from p rest)
 
--- the present clauses and what was told, how many lines were looked at, and how far the reader has come
+-- the present clauses and what was logged, how many lines were looked at, and how far the reader has come
 pub record Position : Type 0 where
   pub state : ProofState
   pub count : Count
@@ -142,7 +142,7 @@ ChecksLine old line number (Err (NoSuchClause step)) new = ((c : Clause) × (lin
 ChecksLine old line number (Err OutOfMemory) new = new.spent ≡ true
 ChecksLine old line number (Err error) new = ⊥
 
--- What checking unit clauses one after another returns: they follow, or the first that does not is told.
+-- What checking unit clauses one after another returns: they follow, or the first that does not is returned.
 abbrev pub ChecksUnits : CheckerState → List Literal → Result (Unit {0}) CheckerError → CheckerState → Type 0
 ChecksUnits old units (Ok u) new = Derives old.clauses (unit_lines units) new.clauses × (new.spent ≡ false)
 ChecksUnits old units (Err (CheckFailed step)) new = ((c : Clause) × FailsAt old.clauses (unit_lines units) step (Add c) new.clauses) × (new.spent ≡ false)

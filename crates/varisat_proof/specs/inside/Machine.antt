@@ -204,7 +204,7 @@ last_event p = if p.part.count == 0 then More else event p.encoding p.place.insi
 abbrev pub last_place : ReaderState → ParserState
 last_place p = if p.part.count == 0 then p.place else moved p.encoding p.place (last_symbol p.encoding p.part)
 
--- where a fault of that token is told
+-- where a fault of that token is reported
 abbrev pub last_offset : ReaderState → ℕ
 last_offset p = fault_offset p.place.inside (last_symbol p.encoding p.part) p.start p.at
 

@@ -4,7 +4,7 @@ use Rattle.varisat_theory.specs.promises.Membership.{◌⊆◌}
 use Rattle.varisat_theory.specs.promises.Literals.{Literal}
 use Rattle.varisat_theory.specs.promises.Journals.{Entry, Accepts, Assumes, Fails}
 
--- the lists of assumptions that were told to be accepted, in order
+-- the lists of assumptions that were logged as accepted, in order
 abbrev pub lists_of : List Entry → List (List Literal)
 lists_of [] = []
 lists_of (Assumes a ∷ es) = a ∷ lists_of es

@@ -143,7 +143,7 @@ Checks format old result new = ChecksBytes (λ bytes. IsResult format old.checke
 abbrev pub core_lists : {A : Type 0} → List (ℕ × Vec ℕ A) → List (ℕ × List Literal)
 core_lists cores = map (λ core. (core.0, core.1.items)) cores
 
--- what a report tells, with the list that is assumed where the check stops
+-- what a report says, with the list that is assumed where the check stops
 abbrev pub reported : {A : Type 0} → List Literal → MarkedReport A → MarkedLog
 reported assumed report = record { assumed = assumed; inputs = report.inputs; cores = core_lists report.cores.items }
 

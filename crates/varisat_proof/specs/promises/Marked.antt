@@ -1,4 +1,4 @@
--- Lines of all kinds: what each makes of the clauses that are present and of what was told, and where a check of them stops.
+-- Lines of all kinds: what each makes of the clauses that are present and of what was logged, and where a check of them stops.
 use Rattle.std.specs.Prelude.{◌≡◌, ℕ, suc, List, [], ◌∷◌, ◌++◌, length, Option, Some, None, Result, Ok, Err, ◌⊎◌}
 use Rattle.varisat_theory.specs.promises.Membership.{◌⊆◌}
 use Rattle.varisat_theory.specs.promises.Literals.{Literal, Clause}
@@ -19,7 +19,7 @@ use Rattle.varisat_proof.specs.promises.Lines.{ProofLine, step_number}
 use Rattle.varisat_proof.specs.promises.Means.{BytesMean}
 
 -- 1. One line.
--- What marked lines told: the list that is assumed, the clauses that were given, and the cores, each with the number of clauses before it.
+-- What marked lines log: the list that is assumed, the clauses that were given, and the cores, each with the number of clauses before it.
 pub record MarkedLog : Type 0 where
   pub assumed : List Literal
   pub inputs : Formula
@@ -29,7 +29,7 @@ pub record MarkedLog : Type 0 where
 abbrev pub nothing_logged : MarkedLog
 nothing_logged = record { assumed = []; inputs = no_clauses; cores = [] }
 
--- the clauses that are present, and what was told
+-- the clauses that are present, and what was logged
 pub record ProofState : Type 0 where
   pub present : List Clause
   pub logged : MarkedLog
@@ -131,7 +131,7 @@ pub record IsCheckBy (rules : Rules) (encoding : Encoding) (s : ProofState) (byt
 abbrev pub IsCheckOf : Encoding → ProofState → List ℕ → Result CheckVerdict CheckerError → ProofState → Type 0
 IsCheckOf encoding s bytes result t = IsCheckBy strict_rules encoding s bytes result t
 
--- all bytes have one result from a state on, and what was told then is one thing too
+-- all bytes have one result from a state on, and what was logged then is one thing too
 abbrev pub CheckOnceBy : Rules → Encoding → Type 0
 CheckOnceBy rules encoding =
     (s : ProofState) (bytes : List ℕ) (r q : Result CheckVerdict CheckerError) (t u : ProofState)

@@ -13,7 +13,7 @@ use Rattle.varisat_proof.specs.promises.Marked.{MarkedLog, nothing_logged, Proof
 use Rattle.varisat_proof.specs.promises.Logging.{logged_lines, logged_bytes}
 use Rattle.varisat_proof.specs.promises.Written.{AreInRange}
 
--- what was told leads to clauses over which propagation conflicts
+-- what was logged leads to clauses over which propagation conflicts
 abbrev pub LogsConflict : List Entry → Type 0
 LogsConflict logged = (held : List Clause) × Leads [] logged held × Conflicts held []
 
@@ -22,13 +22,13 @@ pub record IsFirstConflict (logged : List Entry) : Type 0 where
   pub conflicts : LogsConflict logged
   pub first : (front : List Entry) (e : Entry) (back : List Entry) → logged ≡ front ++ e ∷ back → LogsConflict front → ⊥
 
--- The clauses and the cores that a check tells are those of the journal, in order, each core with the number of clauses before it.
+-- The clauses and the cores that a check reports are those of the journal, in order, each core with the number of clauses before it.
 pub record LogsAllOf (logged : List Entry) (report : MarkedLog) : Type 0 where
   pub inputs : report.inputs.clauses ≡ accepted_of logged
   pub cores : report.cores ≡ cores_of 0 logged
 
--- No line is wrong. Where propagation conflicts behind some beginning of the journal, the check refutes and tells all of the first
--- such; else it is a derivation, and all is told.
+-- No line is wrong. Where propagation conflicts behind some beginning of the journal, the check refutes and reports all of the first
+-- such; else it is a derivation, and all is reported.
 abbrev pub PassesWith : List Entry → Result CheckVerdict CheckerError → MarkedLog → Type 0
 PassesWith logged (Ok Refutation) report =
     (front : List Entry) × (back : List Entry) × (logged ≡ front ++ back) × IsFirstConflict front × LogsAllOf front report

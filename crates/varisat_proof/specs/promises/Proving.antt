@@ -1,4 +1,4 @@
--- What telling entries makes of an open proof, of which only the bytes and the count of faults change, and of the checker in a solver.
+-- What logging entries makes of an open proof, of which only the bytes and the count of faults change, and of the checker in a solver.
 use Rattle.std.specs.Prelude.{◌≡◌, ◌⊎◌, ℕ, ◌+◌, ◌-◌, ◌<◌, ◌^◌, Bool, true, false, not, ◌&&◌, ◌||◌, List, ◌++◌, take, Option, Some, None, Result, Ok, Err}
 use Rattle.varisat_theory.specs.promises.Literals.{Clause}
 use Rattle.varisat_theory.specs.promises.Held.{SameClauses}
@@ -81,7 +81,7 @@ IsCheckedIf None entries new = new ≡ None
 IsCheckedIf (Some old) entries None = ⊥
 IsCheckedIf (Some old) entries (Some new) = IsLeftAfter old.clauses entries new.clauses × (new.spent ≡ old.spent)
 
--- The entries were told to both.
+-- Both logged the entries.
 pub record IsLogged (old : ProofParts) (entries : List Entry) (new : ProofParts) : Type 0 where
   pub written : IsWrittenIf old.opened (logged entries) new.opened
   pub checked : IsCheckedIf old.checker entries new.checker
@@ -91,20 +91,20 @@ abbrev pub IsSpent : Option CheckerState → Option CheckerState → Type 0
 IsSpent (Some old) (Some new) = new.spent ≡ true
 IsSpent _ _ = ⊥
 
--- Memory ran out: for a line, so that a beginning of the lines was written and the checker was told nothing; or in the checker, behind all
+-- Memory ran out: for a line, so that a beginning of the lines was written and the checker got nothing; or in the checker, behind all
 -- the lines.
 abbrev pub RunsOutLogging : ProofParts → List Entry → ProofParts → Type 0
 RunsOutLogging old entries new =
     (IsBegunIf old.opened (logged entries) 0 new.opened × (new.checker ≡ old.checker))
     ⊎ (IsWrittenIf old.opened (logged entries) new.opened × IsSpent old.checker new.checker)
 
--- What telling entries returns and leaves. Where the target failed, a beginning of the lines was written and the checker was told nothing.
+-- What logging entries returns and leaves. Where the target failed, a beginning of the lines was written and the checker got nothing.
 abbrev pub Logs : ProofParts → List Entry → Result (Unit {0}) TraceError → ProofParts → Type 0
 Logs old entries (Ok u) new = IsLogged old entries new
 Logs old entries (Err Memory) new = RunsOutLogging old entries new
 Logs old entries (Err (Target cause)) new = IsBegunIf old.opened (logged entries) 1 new.opened × (new.checker ≡ old.checker)
 
--- 3. What can be told.
+-- 3. What can be logged.
 -- a target can be used that may still count a fault
 abbrev pub CanCountTargetFault : Option OpenState → Type 0
 CanCountTargetFault None = Unit {0}

@@ -118,7 +118,7 @@ abbrev pub fault_status : ℕ
 fault_status = 2
 
 -- A target took the text, no call of it failed, and the status is `done`; or a call failed, the target took a beginning of the text,
--- and the status tells a fault.
+-- and the status is that of a fault.
 abbrev pub EndsPrinting : ℕ → List ℕ → ℕ → Taken → Taken → Type 0
 EndsPrinting done text status before after =
     ((status ≡ done) × (after.bytes ≡ before.bytes ++ text) × (after.faults ≡ before.faults))
@@ -129,7 +129,7 @@ abbrev pub PrintsVerdict : Bool → ℕ → Taken → Taken → Type 0
 PrintsVerdict verified status before after = EndsPrinting (verdict_status verified) (verdict_text verified) status before after
 
 -- How the command ends, of which `before` and `after` are what its target took: the check fails, nothing is printed, and the status
--- tells a fault; or it comes to a verdict, which is printed.
+-- is that of a fault; or it comes to a verdict, which is printed.
 abbrev pub EndsCheck : ProofFormat → Sources → Sources → ℕ → Taken → Taken → Type 0
 EndsCheck format old new status before after =
     ((error : CheckerError) × FailsCheck old new error × (status ≡ fault_status) × (after ≡ before))

@@ -12,7 +12,7 @@ pub enum LineRules {
 /// What becomes of a line.
 #[derive(Clone, Copy)]
 pub enum LineStatus {
-    /// The present clauses, and what was told, are those after it.
+    /// The present clauses, and what was logged, are those after it.
     Taken,
     /// It adds a clause that does not follow, or propagation from its core does not conflict.
     Unproved,

@@ -1,4 +1,4 @@
-//! What marked lines tell beside the clauses that are present.
+//! What marked lines log beside the clauses that are present.
 ghost use Rattle.std.specs.Prelude.{◌≡◌, List, ◌∷◌, [], ◌++◌, length, ◌↔◌, IsTrue, OnOk, IfOk};
 ghost use Rattle.varisat_theory.specs.promises.Membership.{◌⊆◌, SameSet};
 ghost use Rattle.varisat_formula.specs.promises.Formulas.{with_one_more};
@@ -24,7 +24,7 @@ pub struct MarkedReport<A: Allocator + Copy> {
     pub cores: Vec<(usize, Vec<Lit, A>), A>,
 }
 
-/// What the lines of a proof told so far.
+/// What the lines of a proof logged so far.
 #[derive(Drop)]
 pub struct ReportBuilder<A: Allocator + Copy> {
     alloc: A,
@@ -64,7 +64,7 @@ fn list_all<A: Allocator + Copy>(
 }
 
 impl<A: Allocator + Copy> ReportBuilder<A> {
-    /// Nothing was told. It takes no memory.
+    /// Nothing was logged. It takes no memory.
     pub fn new_in(alloc: A) -> ReportBuilder<A>
         ensures { result ≡ nothing_logged }
     {
@@ -119,7 +119,7 @@ impl<A: Allocator + Copy> ReportBuilder<A> {
         Ok(())
     }
 
-    /// The report of what was told.
+    /// The report of what was logged.
     pub fn report(self, verdict: CheckVerdict) -> MarkedReport<A>
         ensures verdict { result.verdict ≡ verdict }
         ensures inputs { result.inputs ≡ self.inputs }

@@ -241,7 +241,7 @@ impl<W: ProofTarget, A: Allocator + Copy> Proof<W, A> {
 }
 
 /// Tells an accepted clause: marked text has a line of it, and then the checker keeps it. `Target`: the target failed, and
-/// the checker was told nothing. `Memory`: a line was not put together, or the checker is spent.
+/// the checker got nothing. `Memory`: a line was not put together, or the checker is spent.
 pub fn add_clause<W: ProofTarget, A: Allocator + Copy>(
     proof: &mut Proof<W, A>,
     clause: &[Lit],

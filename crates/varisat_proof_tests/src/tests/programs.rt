@@ -7,7 +7,7 @@ use varisat_proof::program::check_lines;
 use varisat_proof::proof::ProofFormat;
 use varisat_proof::proof::ProofFormat::{BinaryDrat, Drat, Marked};
 
-/// What the command prints, what it tells of a fault, and its status.
+/// What the command prints, what it reports of a fault, and its status.
 type Printed = (&'static str, &'static str, u8);
 
 /// A text, the proof's format and bytes, and what is printed.

@@ -19,7 +19,7 @@ struct MarkedLine {
     codes: Vec<u32>,
 }
 
-/// What lines told, as plain lists.
+/// What lines log, as plain lists.
 #[derive(Drop)]
 struct Plain {
     present: Vec<Vec<u32>>,

@@ -232,7 +232,7 @@ module _ (s : View) (a b : Literal) (first : opposite a < length s.binary) (seco
       different x y d = ((λ h. ⊎_elim d (λ z. absurd z) h), ((λ z. absurd z), tt))
 
   -- 5. Propagation.
-  -- What is implied is settled still where each of the two that is false before place q has the other beside it.
+  -- The watches hold still for what is implied where each of the two that is false before place q has the other beside it.
   pub implied-more : (q : ℕ) → ((k : ℕ) → k < q → literal_at s k ≡ opposite a → IsCovered s (b ∷ []) k) →
       ((k : ℕ) → k < q → literal_at s k ≡ opposite b → IsCovered s (a ∷ []) k) → IsImpliedTo s q → IsImpliedTo more q
   implied-more q f g st = λ m k h i. ⊎_elim (st m k h) (λ o. ⊎_elim

@@ -114,7 +114,7 @@ pub value-read : (vs : List (Option Bool)) (fs : List LitValue) (l : Literal) (i
     variable_of l < length vs → i ≡ l → b ≡ get_or fs i b → b ≡ literal_value (value_in vs l)
 value-read vs fs l i b d t h e f = f ∙ ap (λ k. get_or fs k b) e ∙ get_or_default fs l b lit_value.Unknown (omega (arith, h, d)) ∙ t l
 
--- a literal is told to be true just where its variable makes it so
+-- a literal is listed as true just where its variable makes it so
 pub true-told : (vs : List (Option Bool)) (l : Literal) (v : LitValue) (b : Bool) → v ≡ literal_value (value_in vs l) → IsTrue b ↔ (v ≡ lit_value.True) →
     IsTrue b ↔ IsMadeTrue vs l
 true-told vs l v b e t = let (f, g) = go (get_or vs (variable_of l) None) (polarity_of l) in ((λ h. f (sym e ∙ t.0 h)), (λ h. t.1 (e ∙ g h)))

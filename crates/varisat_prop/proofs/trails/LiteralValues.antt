@@ -33,7 +33,7 @@ polarity-opposite l =
     (λ h. rw (odd-even l h, h) refl)
     (parity l)
 
--- a variable and a polarity tell the literal
+-- a variable and a polarity give the literal
 pub same-literal : (l m : Literal) → variable_of l ≡ variable_of m → polarity_of l ≡ polarity_of m → l ≡ m
 same-literal l m e f = ⊎_elim (λ g. g) (λ g. absurd (differ (polarity_of m) (sym f ∙ ap polarity_of g ∙ polarity-opposite m))) (same-variable l m e)
   where

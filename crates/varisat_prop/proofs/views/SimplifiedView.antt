@@ -87,7 +87,7 @@ module _ (t : View) (w : WellFormed t) (free : (c : Clause) → c ∈ kept t →
   watched-in : (i j : ℕ) → IsClauseRef t.clauses i → j < 2 → literal_in (clause_at t i) j ∈ clause_at t i
   watched-in i j a l = ∈-get_or (clause_at t i) j 0 (let n = w.several (clause_at t i) (kept-here t i a) in omega (arith, l, n))
 
-  -- what stands on the trail is settled
+  -- the watches hold to the trail's end
   pub settled-unassigned : WatchesHoldTo t t.queue_head
   settled-unassigned i j p a l h g =
       absurd (not-false (clause_at t i) (kept-here t i a) p (let q = w.head in omega (arith, h, q)) (literal_in (clause_at t i) j) (watched-in i j a l) g)

@@ -143,7 +143,7 @@ module _ (P : List StoredClause) (c : StoredClause) (last : (k : StoredClause) �
         (place-cases-more P c i a);
   }
 
-  -- it is settled where each of its first two literals that is false below q has a true one beside it, at its level or a lower one
+  -- its watches hold where each of its first two literals that is false below q has a true one beside it, at its level or a lower one
   pub settled-more : (s : View) (q : ℕ) → s.clauses ≡ P →
       ((j p : ℕ) → j < 2 → p < q → literal_at s p ≡ opposite (literal_in c.literals j) → IsCovered s c.literals p) → WatchesHoldTo s q →
       WatchesHoldTo (record s { clauses = more }) q

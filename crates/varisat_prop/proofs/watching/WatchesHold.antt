@@ -1,4 +1,4 @@
--- What is settled stays so, and shows that propagation came to its end.
+-- Watches that hold go on to hold, and show that propagation came to its end.
 use Rattle.std.proofs.Common.{◌≡◌, ◌≢◌, ℕ, zero, suc, ◌<◌, ◌≤◌, ◌++◌, List, [], ◌∷◌, ◌⊎◌, inl, inr, ⊎_elim, length, get_or, take, refl, sym, ap, ◌∙◌, subst, arith}
 use Rattle.std.proofs.lemmas.List.{get_or-take, length-take}
 use Rattle.std.proofs.lemmas.Bool.{cases_lt}
@@ -98,7 +98,7 @@ settled-reordered s i q d r w st = λ k j p a b h e.
 abbrev pub WatchesHoldBut : View → Literal → List Watch → Type 0
 WatchesHoldBut s l rest = (i j : ℕ) → IsClauseRef s.clauses i → j < 2 → l ≡ opposite (literal_in (clause_at s i) j) → HasWatch rest i ⊎ IsSatisfied s (clause_at s i)
 
--- the next literal is settled too, where no decision stands behind it
+-- the watches hold to the next literal too, where no decision stands behind it
 pub settled-next : (s : View) (q : ℕ) (l : Literal) → literal_at s q ≡ l → ((j : ℕ) → j < length s.decisions → decision_at s j ≤ q) →
     WatchesHoldTo s q → WatchesHoldBut s l [] → WatchesHoldTo s (suc q)
 settled-next s q l e d st but = λ i j p a b h f.
@@ -109,7 +109,7 @@ settled-next s q l e d st but = λ i j p a b h f.
     ⊎_elim (λ (w, m, n). absurd m) (λ (k, m, n). (k, m, n, λ y z v. let u = d y z in absurd (omega (arith, v, u, o)))) (but i j a b x))
     (cases_lt p q)
 
--- where all is settled, no clause is false and none leaves a literal that isn't true
+-- where the watches hold to the end, no clause is false and none leaves a literal that isn't true
 pub settled-complete : (s : View) → WellFormed s → WatchesHoldTo s (length s.trail) → IsComplete (literals_of s.clauses) s.trail
 settled-complete s w st = record {
   no_false = λ (c, h, f). let (i, a, e) = named c h in
@@ -203,7 +203,7 @@ complete-both P Q known a b = record {
   closed = λ c l h k u. ⊎_elim (λ m. a.closed c l m k u) (λ m. b.closed c l m k u) (∈-append_cases c P Q h);
 }
 
--- backtracking to a level: what is left of the trail, and of what was settled
+-- backtracking to a level: what is left of the trail, and to where the watches hold
 module _ (s t : View) (level q : ℕ) (a : level < length s.decisions) (n : decision_at s level ≤ q) (m : decision_at s level ≤ length s.trail) where
   abbrev cut : View
   cut = record s { values = t.values; trail = take (decision_at s level) s.trail; queue_head = decision_at s level; decisions = take level s.decisions }

@@ -56,7 +56,7 @@ fn put_second(lits: &mut [Lit], false_lit: Lit) -> Lit
     ensures second { literal_in lits.new 1 ≡ false_lit }
     ensures same { literal_in lits.old 0 ≡ result → lits.new ≡ lits.old }
 {
-    // Which of the two it is can't be predicted, so that the other one is told by the sum of both, without a branch.
+    // Which of the two it is can't be predicted, so that the other one is found by the sum of both, without a branch.
     let first = Lit::from_code(lits[0].code() + lits[1].code() - false_lit.code());
     lits[0] = first;
     lits[1] = false_lit;

@@ -93,7 +93,7 @@ const ROWS: [Row; 16] = [
             (OpenMarked, Refused(11)),
         ],
     ),
-    // Its target fails as a list of assumptions is told, of which it takes a byte.
+    // Its target fails as a list of assumptions is logged, of which it takes a byte.
     (
         (2, true, 0),
         &[
@@ -135,7 +135,7 @@ const ROWS: [Row; 16] = [
             (CloseNone, Done),
         ],
     ),
-    // These refusals are looked for before those for a name: behind 9 or 10 a witness and the limit are not told.
+    // These refusals are looked for before those for a name: behind 9 or 10 a witness and the limit are not returned.
     (
         WHOLE,
         &[
@@ -199,7 +199,7 @@ const ROWS: [Row; 16] = [
             (Close(b"", 3), Done),
         ],
     ),
-    // A flush that fails is told before an interruption, and the target comes back without another.
+    // A flush that fails is returned before an interruption, and the target comes back without another.
     (
         (0, false, 1),
         &[
@@ -234,7 +234,7 @@ const ROWS: [Row; 16] = [
             (Close(b"", 1), Done),
         ],
     ),
-    // A proof that can't be flushed as it closes is told with the target, and leaves the solver invalid.
+    // A proof that can't be flushed as it closes is returned with the target, and leaves the solver invalid.
     (
         (0, false, 1),
         &[
@@ -618,7 +618,7 @@ fn assume_with(alloc: Global, room: usize, cuts: Cuts) -> Result<Outcome, AllocE
     Ok(assume_in(alloc, &heap, cuts))
 }
 
-// Where a list of assumptions has no room, that is told, also if the target would fail.
+// Where a list of assumptions has no room, that is reported, also if the target would fail.
 #[test]
 fn memory_is_asked_for_before_a_target(rt: HostRuntime) {
     let mut reached = [false; 2];

@@ -246,7 +246,7 @@ fn log_core(alloc: Global, journal: &mut Journal, core: &[Lit]) -> Result<(), Al
     Ok(())
 }
 
-// Assumes a random list, mostly, and solves. A core that is found then is told.
+// Assumes a random list, mostly, and solves. A core that is found then is logged.
 fn solve_round(
     alloc: Global,
     solver: &mut TestSolver,
@@ -286,7 +286,7 @@ fn play_rounds(
     Ok(())
 }
 
-// Whether the first clauses are just those that are told.
+// Whether the first clauses are just those that are logged.
 fn begin_with(clauses: &CnfFormula<Global>, told: &CnfFormula<Global>) -> bool {
     let mut rest = clauses.iter();
     for clause in told.iter() {

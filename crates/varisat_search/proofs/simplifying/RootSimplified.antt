@@ -1,4 +1,4 @@
--- How a search goes on as its units of level 0 are settled, and the step after that.
+-- How a search goes on as the root level is simplified, and the step after that.
 use Rattle.std.proofs.Common.{◌≡◌, ℕ, ◌<◌, ◌≤◌, Bool, Result, MatchResult, List, [], ◌++◌, length, refl, sym, ap, ◌∙◌, subst, append_assoc}
 use Rattle.varisat_theory.specs.promises.Derivations.{Line}
 use Rattle.varisat_theory.specs.inside.Outcomes.{Outcome, Proves, Steps}
@@ -160,7 +160,7 @@ still-conflicting s t f p c = subst (λ (y : View). IsConflicting y f) (sym p.re
 pub settled-down : (s t : View) → s.decisions ≡ [] → s.queue_head ≡ length s.trail → HasUnits s → IsSimplified s t → IsRootSimplified t
 settled-down s t d q h p = subst IsRootSimplified (sym p.rest) record { undecided = d; propagated = q; proved = h; unassigned = p.unassigned }
 
--- What comes after the units were settled.
+-- What comes after the root level was simplified.
 module _ {A : Type 0} (x y : Context A) (P : List Line → Type 0) (a : GoesOnByLines P x y) where
   pub steps-settled : (t : View) (v : Outcome) (lines : List Line) (Q R : List Line → Type 0) →
       ((first more : List Line) → P first → Q more → R (first ++ more)) → Steps (search_of (view y)) (search_of t) v lines → Q lines →

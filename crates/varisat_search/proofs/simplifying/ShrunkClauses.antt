@@ -10,7 +10,7 @@ use Rattle.varisat_clause.proofs.StoreSound.{are-long}
 use Rattle.varisat_clause.proofs.DatabaseTracks.{place-is}
 use Rattle.varisat_search.specs.Simplifications.{shortened_to}
 
--- the header tells how many literals there are
+-- the header says how many literals there are
 pub header-length : (s : Store) (p : ℕ) → IsSound s → IsClauseRef (stored_clauses s) p →
     (header_at (stored_clauses s) p).len ≡ length (literals_at (stored_clauses s) p)
 header-length s p ok at = (are-long s ok (stored_at (stored_clauses s) p) (stored-∈ (stored_clauses s) p at)).1

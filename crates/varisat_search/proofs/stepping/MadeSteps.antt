@@ -1,4 +1,4 @@
--- A step is made over what comes before it: units that are settled, or propagation and decisions up to a conflict or to an end.
+-- A step is made over what comes before it: the root level is simplified, or propagation and decisions up to a conflict or to an end.
 use Rattle.std.proofs.Common.{◌≡◌, List, [], ◌++◌, ◌⊎◌, ⊎_elim, inl, inr, refl, ap, ◌∙◌, subst}
 use Rattle.varisat_theory.specs.promises.Literals.{Literal}
 use Rattle.varisat_trace.specs.Traces.{verdict_entries}
@@ -120,7 +120,7 @@ pub made-at-once : {A : Type 0} (y z : Context A) (P : List Line → Type 0) →
     SavesSome (view y) y.assignment.last z.assignment.last → MakesStep P y z
 made-at-once y z P r e saves = made-learned y y r (finds-refl y r) z P e saves
 
--- 2. Units that are settled, from x to y.
+-- 2. The root level is simplified, from x to y.
 
 pub made-settled : {A : Type 0} (x y z : Context A) (P Q R : List Line → Type 0) →
     ((first more : List Line) → P first → Q more → R (first ++ more)) → IsReady x → GoesOnByLines P x y →

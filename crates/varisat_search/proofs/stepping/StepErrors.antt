@@ -1,4 +1,4 @@
--- Which error a step tells.
+-- Which error a step returns.
 use Rattle.std.proofs.Common.{List, [], length, inl, inr, ⊎_elim, sym, subst, ◌≡◌, ◌≢◌, ℕ, refl, ◌∙◌}
 use Rattle.varisat_theory.specs.promises.Membership.{◌∈◌}
 use Rattle.varisat_theory.specs.promises.Literals.{Literal, Clause, opposite}
@@ -54,7 +54,7 @@ told-by : {X E : Type 0} (r : Result X E) (Q P : E → Type 0) → IsErr r × Is
 told-by (Ok x) Q P (a, b) f = tt
 told-by (Err e) Q P (a, b) f = f e b
 
--- a step tells that the store is full only where the store told it
+-- a step says that the store is full only where the store said it
 store-full : (s : StoreError) → step_error_of_store s ≡ step.Full → s ≡ store.Full
 store-full store.Full e = refl
 store-full store.Memory e = absurd (let z : step.Memory ≡ step.Full = e in cc)
@@ -83,12 +83,12 @@ ends-after {x = x} {z = z} r e h k n b = record {
       (λ f. let (room, same) = b.full f in (room, same ∙ n));
 }
 
--- An error tells as many faults as the tracer's that it comes from, and one of the store tells none.
+-- An error stands for as many faults as the tracer's that it comes from, and one of the store for none.
 pub trace-faults : (e : TraceError) → faults_of e ≡ step_faults (step_error_of_trace e)
 trace-faults trace.Memory = refl
 trace-faults (trace.Target cause) = refl
 
--- and none tells that the store is full
+-- and none says that the store is full
 pub trace-unfilled : (e : TraceError) → step_error_of_trace e ≢ step.Full
 trace-unfilled trace.Memory q = let z : step.Memory ≡ step.Full = q in cc
 trace-unfilled (trace.Target cause) q = let z : step.Target cause ≡ step.Full = q in cc

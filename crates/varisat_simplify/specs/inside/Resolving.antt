@@ -8,7 +8,7 @@ use Rattle.varisat_simplify.specs.declared.resolve.Relation.{Relation}
 use Rattle.varisat_simplify.specs.declared.resolve.Relation.TheVariants.{Nothing, Subsumes, Strengthens}
 use Rattle.varisat_simplify.specs.inside.States.{State, clause_at, IsLive}
 
--- the literal stands so in the clause
+-- the literal occurs so in the clause
 abbrev pub OccursAs : Clause → Literal → Sign → Type 0
 OccursAs c l Absent = Unit {0}
 OccursAs c l Same = l ∈ c

@@ -26,7 +26,7 @@ use Rattle.varisat_solver.specs.declared.solver.SolverError.{SolverError}
 use Rattle.varisat_solver.specs.declared.solver.SolverError.TheVariants.{Interrupted, OutOfMemory, ProofIoError, Dimacs}
 use Rattle.varisat_solve.specs.declared.deciding.ProgramOptions.{ProgramOptions}
 
--- the refusal for a fault of a text: memory that ran out in the reader is told as in any call
+-- the refusal for a fault of a text: memory that ran out in the reader is returned as in any call
 abbrev pub IsRefusedText : DimacsError → SolverError → Type 0
 IsRefusedText fault e = ((fault.kind ≡ kind.OutOfMemory) × (e ≡ OutOfMemory)) ⊎ ((fault.kind ≢ kind.OutOfMemory) × (e ≡ Dimacs fault))
 
@@ -88,7 +88,7 @@ FailsFirst taken o target old new e =
     FailsBy taken o.search target old new e
     ⊎ ((o.simplify ≡ true) × (has_marks o.search.format ≡ false) × FailsSimplified taken o.search target old new e)
 
--- What the program's `solve` comes to: deciding fails, nothing is printed, and the status tells a fault; or the text is decided, with a
+-- What the program's `solve` comes to: deciding fails, nothing is printed, and the status is that of a fault; or the text is decided, with a
 -- proof from its own clauses, and the conclusion for these is printed.
 abbrev pub SolvesFirst : {W : Type 0} → (W → Taken) → ProgramOptions → Input → Input → Option W → Option W → Taken → Taken → ℕ → Type 0
 SolvesFirst taken o old new target back before printed status =

@@ -132,7 +132,7 @@ named-one g s new u f (Above b e) =
     subst (λ n. FitWithNew (spaces (with_tables new g)) s (with_naming n s)) (sym (name-above u s.naming (omega (arith, b, m))))
     (next-spaces (suc u - s.naming.watermark) g s new f (subst (λ c. AreNextGiven c g.tables new) z e))
 
--- 2. Solver variables, where no model is told.
+-- 2. Solver variables, where no model is returned.
 
 abbrev pub HasNoModel : Summary → Type 0
 HasNoModel g = (a : Assignment) → (spaces g).outcome ≡ outcome.Sat a → ⊥

@@ -318,7 +318,7 @@ module _ (w : Carrying) (p : Spaces) (s : State) (d : Clause) (k : Links w p s) 
           | inr a ↦ global-carried w p s k m leads l (of-clause l a)
         ]) speaks)
 
-    -- what a proof is told of them
+    -- what a proof logs of them
     clause-logged-as : (lines : List Line) → SpeakOf (IsLiteralOfEither p.search (map (solver_literal p) d)) lines →
         AreLoggedAs s.variables s.logged ((s.logged ++ Accepts (map (through_names s.naming) d) ∷ []) ++ lines_logged (translation w p s.logged) lines)
         (logged_as (carry p.global_from_solver) (Accepts (map (solver_literal p) d) ∷ written lines))
@@ -405,7 +405,7 @@ module _ (w : Carrying) (p : Spaces) (s : State) (d : Clause) (k : Links w p s) 
         ))
         loads.verdict
 
-  -- what a proof is told of the list
+  -- what a proof logs of the list
   pub list-carried : map (carry s.variables) (map (through_names s.naming) d) ≡ map (carry p.global_from_solver) (map (solver_literal p) d)
   unfolding c e r
   list-carried = ap (map (carry s.variables)) (sym same-clause)

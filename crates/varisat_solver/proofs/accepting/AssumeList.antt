@@ -95,7 +95,7 @@ pub record Assuming (g : Summary) (list : List Literal) (cleared marked : Tables
   pub parts_are : parts ≡ newly_assumed list (map (carry (chain (at g.tables.users.forward) (at g.tables.solvers.forward))) list)
   pub verdict : after ≡ assumed_state g.sat_state
 
--- a proof is told of it over global variables
+-- a proof logs it over global variables
 pub list-logged : (g : Summary) (n : State) (list : List Literal) (cleared marked : Tables) (new : View) (parts : AssumptionParts)
     (after : SatState) → Assuming g list cleared marked new parts after →
     SpacesFit (spaces g) (count (join_counted n.counted (map variable_of (map (through_names n.naming) list))) n) →

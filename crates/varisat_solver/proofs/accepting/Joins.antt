@@ -1,4 +1,4 @@
--- What an accepted clause, and an assumed list, does to what was told and to an open proof.
+-- What an accepted clause, and an assumed list, does to what was logged and to an open proof.
 use Rattle.std.proofs.Common.{◌≡◌, ℕ, true, Option, List, [], ◌∷◌, ◌++◌, refl, sym, ◌∙◌}
 use Rattle.varisat_theory.specs.promises.Literals.{Clause, Literal}
 use Rattle.varisat_theory.specs.promises.Journals.{Entry, Accepts, Assumes}
@@ -16,7 +16,7 @@ use Rattle.varisat_solver.proofs.entries.OpenProofs.{proof-goes-on, lines-of-ent
 use Rattle.varisat_solver.proofs.entries.LoggedEntries.{stays-nothing}
 use Rattle.varisat_solver.specs.promises.Calls as call
 
--- A clause was accepted: the state that the solver stands for then.
+-- A clause was accepted: the state that the solver represents then.
 
 -- The spaces stand for a state in which the clause is accepted, and the open proof fits it, and so do the words of the clause store.
 pub record ClauseJoins (s : State) (d : Clause) (after : Spaces) (opened : Option OpenState) (words : ℕ) : Type 0 where
@@ -56,7 +56,7 @@ clause-joins s d before after p q v logged variables words (w, k) fitted verdict
       flags = λ f. flags-started s (start t) f refl refl grows;
     }
 
--- A list of assumptions was accepted: the state that the solver stands for then.
+-- A list of assumptions was accepted: the state that the solver represents then.
 
 -- The spaces stand for a state in which the list is assumed, and the open proof fits it, and so do the words of the clause store.
 pub record ListJoins (s : State) (list : List Literal) (after : Spaces) (opened : Option OpenState) (words : ℕ) : Type 0 where

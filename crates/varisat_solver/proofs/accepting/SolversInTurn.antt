@@ -1,4 +1,4 @@
--- Names come to have solver variables in turn: which states the solver stands for then, and what it keeps.
+-- Names come to have solver variables in turn: which states the solver represents then, and what it keeps.
 use Rattle.std.proofs.Common.{◌≡◌, ◌≢◌, ℕ, ◌+◌, ◌<◌, ◌≤◌, ◌-◌, false, Option, Some, None, List, [], ◌∷◌, inl, inr, ⊎_elim, length, map, sym, ap, ap₂, ◌∙◌, subst, refl, arith}
 use Rattle.std.proofs.lemmas.Bool.{cases_lt}
 use Rattle.std.specs.Option.{IsSome}
@@ -148,7 +148,7 @@ module _ {A : Type 0} (x : ℕ) (old new : Searched A) (v : ℕ) (none : old.con
   case-backward (TookOne left t n k) w y h = taken-stays old.tables new.tables x v t w y h
   case-backward (CameBack b left t n k) w y h = taken-stays old.tables new.tables x v t w y h
 
--- the solver stands for the state in which the identity is counted
+-- the solver represents the state in which the identity is counted
 module _ {A : Type 0} (checker : Option CheckerState) (l : Literal) (x : ℕ) (old new : Searched A) (v : ℕ) (n : State)
     (none : old.context.solver_state.sat_state ≢ verdict.Sat) (leads : at old.tables.users.forward (variable_of l) ≡ Some x)
     (live : (data_at old.tables.kept x).deleted ≡ false) (before : length old.context.assignment.current ≡ length old.tables.solvers.backward)

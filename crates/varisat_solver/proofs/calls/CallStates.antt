@@ -54,7 +54,7 @@ same-by {V} s t n h c a k v l =
     ∙ ap (λ (x : V). record (record s { logged = t.logged; variables = t.variables; proof = t.proof; words = t.words }) { verdict = x; ledger = t.ledger }) v
     ∙ ap (λ (x : Ledger). record (record s { logged = t.logged; variables = t.variables; proof = t.proof; words = t.words }) { ledger = x }) l
 
--- the same, but that more was told, identities have other variables than before, as which no line was written, an open proof has further
+-- the same, but that more was logged, identities have other variables than before, as which no line was written, an open proof has further
 -- bytes, and the clause store another size
 pub like-logged : (s : State) (logged : List Entry) (variables : ℕ → Option ℕ) (proof : Option OpenProof) (words : ℕ) → LogsStaying 0 s.logged logged →
     lines_over variables s.logged ≡ lines_over s.variables s.logged → GoesOnWriting s.proof proof →
@@ -93,7 +93,7 @@ like-with_entries s logged variables proof m d same g = record {
   proof = g;
 }
 
--- a ledger by what it tells
+-- a ledger by what it says
 abbrev pub ledger_of : Bool → Bool → ℕ → ℕ → Settings → Bool → Ledger
 ledger_of v b n k c r = record { valid = v; started = b; steps = n; since = k; settings = c; checking = r }
 
@@ -161,7 +161,7 @@ begins {g} {s} st v = record {
   flags = st.flags v;
 }
 
--- What two flags say of a state, they say of one with the same clauses and assumptions, to which nothing more was told, and whose
+-- What two flags say of a state, they say of one with the same clauses and assumptions, to which nothing more was logged, and whose
 -- proof bars no other assumptions.
 pub flags-alike : (s t : State) → FlagsFit s → t.ledger.started ≡ s.ledger.started → t.clauses ≡ s.clauses → t.assumptions ≡ s.assumptions →
     t.counted ≡ s.counted → t.logged ≡ s.logged → (BarsAssumptions t.proof → BarsAssumptions s.proof) → FlagsFit t
@@ -193,7 +193,7 @@ flags-assumed t b n = record {
   unassumed = λ h. absurd (n h);
 }
 
--- the state, with the verdict, the flags, what was told, the open proof and the words of another
+-- the state, with the verdict, the flags, what was logged, the open proof and the words of another
 abbrev pub logged_as : State → State → State
 logged_as t s = record s { verdict = t.verdict; ledger = t.ledger; logged = t.logged; proof = t.proof; words = t.words }
 
@@ -217,7 +217,7 @@ pub broken-invalid : (faults : ℕ) (s : State) (proof : Option OpenProof) (word
     Invalidates faults s (broken proof words s)
 broken-invalid faults s proof words v o = record { valid = v; ledger = refl; proof = o }
 
--- so it is where memory ran out before the proof was told anything
+-- so it is where memory ran out before the proof logged anything
 pub broken-unlogged : (s : State) (words : ℕ) → s.ledger.valid ≡ true → Invalidates 0 s (broken s.proof words s)
 broken-unlogged s words v = broken-invalid 0 s s.proof words v (goes-on-unfailed s.proof)
 

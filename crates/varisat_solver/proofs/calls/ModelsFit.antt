@@ -1,4 +1,4 @@
--- Models that are told.
+-- Models that are returned.
 use Rattle.std.proofs.Common.{◌≡◌, ℕ, zero, suc, ◌+◌, ◌<◌, ◌≤◌, Bool, true, false, Option, Some, None, List, [], ◌∷◌, ◌⊎◌, inl, inr, ⊎_elim, sym, ap, ◌∙◌, subst, refl, arith}
 use Rattle.varisat_theory.specs.promises.Membership.{◌∈◌}
 use Rattle.varisat_theory.specs.promises.Literals.{Literal, Assignment, variable_of, literal_of, value}
@@ -132,7 +132,7 @@ list-same w p s a k f (suc n) u = ap (put_name u (s.naming.names u) a) (list-sam
         ap (λ o. put_name u o a (list_globals p (suc u) n)) (k.names.agree u ∙ chain-some p.global_from_user w.identity u x e ∙ h)
         ∙ ap (λ b. literal_of u b ∷ list_globals p (suc u) n) (f x i h) ∙ ap (λ o. put_name u o p.model (list_globals p (suc u) n)) (sym e)
 
--- under Sat the list by global variables is the model to tell, and it can be completed
+-- under Sat the list by global variables is the model to return, and it can be completed
 pub logged : (w : Carrying) (p : Spaces) (s : State) (found : Assignment) → Links w p s → p.outcome ≡ outcome.Sat found →
     (model_of s.naming s.verdict ≡ Some (list_globals p 0 p.watermark))
     × IsCompletable s.naming s.clauses s.assumptions s.counted (list_globals p 0 p.watermark)

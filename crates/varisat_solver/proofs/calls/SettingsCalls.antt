@@ -243,7 +243,7 @@ pub logs-checking : (p q : ProofParts) → Checks p q → CanLog p → CanLog q
 logs-checking p q (inl e) t = subst CanLog (sym e) (record { room = t.room; usable = refl })
 logs-checking p q (inr e) t = subst CanLog (sym e) t
 
--- What the solver holds stands for the same states.
+-- What the solver holds represents the same states.
 pub spaces-checking : {A : Type 0} (tables : Tables) (p q : ProofParts) (x : Context A) (s : State) → Checks p q → s.clauses ≡ [] → s.counted ≡ [] →
     SpacesFit (spaces_with tables p.checker x) s → SpacesFit (spaces_with tables q.checker x) s
 spaces-checking tables p q x s (inl e) none few (w, k) =

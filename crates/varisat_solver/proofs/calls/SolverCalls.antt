@@ -1,4 +1,4 @@
--- What the solver's calls do to the states that it stands for.
+-- What the solver's calls do to the states that it represents.
 use Rattle.std.proofs.Common.{Result, Ok, Err, Vec, ◌≡◌, ◌≢◌, ◌↔◌, if◌then◌else◌, ℕ, zero, suc, ◌+◌, ◌-◌, ◌<◌, ◌≤◌, Bool, true, false, not, Option, Some, None, List, [], ◌∷◌, ◌++◌, ◌⊎◌, inl, inr, ⊎_elim, length, map, get_or, sym, ap, ◌∙◌, subst, refl, arith}
 use Rattle.varisat_theory.specs.promises.Membership.{◌∈◌}
 use Rattle.varisat_theory.specs.promises.Literals.{Literal, Clause, Assignment, variable_of, IsSatisfiableWith, IsFailedCore}
@@ -211,7 +211,7 @@ abbrev pub after_steps : Summary → Option CheckerState → View → Assumption
 after_steps g checker t z after = record g { checker = checker; search = t; assumed = z; sat_state = after }
 
 -- So many steps of the search with the lines found a verdict or none, left the view and some of the assumptions, and a core was
--- told over names.
+-- returned over names.
 pub record StepsMade (g : Summary) (t : View) (y z : AssumptionParts) (after : SatState) (k : ℕ) (lines : List Line) : Type 0 where
   pub unknown : g.sat_state ≡ verdict.Unknown
   pub working : (l : Literal) → l ∈ g.assumed.working → HasUser g.tables (variable_of l)
@@ -435,7 +435,7 @@ pub tables-listed : (g : Summary) (k u : ℕ) → list_tables g.tables g.search.
 tables-listed g zero u = refl
 tables-listed g (suc k) u = ap (put_name u (at g.tables.users.forward u) (spaces g).model) (tables-listed g k (suc u))
 
--- where a model was found it is told, and can be completed
+-- where a model was found it is returned, and can be completed
 pub sat-model : (g : Summary) (s : State) → Represents g s → g.ledger.valid ≡ true → g.sat_state ≡ verdict.Sat →
     (model_of s.naming s.verdict ≡ Some (list_tables g.tables g.search.values 0 (length g.tables.users.forward)))
     × IsCompletable s.naming s.clauses s.assumptions s.counted (list_tables g.tables g.search.values 0 (length g.tables.users.forward))
@@ -492,7 +492,7 @@ answers-fit id m t failed sat v f = absurd f
 pub answers-alike : (g : Summary) (s : State) → Represents g s → g.ledger.valid ≡ true → answer_of s.verdict ≡ answer_at g.sat_state
 answers-alike g s st v = let (w, k) = st.fits v in answers-fit w.identity (spaces g).model g.search g.assumed.failed_core g.sat_state s.verdict k.verdict
 
--- under assumptions that failed the core is told that is kept over names
+-- under assumptions that failed the core is logged that is kept over names
 pub core-to-tell : (g : Summary) (s : State) → Represents g s → g.ledger.valid ≡ true → g.sat_state ≡ verdict.UnsatUnderAssumptions →
     IsReturnedCore s (Some g.assumed.user_core)
 core-to-tell g s st v e =
@@ -525,9 +525,9 @@ none-to-tell s n = go s.verdict n
     go Unsat n = absurd (n refl)
     go (UnsatUnderAssumptions core) n = absurd (n refl)
 
--- 7. What is told where the verdict is known.
+-- 7. What is logged where the verdict is known.
 
--- under Unsat what was told leads to a conflict
+-- under Unsat what was logged leads to a conflict
 pub unsat-logged : (id : ℕ → Option ℕ) (m : ℕ → Bool) (r : Translation) (fixed : List Literal) (share : List Clause) (o : Outcome) (x : Verdict) →
     x ≡ Unsat → VerdictFits id m o x → HeldFits r fixed share (without_core o) → LogsConflict r.logged
 unsat-logged id m r fixed share outcome.Unsat x e f h = h

@@ -1,4 +1,4 @@
--- What the checker that runs inside has, as more is told, and what a search may rely on by it.
+-- What the checker that runs inside has, as more is logged, and what a search may rely on by it.
 use Rattle.std.proofs.Common.{◌≡◌, ◌≢◌, ◌↔◌, ℕ, Bool, true, false, ◌||◌, nat_eq, Option, Some, None, List, [], ◌∷◌, ◌++◌, inl, inr, ⊎_elim, map, sym, ap, ap₂, ◌∙◌, subst, refl, eq-eqb, ne_eqb}
 use Rattle.std.proofs.lemmas.List.{map-append}
 use Rattle.varisat_theory.specs.promises.Membership.{◌∈◌}
@@ -36,7 +36,7 @@ use Rattle.varisat_solver.proofs.calls.Carried.{carry-at, carry-sign}
 use Rattle.varisat_solver.proofs.entries.ReachedHeld.{left-apart, logged-live}
 use Rattle.varisat_solver.proofs.calls.SpacesAgree.{map-map, carry-same, rename-same}
 
--- 1. Entries that are told, under other names for the variables.
+-- 1. Entries that are logged, under other names for the variables.
 
 -- one more clause
 one-more : (f : Literal → Literal) (held after P : List Clause) (c : Clause) → SameClauses (rename f held) P → after ≡ held ++ c ∷ [] →
@@ -65,7 +65,7 @@ may-hold-on f None k' es held after n e d h = subst (λ o. MayBePresent o (renam
 may-hold-on f (Some a) None es held after n e d h = absurd e
 may-hold-on f (Some a) (Some b) es held after n (l, e) d (s, u) = (left-as f es held after a.clauses b.clauses n s d l, e ∙ u)
 
--- The checker goes on with what is told.
+-- The checker goes on with what is logged.
 pub checker-on : (global : ℕ → Option ℕ) (logged es : List Entry) (k k' : Option CheckerState) → NoneRetires es →
     IsCheckedIf k (logged_as (carry global) es) k' → CheckerFits global logged k → CheckerFits global (logged ++ es) k'
 checker-on global logged es k k' n c fits after led =
@@ -81,7 +81,7 @@ checker-still global logged a k fits = checker-on global logged (Assumes a ∷ [
     go None = refl
     go (Some c) = (refl, refl)
 
--- told nothing it stays as it is
+-- where nothing is logged it stays as it is
 pub checked-nothing : (k k' : Option CheckerState) → IsCheckedIf k [] k' → k' ≡ k
 checked-nothing None k' e = e
 checked-nothing (Some a) None e = absurd e
@@ -145,7 +145,7 @@ checker-without f g logged i x k k' same other c fits after led =
       u ∙ v,
     )
 
--- 2. What is told over identities is what the tracer tells over global variables.
+-- 2. What is logged over identities is what the tracer logs over global variables.
 
 pub logged-carried : (f g h : Literal → Literal) (are : Literal → Type 0) (lines : List Line) → ((l : Literal) → are l → g (f l) ≡ h l) →
     SpeakOf are lines → logged_as g (written (map (rename_line f) lines)) ≡ logged_as h (written lines)

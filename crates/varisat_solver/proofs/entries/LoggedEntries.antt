@@ -1,4 +1,4 @@
--- What is told further, and what it makes of what was told.
+-- What is logged further, and what it makes of what was logged.
 use Rattle.std.proofs.Common.{◌≡◌, ℕ, List, [], ◌∷◌, ◌++◌, refl, ap, ◌∙◌, ◌+◌, Bool, false, inl, sym, subst, map, append_assoc, arith, ◌⊎◌, ◌↔◌, inr, ⊎_elim}
 use Rattle.std.proofs.lemmas.List.{append-nil}
 use Rattle.varisat_theory.specs.promises.Membership.{◌∈◌, ◌⊆◌}
@@ -17,7 +17,7 @@ use Rattle.varisat_theory.proofs.journals.HeldRetirements.{without_less}
 use Rattle.varisat_theory.proofs.journals.Renaming.{map-∈}
 use Rattle.varisat_theory.proofs.clauses.Sound.{conflicts_sound}
 
--- What entries speak of, what they assume, and that those which a call tells beside give no list of assumptions.
+-- What entries speak of, what they assume, and that those which a call logs beside give no list of assumptions.
 
 -- 1. What they speak of.
 
@@ -177,7 +177,7 @@ ends-derived es v u e = subst (λ x. EndBy x es) u e
 pub derived-ends : (es : List Entry) (v : Verdict) → v ≡ Unknown → AreDerived es → EndBy v es
 derived-ends es v u e = subst (λ x. EndBy x es) (sym u) e
 
--- nothing is told by no steps
+-- nothing is logged by no steps
 pub nothing-derived : (logged : List Entry) → AreDerived (logs-nothing logged).entries
 unfolding logs-nothing
 nothing-derived logged = tt
@@ -217,7 +217,7 @@ logs-also n a b es s g = record {
       (goes_on_further n 0 a s.entries es s.goes (subst (λ x. GoesOn 0 x es) s.joined g));
 }
 
--- where that is a core, it is told at last
+-- where that is a core, it is logged last
 pub also-ends : (n : ℕ) (a b : List Entry) (core : List Literal) (s : LogsMore n a b) → AreDerived s.entries → (g : GoesOn 0 b (Fails core ∷ [])) →
     EndWithCore core (logs-also n a b (Fails core ∷ []) s g).entries
 unfolding logs-also
@@ -352,7 +352,7 @@ spoken-renamed are may f (Add c ∷ lines) w (s, p) =
 spoken-renamed are may f (Delete c ∷ lines) w (s, p) =
     ((λ l h. let (m, i, e) = map-∈ f l c h in subst may (sym e) (w m (s m i))), spoken-renamed are may f lines w p)
 
--- Where nothing was accepted no line is told that is over no variable: from nothing no contradiction follows, and none is there to be
+-- Where nothing was accepted no line is logged that is over no variable: from nothing no contradiction follows, and none is there to be
 -- deleted.
 pub unspoken : (P : List Clause) (es : List Entry) (Q : List Clause) (a : Assignment) → SatisfiesAll a P → Leads P es Q → accepted_of es ≡ [] →
     SpeakOf (λ l. ⊥) (lines_of es) → lines_of es ≡ []
@@ -368,7 +368,7 @@ unspoken P (Assumes b ∷ es) Q a m (R, q, d) e s = unspoken R es Q a (subst (Sa
 unspoken P (Fails core ∷ es) Q a m (R, (k, q), d) e s = unspoken R es Q a (subst (SatisfiesAll a) (sym q) m) d e s
 unspoken P (Retires v ∷ es) Q a m (R, q, d) e s = unspoken R es Q a (subst (SatisfiesAll a) (sym q) (λ c h. m c (without_less v P c h))) d e s
 
--- all that is told is that variables leave
+-- all that is logged is that variables leave
 abbrev pub OnlyLeave : List Entry → Type 0
 OnlyLeave [] = Unit {0}
 OnlyLeave (Retires v ∷ es) = OnlyLeave es

@@ -1,4 +1,4 @@
--- What was told as a whole.
+-- The log as a whole.
 use Rattle.std.proofs.Common.{◌≡◌, ◌∙◌, ℕ, ◌^◌, ◌<◌, ◌≤◌, Bool, true, false, Option, Some, None, map, List, [], ◌∷◌, length, inl, inr, ⊎_elim, refl, sym, ap, subst, arith}
 use Rattle.std.proofs.lemmas.Bool.{cases_lt}
 use Rattle.std.proofs.lemmas.List.{get_or_past}
@@ -144,7 +144,7 @@ none-spoken : (w : Carrying) (p : Spaces) (s : State) → Links w p s → s.coun
 none-spoken w p s k counted =
     all-wider (IsCounted s.counted) (λ l. ⊥) s.logged (λ l h. subst (λ is. variable_of l ∈ is) counted h) k.logged.spoken
 
--- Before anything was accepted no line was told.
+-- Before anything was accepted no line was logged.
 lines-none : (w : Carrying) (p : Spaces) (s : State) → Links w p s → s.clauses ≡ [] → s.counted ≡ [] → lines_of s.logged ≡ []
 lines-none w p s k clauses counted =
     let (held, led) = led-of _ p.search.fixed k.holds.held p.outcome k.holds.logged in

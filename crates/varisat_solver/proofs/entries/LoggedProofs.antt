@@ -1,4 +1,4 @@
--- What is told over identities is what a proof is told over global variables.
+-- What is logged over identities is what a proof logs over global variables.
 use Rattle.std.proofs.Common.{◌≡◌, ℕ, ◌*◌, ◌/◌, Option, Some, List, [], ◌∷◌, ◌++◌, map, refl, sym, ap, ◌∙◌, subst, arith, append_assoc}
 use Rattle.std.proofs.lemmas.List.{append-nil, map-append}
 use Rattle.varisat_theory.specs.promises.Literals.{Literal}
@@ -14,7 +14,7 @@ use Rattle.varisat_solver.proofs.calls.Carried.{carry-at}
 use Rattle.varisat_solver.proofs.entries.LoggedEntries.{logs-nothing, nothing-derived, logs, one-derived, through-derived, logs-through, leaves-goes}
 
 -- 1. Literals and entries.
--- where none leaves a proof is told each entry
+-- where none leaves a proof logs each entry
 logged-each : (f : Literal → Literal) (es : List Entry) → NoneRetires es → map (rename_entry f) es ≡ logged_as f es
 logged-each f [] n = refl
 logged-each f (Accepts c ∷ es) n = ap (λ xs. Accepts (map f c) ∷ xs) (logged-each f es n)
@@ -23,7 +23,7 @@ logged-each f (Assumes a ∷ es) n = ap (λ xs. Assumes (map f a) ∷ xs) (logge
 logged-each f (Fails core ∷ es) n = ap (λ xs. Fails (map f core) ∷ xs) (logged-each f es n)
 logged-each f (Retires v ∷ es) n = absurd n
 
--- 2. What a proof was told.
+-- 2. What a proof logged.
 
 -- Further entries of which none leaves are these others, each identity as its variable.
 pub record AreLoggedAs (variables : ℕ → Option ℕ) (before after given : List Entry) : Type 0 where
@@ -55,7 +55,7 @@ proof-through variables a b c p q r s t =
 
 -- 3. Variables leave.
 
--- None did, and the proof was told of none.
+-- None did, and the proof logged none.
 pub leaving-none : (variables : ℕ → Option ℕ) (logged : List Entry) (p q : ProofParts) (given : List Entry) → given ≡ [] → IsLogged p given q →
     LogsRetired variables logged logged p q
 leaving-none variables logged p q given e h = record {
@@ -71,7 +71,7 @@ leaving-nothing variables logged p = record {
   proof = proof-quiet variables logged p;
 }
 
--- one did, and the proof was told of its global variable
+-- one did, and the proof logged that of its global variable
 pub leaving-one : (variables : ℕ → Option ℕ) (logged : List Entry) (i x : ℕ) (p q : ProofParts) (given : List Entry) → variables i ≡ Some x →
     given ≡ Retires x ∷ [] → IsLogged p given q → LogsRetired variables logged (logged ++ Retires i ∷ []) p q
 leaving-one variables logged i x p q given at e h = record {

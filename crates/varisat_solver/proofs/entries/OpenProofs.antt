@@ -1,4 +1,4 @@
--- An open proof as entries are told.
+-- An open proof as entries are logged.
 use Rattle.std.proofs.Common.{◌≡◌, ℕ, ◌<◌, ◌*◌, ◌/◌, false, Option, Some, List, [], ◌∷◌, inl, inr, ⊎_elim, map, refl, sym, ap, ◌∙◌, arith, ◌+◌, Bool, true, None, ◌++◌, Ok, Err, subst, append_assoc}
 use Rattle.std.specs.Prelude.{flat_map, is_some, take, not, ◌&&◌}
 use Rattle.std.proofs.lemmas.List.{append-nil, map-append}
@@ -32,7 +32,7 @@ use Rattle.varisat_tracer.proofs.Logging.{unopened-unbroken}
 use Rattle.varisat_solver.specs.promises.Journals.{LogsToProof}
 use Rattle.varisat_proof.specs.promises.Proving as proving
 
--- As which variables that is written which was told.
+-- As which variables that is written which was logged.
 
 -- entries are the same under names that agree where they speak, and on the variables that leave
 entries-alike : (f g : Literal → Literal) (are : Literal → Type 0) (es : List Entry) → ((l : Literal) → are l → f l ≡ g l) →
@@ -79,7 +79,7 @@ entries-themselves (Retires i ∷ es) = ap (λ n. Retires n ∷ map (rename_entr
     half i = omega arith
 
 module _ (w : Carrying) (p : Spaces) (s : State) (k : Links w p s) where
-  -- what was told is written as it was, whatever variables identities get that are made from now on
+  -- what was logged is written as it was, whatever variables identities get that are made from now on
   pub written-alike : (variables : ℕ → Option ℕ) → KeepVariables s.naming.made s.variables variables → entries_over variables s.logged ≡ entries_over
       s.variables s.logged
   written-alike variables keep = entries-alike (carry variables) (carry s.variables) (IsCounted s.counted) s.logged
@@ -192,12 +192,12 @@ entries-behind : (variables : ℕ → Option ℕ) (before entries : List Entry) 
     ++ entries_over variables entries
 entries-behind variables before entries = map-append (rename_entry (carry variables)) before entries
 
--- where entries are told as they were, so are lines
+-- where entries are logged as they were, so are lines
 pub lines-of-entries : (old new : ℕ → Option ℕ) (logged : List Entry) → entries_over new logged ≡ entries_over old logged → lines_over new logged ≡ lines_over
     old logged
 lines-of-entries old new logged e = sym (lines-renamed (carry new) logged) ∙ ap lines_of e ∙ lines-renamed (carry old) logged
 
--- entries were told to it
+-- entries were logged to it
 on-logged : (variables : ℕ → Option ℕ) (before after entries : List Entry) (proof : Option OpenProof) (new : Option OpenState) →
     IsWrittenWhereOpen variables before proof →
     proving.IsWrittenIf (opened_state proof) (logged (map (rename_entry (carry variables)) entries)) new → after ≡ before ++ entries →
@@ -221,7 +221,7 @@ on-logged variables before after entries (Some p) (Some o) w e joined =
       },
     )
 
--- what was told before is written as it was
+-- what was logged before is written as it was
 other-logged : (old new : ℕ → Option ℕ) (logged : List Entry) (proof : Option OpenProof) → entries_over new logged ≡ entries_over old logged →
     IsWrittenWhereOpen old logged proof → IsWrittenWhereOpen new logged proof
 other-logged old new logged None e w = tt
@@ -238,7 +238,7 @@ proof-goes-on p q old new before after proof f same t =
     on-logged new before after t.entries proof q.opened (other-logged old new before proof same f.written)
     (subst (λ (o : Option OpenState). proving.IsWrittenIf o (logged (map (rename_entry (carry new)) t.entries)) q.opened) f.same t.logged.written) t.joined
 
--- no line was told
+-- no line was logged
 pub lines-assumed : (variables : ℕ → Option ℕ) (logged : List Entry) (a : List Literal) → lines_over variables (logged ++ Assumes a ∷ []) ≡ lines_over
     variables logged
 lines-assumed variables logged a = ap (map (rename_line (carry variables))) (lines_append logged (Assumes a ∷ []) ∙ append-nil (lines_of logged))
@@ -260,7 +260,7 @@ pub broken-open : (p q : ProofParts) (variables : ℕ → Option ℕ) (logged : 
 broken-open p q variables logged None f b = absurd (let z = unopened-unbroken p q 1 f.same b in omega (arith, z))
 broken-open p q variables logged (Some o) f b = (o, refl)
 
--- what holds the proof, where it broke off in entries that it was told, is that of a proof with further bytes and so many faults more
+-- what holds the proof, where it broke off in entries that it was logged, is that of a proof with further bytes and so many faults more
 begun-on : (entries : List Entry) (faults : ℕ) (proof : Option OpenProof) (new : Option OpenState) →
     proving.IsBegunIf (opened_state proof) (logged entries) faults new → (now : Option OpenProof) × GoesOnFailing faults proof now
     × (new ≡ opened_state now)

@@ -1,4 +1,4 @@
--- What was told leads to what the search holds, over identities, and to what it forgot.
+-- What was logged leads to what the search holds, over identities, and to what it forgot.
 use Rattle.std.proofs.Common.{◌≡◌, ◌≢◌, ℕ, ◌/◌, Bool, true, false, not, ◌||◌, nat_eq, Some, List, [], ◌∷◌, ◌++◌, ◌⊎◌, inl, inr, ⊎_elim, sym, ap, ◌∙◌, subst, refl, map, append_assoc, eq-eqb, ne_eqb}
 use Rattle.std.proofs.lemmas.List.{map-append, append-nil}
 use Rattle.varisat_theory.specs.promises.Membership.{◌∈◌, ◌⊆◌, SameSet}
@@ -170,7 +170,7 @@ lines-lead n r share lines after q d =
       goes = goes_on n r.logged (written ls) q.held H q.led by;
     }
 
--- told once more
+-- logged once more
 abbrev pub with_told : List Entry → Translation → Translation
 with_told logged r = record r { logged = logged }
 
@@ -334,7 +334,7 @@ taken-behind F A R d out =
     (same_clauses-through (F ++ A) (d ∷ (R ++ A)) ((R ++ A) ++ d ∷ [])
     (same-more F (d ∷ R) A (same_clauses-back (d ∷ R) F (R, out, same_clauses-self R))) moved)
 
--- An entry is told that changes nothing of what is held.
+-- An entry is logged that changes nothing of what is held.
 module _ (r : Translation) (e : Entry) (quiet : (held : List Clause) → Leads [] r.logged held → Follow held e held) where
   led-on : (held : List Clause) → Leads [] r.logged held → Leads [] (r.logged ++ e ∷ []) held
   led-on held d = leads_append [] r.logged held (e ∷ []) held d (held, quiet held d, refl)

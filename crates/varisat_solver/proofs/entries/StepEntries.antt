@@ -1,4 +1,4 @@
--- Entries that steps tell, and what they keep of the clauses that were held before.
+-- Entries that steps log, and what they keep of the clauses that were held before.
 use Rattle.std.proofs.Common.{◌≡◌, ◌≢◌, ℕ, zero, suc, ◌+◌, ◌%◌, Bool, true, false, ◌||◌, nat_eq, List, [], ◌∷◌, ◌++◌, ◌⊎◌, length, inl, inr, ⊎_elim, sym, ap, ◌∙◌, subst, refl, append_assoc, length-append, arith}
 use Rattle.std.proofs.lemmas.List.{append-nil}
 use Rattle.std.proofs.lemmas.Bool.{eqb-true}
@@ -170,7 +170,7 @@ in-steps-same interval number (suc k) P P' es Q s (first, last, R, e, a, n) =
     let (Q', m, u) = step-same interval (number + k) R R' last Q t n in
     (Q', (first, last, R', e, b, m), u)
 
--- what is told leads to the same clauses, whichever of them stand for it
+-- what is logged leads to the same clauses, whichever of them stand for it
 pub goes-in-steps : (interval number k : ℕ) (logged es : List Entry) (held after : List Clause) → Leads [] logged held →
     LeadsInSteps interval number k held es after → GoesOnInSteps interval number k logged es
 goes-in-steps interval number k logged es held after d a other f =

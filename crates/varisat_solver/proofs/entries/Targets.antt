@@ -49,7 +49,7 @@ pub writes-then : {X : Type 0} (o p q : Option OpenState) (r : Result X SolverEr
 writes-then o p q (Ok x) w k = all-then o p q w k
 writes-then o p q (Err e) w k = up-to-then o p q (returned_faults e) w k
 
--- 2. What the parts of a call tell.
+-- 2. What the parts of a call log.
 pub logs-writes : (p q : ProofParts) → LogsSome p q → WritesAll p.opened q.opened
 logs-writes p q (entries, t) = (entries, t.written)
 
@@ -62,7 +62,7 @@ breaks-writes p q step.Full (entries, b, _) = (entries, b)
 breaks-writes p q step.Memory (entries, b, _) = (entries, b)
 breaks-writes p q (step.Target cause) (entries, b, _) = (entries, b)
 
--- names are refused before anything is told
+-- names are refused before anything is logged
 pub names-unwritten : (o : Option OpenState) (t : Tables) (d : List Literal) (e : SolverError) → ChecksNames t d (Err e) → WritesUpTo (returned_faults e) o o
 names-unwritten o t d VariableLimit h = refused-unwritten o VariableLimit refl
 names-unwritten o t d (WitnessVar u) h = refused-unwritten o (WitnessVar u) refl

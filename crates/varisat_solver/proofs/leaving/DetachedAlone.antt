@@ -116,7 +116,7 @@ left-alone known [] p q k e = e
 left-alone known (l ∷ ls) p q k (mid, a, rest) =
     (mid, subst (λ o. IsLeft o p mid (variable_of l)) (sym (k l (inl refl))) a, left-alone known ls mid q (λ m h. k m (inr h)) rest)
 
--- what the proof was told meanwhile
+-- what the proof logged meanwhile
 pub dropped-logged : (ls : List Literal) (p q : TracerState) → AreDetachedAlone ls p q → (given : List Entry) × IsLogged p.proof given q.proof
 dropped-logged [] p q e = ([], subst (λ (t : TracerState). IsLogged p.proof [] t.proof) (sym e) (logged-none p.proof))
 dropped-logged (l ∷ ls) p q (mid, (x, t, c, loses), rest) =

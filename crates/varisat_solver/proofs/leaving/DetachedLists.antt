@@ -161,7 +161,7 @@ module _ {A : Type 0} {m n : Tables} {x y : Context A} {gone : List Bool} {ls : 
           ap (leads_to_unassumed n) (h.tables.stays (variable_of l) (other-than (variable_of l) before.1) ∙ e)
           ∙ ap (λ (d : VarData). not d.assumed) same ∙ sym (ap (leads_to_unassumed m) e) ∙ over l before.0 before.1
 
--- The variables on the trail of a settled search that are not assumed, as they leave it.
+-- The variables on the trail of a simplified search that are not assumed, as they leave it.
 
 -- a variable stands there that is not assumed
 pub unassumed-global : (m : Tables) (o : Option ℕ) → leads_to_unassumed m o ≡ true → (x : ℕ) × (o ≡ Some x) × ((data_at m.kept x).assumed ≡ false)
@@ -183,7 +183,7 @@ some-inside [] v b e = absurd (let z : None ≡ Some b = e in cc)
 some-inside (o ∷ vs) zero b e = omega arith
 some-inside (o ∷ vs) (suc v) b e = let h = some-inside vs v b e in omega (arith, h)
 
--- A search of which all of level 0 is settled.
+-- A search whose root level is simplified.
 module _ (s : View) (w : WellFormed s) (d : IsRootSimplified s) where
   pub on-value : (l : Literal) → l ∈ s.trail → slice_index_or s.values (variable_of l) None ≡ Some (polarity_of l)
   on-value l h = let (k, a, e) = place_in l s.trail 0 h in subst (λ m. slice_index_or s.values (variable_of m) None ≡ Some (polarity_of m)) e (w.is_true k a)
@@ -296,7 +296,7 @@ module _ {A : Type 0} {m n : Tables} {x y : Context A} {gone : List Bool}
   none-left = over-left h (λ l on e. true-or-not (leads_to_unassumed m (at m.solvers.backward (variable_of l)))
       (λ u. other-than h (variable_of l) e l (filter-∈ (λ l. leads_to_unassumed m (at m.solvers.backward (variable_of l))) x.trail.literals l on u) refl))
 
--- What it stands for, which is told to the proof too.
+-- What it stands for, which the proof logs too.
 module _ {A : Type 0} {p q : TracerState} {x y : Context A} {gone : List Bool}
     (h : HaveLeft p.tables q.tables x y gone (unassumed_among p.tables x.trail.literals) (length x.assignment.current)) where
   pub stands-dropped : IsRootSimplified (view x) → AreDetachedAlone (unassumed_among p.tables x.trail.literals) p q →
@@ -361,7 +361,7 @@ pub released-push : (ls : List Literal) (l : Literal) (p mid q : TracerState) �
 released-push [] l p mid q e d = (q, subst (λ t. (x : ℕ) × LosesSolverVar x (variable_of l) t q) e d, refl)
 released-push (m ∷ ls) l p mid q (t, a, rest) d = (t, a, released-push ls l t mid q rest d)
 
--- what the proof was told meanwhile
+-- what the proof logged meanwhile
 pub released-logged : (ls : List Literal) (p q : TracerState) → AreDetached ls p q → (given : List Entry) × IsLogged p.proof given q.proof
 released-logged [] p q e = ([], subst (λ (t : TracerState). IsLogged p.proof [] t.proof) (sym e) (logged-none p.proof))
 released-logged (l ∷ ls) p q (mid, (x, loses), rest) =
@@ -468,7 +468,7 @@ module _ {A : Type 0} {m n : Tables} {x y : Context A} {mentioned gone : List Bo
   pub needed-left : HasOnlyNeeded n (view y)
   needed-left = record { assumed = over-left h (λ l on e. over l on); needed = needed }
 
--- What it stands for, which is told to the proof too.
+-- What it stands for, which the proof logs too.
 module _ {A : Type 0} {p q : TracerState} {x y : Context A} {mentioned gone : List Bool} {ls : List Literal}
     (over : AreOverAssumed p.tables x.trail.literals) (f : FlagsMentioned (view x) mentioned) (u : ListsUnneeded p.tables mentioned ls)
     (h : HaveLeft p.tables q.tables x y gone ls (length mentioned)) where

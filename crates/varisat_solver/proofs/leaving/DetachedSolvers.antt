@@ -258,7 +258,7 @@ module _ (w : Carrying) (p : Spaces) (s : State) (v x i : ℕ) (known : Option B
             (∈-append_cases c before.forgotten gone e));
       }
 
-  -- All assignments agree on the value, and what is kept of the global variable tells it.
+  -- All assignments agree on the value, and what is kept of the global variable says it.
   module _ (d : VarData) (sure : (a : Assignment) → SatisfiesAll a s.clauses → (b : Bool) → known ≡ Some b → a i ≡ b)
       (logged : d ≡ record (p.kept x) { unit = known; isolated = d.isolated })
       (alone : (d.isolated ≡ (p.kept x).isolated) ⊎ ((b : Bool) × (known ≡ Some b))) where

@@ -149,7 +149,7 @@ IsLeft (Some b) p q v = (x : ℕ) × (mid : Tables) × IsChangedTo p.tables mid 
     × LosesSolverVar x v (record p { tables = mid }) q
 IsLeft None p q v = (x : ℕ) × LosesSolverVar x v p q
 
--- The solver variables were dropped in turn. `known` tells which values are fixed.
+-- The solver variables were dropped in turn. `known` says which values are fixed.
 abbrev pub AreLeft : (ℕ → Option Bool) → List ℕ → TracerState → TracerState → Type 0
 AreLeft known [] p q = q ≡ p
 AreLeft known (v ∷ vs) p q = (mid : TracerState) × IsLeft (known v) p mid v × AreLeft known vs mid q
@@ -236,12 +236,12 @@ module _ (old new : Tables) (p q : ProofParts) (search : View) (assumed : Assump
         model = λ a e y. absurd (let z : outcome.Unknown ≡ outcome.Sat a = e in cc);
       }) refl f
 
-  -- where it is live still, the proof is told nothing
+  -- where it is live still, the proof logs nothing
   none-logged : LosesSolver old new x v d → d.deleted ≡ false → retires_if_deleted new x ≡ []
   none-logged n live = ap (λ (b : Bool). if b then Retires x ∷ [] else [])
       (ap (λ (e : VarData). e.deleted) (n.kept.at_each x ∙ updated-at (data_at old.kept) x d) ∙ live)
 
-  -- where it is not, the proof is told so
+  -- where it is not, the proof logs that
   one-logged : LosesSolver old new x v dead → retires_if_deleted new x ≡ Retires x ∷ []
   one-logged n = ap (λ (b : Bool). if b then Retires x ∷ [] else []) (ap (λ (e : VarData). e.deleted) (n.kept.at_each x ∙ updated-at (data_at old.kept) x dead))
 

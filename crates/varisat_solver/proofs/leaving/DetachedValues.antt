@@ -187,7 +187,7 @@ module _ (w : Carrying) (p : Spaces) (s : State) (x i v : ℕ) (b : Bool) (t : S
   resurrected = taken-with w p s x i v k is spoken unsolved free t
       (subst (SearchHolds s.clauses (translation w (take_solver x v p) s.logged) t) (sym unknown) holds-on)
 
--- 1. What the solver stands for.
+-- 1. What the solver represents.
 
 -- What bringing back a variable did. Under Unsat its unit clause is not loaded.
 pub record Returns (g : Summary) (new : Tables) (x v : ℕ) (b : Bool) (t : View) (parts : AssumptionParts) : Type 0 where

@@ -42,7 +42,7 @@ free-well u s f = record {
   once = f.once;
 }
 
--- the literals of a core that is told have other names
+-- the literals of a core that is logged have other names
 core-left : (names after : ℕ → Option ℕ) (P : List Clause) (assumptions : List Literal) (C : List ℕ) (logged : List Literal) (v : Verdict) →
     ((l : Literal) (i : ℕ) → carry names l ∈ assumptions → names (variable_of l) ≡ Some i → after (variable_of l) ≡ Some i) →
     IsRight P assumptions C v → CoreFits names logged v → CoreFits after logged v

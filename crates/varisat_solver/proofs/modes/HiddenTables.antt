@@ -299,7 +299,7 @@ module _ (g : Summary) (s : State) (new : Tables) (x : ℕ) (w : Carrying) (k : 
       }) refl (recycled w (spaces g) s x i k is unnamed unsolved alone (undecided g.search g.assumed.failed_core g.sat_state undecided_before) q.checker
       (subst (λ o. IsCheckedIf o (Retires x ∷ []) q.checker) same (subst (λ es. IsCheckedIf p.checker es q.checker) one logged.checked)))
 
-  -- the proof is told so
+  -- the proof logs that
   gone : unused (at g.tables.solvers.forward x) (data_at g.tables.kept x) ≡ true → retires_if_deleted new x ≡ Retires x ∷ []
   gone e = ap (λ (b : Bool). if b then Retires x ∷ [] else [])
       (ap (λ (d : VarData). d.deleted) ((kept-as true e).at_each x ∙ updated-at (data_at g.tables.kept) x dead))

@@ -59,7 +59,7 @@ hides sampling.Hide b = true
 abbrev pub with_changed : SamplingMode → ℕ → State → State
 with_changed m u s = record (count_anew s) { naming = renamed m u (name_one u s.naming); ever_hidden = hides m s.ever_hidden }
 
--- What the solver holds stands for that state, to which more was told, and the call may lead there.
+-- What the solver holds stands for that state, to which more was logged, and the call may lead there.
 pub record ModeChanged (m : SamplingMode) (g : Summary) (s : State) (u : ℕ) (p : ProofParts) (q : TracerState) : Type 0 where
   pub variables : ℕ → Option ℕ
   pub logged : List Entry

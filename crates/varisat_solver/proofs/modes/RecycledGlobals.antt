@@ -134,7 +134,7 @@ module _ (w : Carrying) (p : Spaces) (s : State) (x i : ℕ) (k : Links w p s) (
         g,
   )
 
-  -- It is gone from each state, under no verdict that lets nothing more be told.
+  -- It is gone from each state, under no verdict that lets nothing more be logged.
   pub recycled : without_core p.outcome ≢ outcome.Unsat → (checker : Option CheckerState) → IsCheckedIf p.checker (Retires x ∷ []) checker →
       SpacesFit (record (recycle x p) { checker = checker }) (with_entries (s.logged ++ Retires i ∷ []) s)
   unfolding id' kept'

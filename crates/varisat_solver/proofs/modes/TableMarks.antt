@@ -42,7 +42,7 @@ marked-keeps old new u x y l k e m f =
     let same : y ≡ x = cc in
     subst (λ z. (data_at new.kept z).assumed ≡ true) same (ap (λ d. d.assumed) (k.live y (l.named y u (l.users.there u y e))) ∙ m)
 
--- the name of one is told
+-- the name of one is returned
 pub assumed-named : (t : Tables) (v : ℕ) → IsAssumedSolver t v → HasUser t v
 assumed-named t v (x, u, a, b, e) = (u, chain-some (at t.solvers.backward) (at t.users.backward) v x a ∙ b)
 

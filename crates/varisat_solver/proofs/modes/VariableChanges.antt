@@ -326,7 +326,7 @@ module _ (u : ℕ) (v : SatState) (p q : TracerState) (h : HidesNamed u v p q) w
       (λ n. left-stays (h.left n))
       (unsat-or-not v)
 
-  -- what the proof was told
+  -- what the proof logged
   pub hides-logged : (given : List Entry) × IsLogged p.proof given q.proof × (q.proof.opened ≡ p.proof.opened)
   hides-logged = ⊎_elim
       (λ e. subst (λ (t : TracerState). (given : List Entry) × IsLogged p.proof given t.proof × (t.proof.opened ≡ p.proof.opened)) (sym (h.stays e))

@@ -1,4 +1,4 @@
--- What the calls that set modes, hide and show variables do to the states that the solver stands for.
+-- What the calls that set modes, hide and show variables do to the states that the solver represents.
 use Rattle.std.proofs.Common.{◌≡◌, ℕ, ◌<◌, true, None, List, ◌≢◌, Bool, false, Result, Err, Option, Some, [], ◌∷◌, inl, inr, ⊎_elim, length, sym, ap, ◌∙◌, subst, refl}
 use Rattle.std.specs.Option.{is_some}
 use Rattle.varisat_theory.specs.promises.Membership.{◌∈◌}

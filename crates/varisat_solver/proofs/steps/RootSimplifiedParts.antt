@@ -1,4 +1,4 @@
--- What is kept of the clauses that were held once units are settled: a part of each.
+-- What is kept of the clauses that were held once the root level is simplified: a part of each.
 use Rattle.std.proofs.Common.{◌≡◌, Bool, true, false, not, cond, Option, Some, Result, Ok, Err, MatchResult, List, [], ◌∷◌, ◌++◌, ◌⊎◌, inl, inr, ⊎_elim, map, sym, ap, ◌∙◌, subst, refl}
 use Rattle.std.specs.Prelude.{is_none}
 use Rattle.std.specs.List.{filter}

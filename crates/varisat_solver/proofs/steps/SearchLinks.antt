@@ -73,7 +73,7 @@ module _ (P : List Clause) (r : Translation) (s t : Search) (v : Outcome) (h : S
       ]) d (inl refl))
       c (h.covered (λ e. let q : outcome.Unknown ≡ outcome.Unsat = e in cc) c i)
 
-  -- the clauses that a proof holds after some lines, which it was told
+  -- the clauses that a proof holds after some lines, which it logged
   pub held-on : (n : ℕ) (lines : List Line) (after : List Clause) → DerivesBy n h.held lines after → Holds after t v →
       SpeakOf (IsLiteralOf s) lines → ((core : List Literal) → v ≡ outcome.UnsatUnder core → ⊥) →
       ((l : Literal) → IsLiteralOf t l → (i : ℕ) × (r.identity (variable_of l) ≡ Some i)) → SearchHolds P (with_told (r.logged ++ lines_logged r lines) r) t v
@@ -197,7 +197,7 @@ pub record AreRemarked (kept after : ℕ → VarData) : Type 0 where
 abbrev pub with_marks : Spaces → Spaces → Spaces
 with_marks q p = record (with_search_side q p) { kept = q.kept; assumptions = q.assumptions }
 
--- the state, with the clauses, the assumptions, the verdict and what was told of another
+-- the state, with the clauses, the assumptions, the verdict and what was logged of another
 abbrev pub asked_as : State → State → State
 asked_as t s = record s { clauses = t.clauses; assumptions = t.assumptions; verdict = t.verdict; logged = t.logged }
 

@@ -67,7 +67,7 @@ right-core P A C (Sat a) q r = absurd (let z : true ≡ false = cc in cc)
 right-core P A C Unsat q r = ([], refl, ((λ l h. absurd h), λ (a, m, n). r (a, m)))
 right-core P A C (UnsatUnderAssumptions core) q r = (core, refl, r)
 
--- a core that is told is a failed one
+-- a core that is logged is a failed one
 pub logged-fails : (s : State) (core : List Literal) → HasRightVerdict s → IsReturnedCore s (Some core) →
     IsFailedCore s.clauses s.assumptions (map (through_names s.naming) core)
 logged-fails s core r (named, e) = go s.verdict r e

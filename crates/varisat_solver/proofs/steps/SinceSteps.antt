@@ -159,7 +159,7 @@ come-begun are x z r h l b f n c k =
       room = room-same x z k.units c.variables decidable k.room;
     }
 
--- as units are settled inside of it
+-- as the root level is simplified inside of it
 pub come-settled : {A : Type 0} (are : List Line → Type 0) (x y : Context A) → GoesOnByLines are x y → y.solver_config ≡ x.solver_config → GoesOnWithin x y
 come-settled are x y g f c q k =
     let (more, e) = g.kinds_more in

@@ -53,7 +53,7 @@ use Rattle.varisat_solver.proofs.calls.Carried.{carry-at, map-empty, value-true,
 use Rattle.varisat_tracer.specs.inside.RenamedEntries.{carry-opposites}
 use Rattle.varisat_solver.proofs.steps.SearchLinks.{relinked, answers-covers, agrees-through, held-on, without-model, refuted}
 
--- what is told once steps were made with the lines
+-- what is logged once steps were made with the lines
 abbrev pub logged-with : Carrying → Spaces → State → List Line → List Entry
 logged-with w p s lines = s.logged ++ lines_logged (translation w p s.logged) lines
 
@@ -293,7 +293,7 @@ module _ (w : Carrying) (p : Spaces) (s : State) (k : Links w p s) (unknown : p.
   lines-carried m leads = logged-carried (carry (translation w p s.logged).identity) (carry m) (carry p.global_from_solver)
       (IsLiteralOf p.search) lines (λ l h. global-carried w p s k m leads l (k.holds.within l h)) made.speaks
 
-  -- what a proof is told of them
+  -- what a proof logs of them
   pub steps-logged-as : AreLoggedAs s.variables s.logged (logged-with w p s lines) (logged_as (carry p.global_from_solver) (written lines ++ []))
   steps-logged-as = record {
     entries = lines_logged (translation w p s.logged) lines;
@@ -333,7 +333,7 @@ module _ (w : Carrying) (p : Spaces) (s : State) (k : Links w p s) (unknown : p.
         decided w p s (logged-with w p s lines) steps-are-logged t v m y.working core checker Unsat k
         (steps-checked checker c) steps-hold left (subst (λ y. VerdictFits w.identity m y Unsat) (sym e) tt) tt none
 
-    -- a core was found, which is told over names in use
+    -- a core was found, which is returned over names in use
     pub core-logs : (found logged : List Literal) → v ≡ outcome.UnsatUnder found →
         map (carry s.naming.names) logged ≡ map (carry (translation w p s.logged).identity) found →
         LogsMore n s.logged ((logged-with w p s lines) ++ Fails (map (carry s.naming.names) logged) ∷ [])
@@ -365,7 +365,7 @@ module _ (w : Carrying) (p : Spaces) (s : State) (k : Links w p s) (unknown : p.
         ∙ ap (λ (ms : List Literal). logged_as h (written lines) ++ Fails ms ∷ []) one
         ∙ sym (logged_as-append h (written lines) (Fails found ∷ []))
 
-    -- what a proof is told of them
+    -- what a proof logs of them
     pub core-logged-as : (found logged : List Literal) → v ≡ outcome.UnsatUnder found →
         map (carry s.naming.names) logged ≡ map (carry (translation w p s.logged).identity) found →
         AreLoggedAs s.variables s.logged (logged-with w p s lines ++ Fails (map (carry s.naming.names) logged) ∷ [])
@@ -427,7 +427,7 @@ module _ (w : Carrying) (p : Spaces) (s : State) (k : Links w p s) (unknown : p.
         (λ held d. (subst (Conflicts held) (sym same-core) (core-conflicts found e held d), refl)) t.fixed share (without_core v) q) steps-hold)
         left (subst (λ y. VerdictFits w.identity m y (UnsatUnderAssumptions (map (carry s.naming.names) logged))) (sym e) some) (named, refl) (part, none)
 
--- what is told is told in steps, then
+-- what is logged is logged in steps, then
 pub steps-in-turn : (w : Carrying) (p : Spaces) (s : State) (k : Links w p s) (unknown : p.outcome ≡ outcome.Unknown) (t : Search) (v : Outcome) (n : ℕ)
     (lines : List Line) (made : MakesSteps n p.search t v lines) (long : AreLong t) (in-use : AreInUse p t) (interval number : ℕ) →
     v ≡ outcome.Unknown → LinesInSteps interval number n lines t →

@@ -1,4 +1,4 @@
--- What parts of a step and steps in turn come to, from the states for which a solver stands.
+-- What parts of a step and steps in turn come to, from the states that a solver represents.
 use Rattle.std.proofs.Common.{◌≡◌, ◌≢◌, ℕ, zero, suc, ◌+◌, ◌-◌, ◌%◌, Bool, false, Option, Some, List, [], ◌++◌, Ok, Err, length, inl, inr, ⊎_elim, sym, ap, ap₂, ◌∙◌, subst, refl, arith, append_assoc}
 use Rattle.varisat_theory.specs.promises.Literals.{variable_of, IsSatisfiableWith}
 use Rattle.varisat_theory.specs.promises.Derivations.{Line, IsPresentAfter}
@@ -106,7 +106,7 @@ comes-nowhere at n s p after e u f = record {
   fits = f;
 }
 
--- More is told, and then what comes of that: one part of a step after another.
+-- More is logged, and then what comes of that: one part of a step after another.
 pub comes-through : (at : Turn) (p q r : ProofParts) (before mid last : Spaces) → ((t : State) → SpacesFit mid t → t.verdict ≡ Unknown) →
     ComesOn at 0 before mid p q → ComesOn at 0 mid last q r → ComesOn at 0 before last p r
 unfolding further-logged
@@ -155,7 +155,7 @@ comes-one-more at n k p q r before mid last sum unknown first second s fit =
       fits = b.fits;
     }
 
--- variables leave, and what is gone is told
+-- variables leave, and what is gone is logged
 pub leaving-comes : (at : Turn) (p q : ProofParts) (before after : Spaces) → ((s : State) → SpacesFit before s → s.verdict ≡ Unknown) →
     ((s : State) → SpacesFit before s → (logged : List Entry) × LogsRetired s.variables s.logged logged p q × SpacesFit after (with_entries logged s)) →
     ComesOn at 0 before after p q
@@ -337,12 +337,12 @@ module _ {A : Type 0} {at : Turn} {n : ℕ} {s : State} {p q : ProofParts} (m : 
   pub comes-unsatisfiable : answer_at y.solver_state.sat_state ≡ Some false → IsSatisfiableWith s.clauses s.assumptions → ⊥
   comes-unsatisfiable e = right-false s.clauses s.assumptions s.counted c.verdict (comes-answer ∙ e) comes-right
 
--- where steps were made, what is told is told in steps
+-- where steps were made, what is logged is logged in steps
 moved-steps : (interval number k : ℕ) (logged es : List Entry) → (k ≡ 0 → ⊥) → LogsInSteps interval number k logged es → GoesOnInSteps interval number k logged es
 moved-steps interval number zero logged es n a = absurd (n refl)
 moved-steps interval number (suc k) logged es n a = a
 
--- the state once a verdict was found or none, more was told, an open proof has more bytes and the clause store another size
+-- the state once a verdict was found or none, more was logged, an open proof has more bytes and the clause store another size
 abbrev pub after-solve : List Entry → Verdict → ℕ → Option OpenProof → ℕ → State → State
 after-solve logged v n proof words s = record s
     { verdict = v; ledger = record s.ledger { steps = n; since = s.ledger.since + (n - s.ledger.steps) }; logged = logged; proof = proof; words = words }

@@ -25,7 +25,7 @@ abbrev pub IsWithinIdentities : {A : Type 0} → Clause → TracerState → Cont
 IsWithinIdentities d p x y =
     (s : State) → SpacesFit (spaces_with p.tables p.proof.checker x) s → length y.assignment.current ≤ (name_all d s.naming).made
 
--- The clause was accepted: the journal goes on with it, and then with lines, and so does what a proof was told. Identities that are
+-- The clause was accepted: the journal goes on with it, and then with lines, and so does what a proof logged. Identities that are
 -- new have variables then.
 abbrev pub RepresentsOnceAccepted : {A : Type 0} → Clause → TracerState → Context A → TracerState → Context A → Type 0
 RepresentsOnceAccepted d p x q y =
@@ -36,7 +36,7 @@ RepresentsOnceAccepted d p x q y =
     × SpacesFit (spaces_with q.tables q.proof.checker y)
     (with_variables variables (with_entries logged (append_clause (identity_literals s d) v (with_naming (name_all d s.naming) s))))
 
--- The list is assumed in place of the one before, and the journal goes on with it, and so does what a proof was told. Identities
+-- The list is assumed in place of the one before, and the journal goes on with it, and so does what a proof logged. Identities
 -- that are new have variables then.
 abbrev pub RepresentsOnceAssumed : {A : Type 0} → List Literal → TracerState → Context A → TracerState → Context A → Type 0
 RepresentsOnceAssumed d p x q y =

@@ -34,7 +34,7 @@ answer_at verdict.Sat = Some true
 answer_at verdict.Unsat = Some false
 answer_at verdict.UnsatUnderAssumptions = Some false
 
--- some entries were told to an open proof
+-- some entries were logged to an open proof
 abbrev pub LogsSome : ProofParts → ProofParts → Type 0
 LogsSome p q = (given : List Entry) × IsLogged p given q
 
@@ -47,9 +47,9 @@ pub record Turn : Type 0 where
 abbrev pub turn_of : {A : Type 0} → Context A → Turn
 turn_of x = record { interval = x.solver_config.reduce_locals_interval; number = x.schedule.steps }
 
--- What a search comes to by n steps from a state without a verdict: a verdict or none, and what it told further, to the proof too. Of
+-- What a search comes to by n steps from a state without a verdict: a verdict or none, and what it logged further, in the proof too. Of
 -- the clauses that were added n or fewer count, and n are new, or one less where there is a verdict. None of these names a variable
--- that left before. A core that was found is told at last.
+-- that left before. A core that was found is logged last.
 pub record ComesTo (at : Turn) (n : ℕ) (s : State) (p q : ProofParts) (after : Spaces) : Type 0 where
   pub verdict : Verdict
   pub logged : List Entry
@@ -77,7 +77,7 @@ pub record DetachesIfNews {A : Type 0} (q : TracerState) (x y : Context A) : Typ
   pub begins : BeginsStep (λ lines. Unit {0}) x reduced
   pub left : DetachesWhereNews reduced q.tables (view y)
 
--- A step has begun, and variables left. The solver keeps what it did, and stands for the same states, to which more was told.
+-- A step has begun, and variables left. The solver keeps what it did, and represents the same states, to which more was logged.
 pub record BeginsSolverStep {A : Type 0} (p q : TracerState) (x y : Context A) : Type 0 where
   pub kept : IsValidSolver q.tables y
   pub logs : CanLog q.proof
@@ -104,7 +104,7 @@ pub record MakesNamedStep {A : Type 0} (p q : TracerState) (x y : Context A) : T
   pub tables : q.tables ≡ p.tables
   -- the assumptions that are left, and the core over solver variables
   pub parts : AssumptionParts
-  -- one that has no units to settle, and after which the search goes on, adds what was learned by its only line
+  -- one without root news, and after which the search goes on, adds what was learned by its only line
   pub steps : (lines : List Line) × Steps (search_of (view x)) (search_of (view y)) (outcome_of (view y) parts.failed_core y.solver_state.sat_state) lines
       × LearnsAlone lines x y
       × TakesStep TakesGlobally p lines (outcome_of (view y) parts.failed_core y.solver_state.sat_state) q

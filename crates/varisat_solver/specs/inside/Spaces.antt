@@ -1,4 +1,4 @@
--- What a solver holds over its three name spaces, and which states it stands for.
+-- What a solver holds over its three name spaces, and which states it represents.
 --
 -- A name of the user leads to a global variable, which lasts as long as its identity may be spoken of, and a global variable to a
 -- solver variable while the search speaks of it. Identities are never used again, global and solver variables are.
@@ -102,7 +102,7 @@ pub record SolversFit (identity from_global to_global : ℕ → Option ℕ) (cou
   pub live : (v x : ℕ) → to_global v ≡ Some x → (i : ℕ) × (identity x ≡ Some i) × (i ∈ counted)
 
 -- How what the search says is translated to identities: `identity` of each solver variable in use, `global` of each identity that
--- is live, the values that are forced, and what was told of the clauses that are held.
+-- is live, the values that are forced, and what was logged of the clauses that are held.
 pub record Translation : Type 0 where
   pub identity : ℕ → Option ℕ
   pub global : ℕ → Option ℕ
@@ -121,7 +121,7 @@ IsKnownTrue r fixed l = (is_forced r.forced l ≡ true) ⊎ ((m : Literal) × (m
 abbrev pub IsDischargedBy : Translation → List Literal → Clause → Type 0
 IsDischargedBy r fixed c = IsTautology c ⊎ ((l : Literal) × (l ∈ c) × IsKnownTrue r fixed l)
 
--- What was told leads to some clauses over identities: those of the search, which are over solver variables in use, and others
+-- What was logged leads to some clauses over identities: those of the search, which are over solver variables in use, and others
 -- that it forgot with variables that left, over live identities. These say nothing more, and among them is a unit clause for each
 -- forced value of a live identity without a solver variable.
 pub record SharesHeld (r : Translation) (fixed : List Literal) (share : List Clause) : Type 0 where
@@ -135,7 +135,7 @@ pub record SharesHeld (r : Translation) (fixed : List Literal) (share : List Cla
   pub live : AreLive r forgotten
   pub settled : (c : Clause) → c ∈ forgotten → IsDischargedBy r fixed c
 
--- What was told of the clauses that the search holds. Under Unsat it leads to a conflict, and nothing more is told of clauses.
+-- What was logged of the clauses that the search holds. Under Unsat it leads to a conflict, and nothing more is logged of clauses.
 abbrev pub HeldFits : Translation → List Literal → List Clause → Outcome → Type 0
 HeldFits r fixed share outcome.Unsat = LogsConflict r.logged
 HeldFits r fixed share _ = SharesHeld r fixed share
@@ -153,7 +153,7 @@ pub record SearchHolds (P : List Clause) (r : Translation) (s : Search) (v : Out
   pub fixed : v ≢ outcome.Unsat → (l : Literal) (i : ℕ) → r.identity (variable_of l) ≡ Some i → r.forced i ≡ Some (polarity_of l) → l ∈ s.fixed
   -- each accepted clause is true, or is kept
   pub covered : v ≢ outcome.Unsat → CoversBy (carry r.identity) (is_forced r.forced) P s
-  -- what was told leads to these clauses and to what was forgotten
+  -- what was logged leads to these clauses and to what was forgotten
   pub logged : HeldFits r s.fixed held v
 
 -- The list, which is given over names with solver variables, is the state's over identities.
@@ -173,7 +173,7 @@ pub record WorkingFits (P : List Clause) (identity : ℕ → Option ℕ) (assump
   pub part : map (carry identity) working ⊆ assumptions
   pub implied : (a : Assignment) → SatisfiesAll a P → MakesTrue a (map (carry identity) working) → MakesTrue a assumptions
 
--- a core of the state is the one that was told over names in use
+-- a core of the state is the one that was logged over names in use
 abbrev pub CoreFits : (ℕ → Option ℕ) → List Literal → Verdict → Type 0
 CoreFits names logged Unknown = Unit {0}
 CoreFits names logged (Sat found) = Unit {0}
@@ -221,8 +221,8 @@ abbrev pub AllSpeakOf : (Literal → Type 0) → List Entry → Type 0
 AllSpeakOf are [] = Unit {0}
 AllSpeakOf are (e ∷ es) = SpeaksOf are e × AllSpeakOf are es
 
--- The accepted clauses are those that were told, in order, the list told last is that of the assumptions, and cores are of what was
--- assumed; literals are of counted identities; just those identities were told to have left that are gone; and none left as long as
+-- The accepted clauses are those that were logged, in order, the list logged last is that of the assumptions, and cores are of what was
+-- assumed; literals are of counted identities; just those identities were logged as gone that are gone; and none left as long as
 -- nothing was hidden.
 pub record IsWholeLog (logged : List Entry) (clauses : List Clause) (assumptions : List Literal) (counted : List ℕ) (ever_hidden : Bool)
     (gone : ℕ → Type 0) : Type 0 where
@@ -238,7 +238,7 @@ pub record IsPlain (identity : ℕ → Option ℕ) (made : ℕ) : Type 0 where
   pub all : (i : ℕ) → i < made → identity i ≡ Some i
   pub only : (x i : ℕ) → identity x ≡ Some i → i ≡ x
 
--- The checker that runs inside has what was told so far leads to, over global variables: the same clauses, each as often.
+-- The checker that runs inside has what was logged so far leads to, over global variables: the same clauses, each as often.
 abbrev pub CheckerFits : (ℕ → Option ℕ) → List Entry → Option CheckerState → Type 0
 CheckerFits global logged checker = (held : List Clause) → Leads [] logged held → MayBePresent checker (rename (carry global) held)
 

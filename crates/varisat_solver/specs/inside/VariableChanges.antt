@@ -61,7 +61,7 @@ pub record SetsNamedMode (u : ℕ) (mode : SamplingMode) (old : Tables) (x : ℕ
   pub changed : mode ≢ sampling.Hide → IsChangedTo mid new x (record (data_at mid.kept x) { sampling_mode = mode })
   pub stays : StaysValid old new
 
--- The hidden variable x is not live any more where it is unused, and the proof was told so.
+-- The hidden variable x is not live any more where it is unused, and the proof logs that.
 pub record RetiresIfUnused (p : TracerState) (x : ℕ) (q : TracerState) : Type 0 where
   pub deleted : IsRetiredIfUnused p.tables q.tables x
   pub logged : IsLogged p.proof (retires_if_deleted q.tables x) q.proof
@@ -75,7 +75,7 @@ pub record HidesNamed (u : ℕ) (v : SatState) (p q : TracerState) : Type 0 wher
   pub left : v ≢ verdict.Unsat → RetiresIfUnused (record p { tables = mid }) global q
   pub stays : v ≡ verdict.Unsat → q ≡ record p { tables = mid }
 
--- The name was named, and its variable has the mode. Only as `Hide` it may have left, of which the proof is told.
+-- The name was named, and its variable has the mode. Only as `Hide` it may have left, which the proof logs.
 pub record ChangesNamed (u : ℕ) (mode : SamplingMode) (v : SatState) (p q : TracerState) : Type 0 where
   pub hides : mode ≡ sampling.Hide → HidesNamed u v p q
   pub sets : mode ≢ sampling.Hide → (x : ℕ) × SetsNamedMode u mode p.tables x q.tables

@@ -24,14 +24,14 @@ module _ {V : Type 0} (by : Verdicts V) where
     OneRefused : IsValid s → (e : SolverError) → r ≡ Err e → AddsAll s P (Err e) t → AddsList s P r t
     RefusedAtOnce : r ≡ Err error.Invalid → IsRefusedInvalid s t → AddsList s P r t
 
-  -- How a text's fault is told, if there is one; else steps are counted anew. Memory that ran out in the reader is told as in any
+  -- How a text's fault is returned, if there is one; else steps are counted anew. Memory that ran out in the reader is returned as in any
   -- call, and any other fault changes nothing.
   pub data ReturnsFault (fault : Option DimacsError) (s : Known V) (r : Result (Unit {0}) SolverError) (t : Known V) : Type 0 where
     NoFault : fault ≡ None → r ≡ Ok tt → t ≡ count_anew s → ReturnsFault fault s r t
     MemoryFault : (e : DimacsError) → fault ≡ Some e → e.kind ≡ kind.OutOfMemory → r ≡ Err error.OutOfMemory → Invalidates 0 s t → ReturnsFault fault s r t
     Fault : (e : DimacsError) → fault ≡ Some e → e.kind ≢ kind.OutOfMemory → r ≡ Err (error.Dimacs e) → t ≡ s → ReturnsFault fault s r t
 
-  -- The clauses that a text gives are added in turn: the first refusal is told, or else the text's fault, behind all clauses that ended before it.
+  -- The clauses that a text gives are added in turn: the first refusal is returned, or else the text's fault, behind all clauses that ended before it.
   pub data AddsReading (s : Known V) (reading : Reading) (r : Result (Unit {0}) SolverError) (t : Known V) : Type 0 where
     ClauseRefused : (e : SolverError) → r ≡ Err e → AddsAll s reading.clauses (Err e) t → AddsReading s reading r t
     ClausesAdded : (mid : Known V) → AddsAll s reading.clauses (Ok tt) mid → ReturnsFault reading.fault mid r t → AddsReading s reading r t

@@ -37,9 +37,9 @@ is_valid s = s.ledger.valid
 abbrev pub IsValid : {V : Type 0} → Known V → Type 0
 IsValid s = is_valid s ≡ true
 
--- What is known in t is what it is in s, but for what a call tells beside, lines that add no clause that counts and variables that
+-- What is known in t is what it is in s, but for what a call logs beside, lines that add no clause that counts and variables that
 -- leave, for further bytes of an open proof, and for the words of the clause store. Variables left only where they may, and the lines
--- told before are written as they were.
+-- logged before are written as they were.
 pub record IsLikeButLeft {V : Type 0} (may_leave : Bool) (s t : Known V) : Type 0 where
   pub same : t ≡ record s { logged = t.logged; variables = t.variables; proof = t.proof; words = t.words }
   pub logged : LogsMore 0 s.logged t.logged
@@ -52,8 +52,8 @@ pub record IsLikeButLeft {V : Type 0} (may_leave : Bool) (s t : Known V) : Type 
 abbrev pub IsLike : {V : Type 0} → Known V → Known V → Type 0
 IsLike s t = IsLikeButLeft false s t
 
--- An error from which there is no way back: from then on the state is invalid. Nothing else is told of it but the ledger, and that an
--- open proof stays with its target, which has further bytes and failed just as often as the error tells.
+-- An error from which there is no way back: from then on the state is invalid. Nothing else is known of it but the ledger, and that an
+-- open proof stays with its target, which has further bytes and failed just as often as the error says.
 pub record Invalidates {V : Type 0} (faults : ℕ) (s t : Known V) : Type 0 where
   pub valid : IsValid s
   pub ledger : t.ledger ≡ record s.ledger { valid = false }
@@ -93,7 +93,7 @@ IsCrowded m = variable_limit < m.made
 abbrev pub with_naming : {V : Type 0} → Naming → Known V → Known V
 with_naming m s = record s { naming = m }
 
--- the clause, over identities, is accepted, and told so
+-- the clause, over identities, is accepted, and logged so
 abbrev pub append_clause : {V : Type 0} → Clause → V → Known V → Known V
 append_clause c w s = record s {
   clauses = s.clauses ++ c ∷ [];
@@ -112,7 +112,7 @@ accept d w s =
 abbrev pub with_list : {V : Type 0} → List Literal → V → Known V → Known V
 with_list list w s = record s { assumptions = list; counted = join_counted s.counted (map variable_of list); verdict = w }
 
--- the names of the list are named, and it is assumed, and told so, as they carry it to identities
+-- the names of the list are named, and it is assumed, and logged so, as they carry it to identities
 abbrev pub assume : {V : Type 0} → List Literal → V → Known V → Known V
 assume list w s =
     let named : Naming = name_all list s.naming in
@@ -139,10 +139,10 @@ pub record Verdicts (V : Type 0) : Type 1 where
   -- what one more clause makes of it, behind these, and what another list of assumptions does
   pub reopens : List Clause → Clause → V → V → Type 0
   pub assumed : List Literal → V → V
-  -- what an answer of `solve` says, where the call told these entries; and what so many steps make of it that come to none
+  -- what an answer of `solve` says, where the call logged these entries; and what so many steps make of it that come to none
   pub answers : Known V → Bool → List Entry → Known V → Type 0
   pub interrupted : ℕ → V → V
-  -- what `model` and `failed_core` may tell, if anything
+  -- what `model` and `failed_core` may return, if anything
   pub model : Known V → Option (List Literal) → Type 0
   pub core : Known V → Option (List Literal) → Type 0
   -- the answer is false; and then, the clauses alone are why
@@ -211,12 +211,12 @@ CountsCall s r t = CountsSteps (length s.counted) s.ledger.settings.max_steps s.
 abbrev pub once_searched : {V : Type 0} → Known V → Known V
 once_searched s = record s { proof = searched_under s.proof }
 
--- It is s once `solve` was called, which made the steps of t and told what t was told, where v is known of the verdict then.
+-- It is s once `solve` was called, which made the steps of t and logged what t has logged, where v is known of the verdict then.
 abbrev pub IsSolved : {V : Type 0} → V → Known V → Known V → Type 0
 IsSolved v s t = IsLike (with_entries t.logged (with_verdict v (with_steps t.ledger.steps s))) t
 
 module _ {V : Type 0} (by : Verdicts V) where
-  -- How the steps are counted that a call makes, by its answer: none is made, and nothing told, where the answer is known.
+  -- How the steps are counted that a call makes, by its answer: none is made, and nothing logged, where the answer is known.
   pub data CountsIf (s : Known V) (r : Result Bool SolverError) (t : Known V) : Type 0 where
     Decided : (by.undecided s → ⊥) ⊎ by.refuted s → t.ledger.steps ≡ s.ledger.steps → (IsValid t → t.logged ≡ s.logged) → CountsIf s r t
     Searched : by.undecided s → CountsCall s r t → CountsIf s r t
@@ -225,7 +225,7 @@ module _ {V : Type 0} (by : Verdicts V) where
   pub record ReturnsVerdict (s : Known V) (b : Bool) (t : Known V) : Type 0 where
     pub valid : IsValid s
     pub steps : CountsIf s (Ok b) t
-    -- of the clauses that it told to be added as many count as steps were made
+    -- of the clauses that it logged as added as many count as steps were made
     pub logged : LogsMore (t.ledger.steps - s.ledger.steps) s.logged t.logged
     -- and each step but the last, which came to the answer, added a new one, as where the steps are spent
     pub adds : BeginsInSteps s.ledger.settings.reduce_locals_interval s.ledger.steps (t.ledger.steps - s.ledger.steps - 1) s.logged logged.entries
@@ -240,12 +240,12 @@ module _ {V : Type 0} (by : Verdicts V) where
     pub rest : IsSolved (by.interrupted (t.ledger.steps - s.ledger.steps) s.verdict) s t
     -- a proof writes each identity as the variable that it had
     pub variables : t.variables ≡ s.variables
-    -- of the clauses that it told to be added as many count as steps were made; and each step added a new one, of which no clause that
+    -- of the clauses that it logged as added as many count as steps were made; and each step added a new one, of which no clause that
     -- was held just before is a part, and which is held as the step ends; nor one that was held as the step began, unless it was a step
     -- that may delete learned clauses
     pub logged : LogsMore (t.ledger.steps - s.ledger.steps) s.logged t.logged
     pub adds : GoesOnInSteps s.ledger.settings.reduce_locals_interval s.ledger.steps (t.ledger.steps - s.ledger.steps) s.logged logged.entries
-    -- no core is told
+    -- no core is logged
     pub derived : AreDerived logged.entries
     -- where no step was made nothing changed
     pub still : t.ledger.steps ≡ s.ledger.steps → t ≡ s
@@ -274,8 +274,8 @@ module _ {V : Type 0} (by : Verdicts V) where
 
 -- The calls `model` and `failed_core`.
 
--- A list is told that may be told, or none, and none by an invalid solver. Running out of memory comes only where there is a list to
--- tell, and changes nothing.
+-- A list is returned that may be returned, or none, and none by an invalid solver. Running out of memory comes only where there is a list to
+-- return, and changes nothing.
 abbrev pub ReturnsList : {V : Type 0} → (Option (List Literal) → Type 0) → Known V → Result (Option (List Literal)) AllocError → Known V → Type 0
 ReturnsList may s (Ok list) t = ((IsValid s × may list) ⊎ ((is_valid s ≡ false) × (list ≡ None))) × (t ≡ s)
 ReturnsList may s (Err _) t = IsValid s × ((list : List Literal) × may (Some list)) × (t ≡ s)
@@ -286,7 +286,7 @@ ReturnsList may s (Err _) t = IsValid s × ((list : List Literal) × may (Some l
 abbrev pub with_update : {V : Type 0} → SolverConfigUpdate → Known V → Known V
 with_update u s = record s { ledger = record s.ledger { since = 0; settings = updated_settings s.ledger.settings u } }
 
--- The settings are replaced for which the update has values, or the first one out of its range is told and nothing changes.
+-- The settings are replaced for which the update has values, or the first one out of its range is returned and nothing changes.
 abbrev pub Configures : {V : Type 0} → Known V → SolverConfigUpdate → Result (Unit {0}) SolverError → Known V → Type 0
 Configures s u (Ok _) t = IsValid s × (first_bad u ≡ None) × (t ≡ with_update u s)
 Configures s u (Err Invalid) t = IsRefusedInvalid s t
@@ -363,7 +363,7 @@ pub record HasVerdict (s : State) (b : Bool) (logged : List Entry) (t : State) :
 
 -- 3. States.
 
--- the verdicts of a state; behind each call what was told is right, as long as the state is valid
+-- the verdicts of a state; behind each call what was logged is right, as long as the state is valid
 abbrev pub by_state : Verdicts Verdict
 by_state = record {
   refuted = λ s. s.verdict ≡ Unsat;

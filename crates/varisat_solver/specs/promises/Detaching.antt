@@ -70,7 +70,7 @@ pub record FlagsVariables (size : ℕ) (ls : List Literal) (flags : List Bool) :
 abbrev pub fixed_to : Bool → VarData → VarData
 fixed_to b d = record d { unit = Some b; isolated = true }
 
--- The global variable x has its solver variable v no longer, and the proof was told that it is gone, where it is.
+-- The global variable x has its solver variable v no longer, and the proof logs that it is gone, where it is.
 pub record LosesSolverVar (x v : ℕ) (p q : TracerState) : Type 0 where
   pub dropped : IsDetached p.tables q.tables x v
   pub logged : IsLogged p.proof (retires_if_deleted q.tables x) q.proof
@@ -124,7 +124,7 @@ pub record DetachesFromTables (ls : List Literal) (old new : Tables) : Type 0 wh
   pub others : (x : ℕ) → ((l : Literal) → l ∈ ls → at old.solvers.backward (variable_of l) ≢ Some x) → data_at new.kept x ≡ data_at old.kept x
 
 -- Variables left the search and the tables. What a valid solver keeps stays true, the search goes on with as many variables, and
--- the solver stands for the same states, to which it was told what left, as it was to the proof.
+-- the solver represents the same states, which have the entries of what left, as the proof has.
 pub record Detaches {A : Type 0} (p : TracerState) (x : Context A) (q : TracerState) (y : Context A) : Type 0 where
   pub kept : IsValidSolver q.tables y
   pub within : GoesOnWithin x y

@@ -1,4 +1,4 @@
--- What a call tells: entries that go on from what was told before.
+-- What a call logs: entries that go on from what was logged before.
 use Rattle.std.specs.Prelude.{◌≡◌, ℕ, true, false, Option, List, [], ◌∷◌, ◌++◌, map}
 use Rattle.varisat_theory.specs.promises.Literals.{Literal, Clause}
 use Rattle.varisat_theory.specs.promises.Journals.{Entry, Writes, Fails, Retires, Leads, LeadsBy, NoneRetires, accepted_of, lines_of, rename_entry, GoesOn}
@@ -13,11 +13,11 @@ use Rattle.varisat_solver.specs.promises.OpenProofs.{entries_over, IsWrittenWher
 use Rattle.varisat_solver.specs.promises.States.{Known, State, Verdict, Unsat, UnsatUnderAssumptions}
 use Rattle.varisat_solver.specs.promises.StepEntries.{GoesOnInSteps}
 
--- the same once more was told
+-- the same once more was logged
 abbrev pub with_entries : {V : Type 0} → List Entry → Known V → Known V
 with_entries logged s = record s { logged = logged }
 
--- Further entries are told. Each is right where it stands, and n of the clauses that their lines add or fewer are neither a
+-- Further entries are logged. Each is right where it stands, and n of the clauses that their lines add or fewer are neither a
 -- single literal nor part of one that is held just before.
 pub record LogsMore (n : ℕ) (before after : List Entry) : Type 0 where
   pub entries : List Entry
@@ -31,7 +31,7 @@ pub record BeginsInSteps (interval number k : ℕ) (logged es : List Entry) : Ty
   pub split : es ≡ front ++ back
   pub adds : GoesOnInSteps interval number k logged front
 
--- No clause is accepted, nothing is assumed and no core told: the entries are lines, and variables that leave.
+-- No clause is accepted, nothing is assumed and no core logged: the entries are lines, and variables that leave.
 abbrev pub AreDerived : List Entry → Type 0
 AreDerived [] = Unit {0}
 AreDerived (Writes line ∷ es) = AreDerived es
@@ -44,32 +44,32 @@ AreRetired [] = Unit {0}
 AreRetired (Retires v ∷ es) = AreRetired es
 AreRetired (_ ∷ es) = ⊥
 
--- the entries are derived, and then the core is told, at last
+-- the entries are derived, and then the core is logged, as the last entry
 abbrev pub EndWithCore : List Literal → List Entry → Type 0
 EndWithCore core es = (front : List Entry) × AreDerived front × (es ≡ front ++ Fails core ∷ [])
 
--- What steps tell that come to the verdict.
+-- What steps log that come to the verdict.
 abbrev pub EndBy : Verdict → List Entry → Type 0
 EndBy (UnsatUnderAssumptions core) es = EndWithCore core es
 EndBy _ es = AreDerived es
 
--- Further entries are told, which are lines alone.
+-- Further entries are logged, which are lines alone.
 abbrev pub LogsStaying : ℕ → List Entry → List Entry → Type 0
 LogsStaying n before after = (m : LogsMore n before after) × NoneRetires m.entries × AreDerived m.entries
 
--- An open proof, and a checker, were told the further entries, each identity as its variable.
+-- An open proof, and a checker, logged the further entries, each identity as its variable.
 pub record LogsToProof (variables : ℕ → Option ℕ) (before after : List Entry) (old new : ProofParts) : Type 0 where
   pub entries : List Entry
   pub joined : after ≡ before ++ entries
   pub logged : IsLogged old (map (rename_entry (carry variables)) entries) new
 
--- Entries are told as variables leave, and to the proof as well.
+-- Entries are logged as variables leave, and to the proof as well.
 pub record LogsRetired (variables : ℕ → Option ℕ) (before after : List Entry) (old new : ProofParts) : Type 0 where
   pub more : LogsMore 0 before after
   pub leaving : AreRetired more.entries
   pub proof : LogsToProof variables before after old new
 
--- What was told is right, entry by entry, and an open proof has all of it for which its format has lines, each identity as its
+-- What was logged is right, entry by entry, and an open proof has all of it for which its format has lines, each identity as its
 -- variable: no two that have not left have the same. Its clauses are those accepted, in order, its last list is that of the
 -- assumptions, and its cores are of what was assumed. It is written in numbers that a reader takes. Where nothing was ever hidden each
 -- entry is written as it is, no variable leaves, and its lines are a derivation from the clauses, and under Unsat they refute them.

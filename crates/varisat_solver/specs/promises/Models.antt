@@ -1,4 +1,4 @@
--- The models and failed cores that are told.
+-- The models and failed cores that are returned.
 use Rattle.std.specs.Prelude.{◌≡◌, ℕ, zero, suc, ◌≤◌, false, Option, Some, None, List, [], ◌∷◌, map}
 use Rattle.varisat_theory.specs.promises.Membership.{◌∈◌}
 use Rattle.varisat_theory.specs.promises.Literals.{Literal, Clause, Assignment, variable_of, literal_of, SatisfiesAll, MakesTrue, IsFailedCore}
@@ -64,7 +64,7 @@ AreNamesInUse m ls = (l : Literal) → l ∈ ls → (i : ℕ) × (m.names (varia
 abbrev pub IsNamedCore : State → List Literal → Type 0
 IsNamedCore s core = AreNamesInUse s.naming core × IsFailedCore s.clauses s.assumptions (map (through_names s.naming) core)
 
--- A core as it is told, over names in use, is the one that is known.
+-- A core as it is returned, over names in use, is the one that is known.
 abbrev pub IsReturnedCore : State → Option (List Literal) → Type 0
 IsReturnedCore s None = core_of s.verdict ≡ None
 IsReturnedCore s (Some core) = AreNamesInUse s.naming core × (core_of s.verdict ≡ Some (map (through_names s.naming) core))

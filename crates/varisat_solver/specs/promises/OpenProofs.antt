@@ -37,15 +37,15 @@ BarsClauses proof = (p : OpenProof) × (proof ≡ Some p) × (p.searched ≡ tru
 abbrev pub BarsAssumptions : Option OpenProof → Type 0
 BarsAssumptions proof = (p : OpenProof) × (proof ≡ Some p) × (has_marks p.format ≡ false)
 
--- the entries that were told, as a proof is told them
+-- the entries that were logged, as a proof logs them
 abbrev pub entries_over : (ℕ → Option ℕ) → List Entry → List Entry
 entries_over variables logged = map (rename_entry (carry variables)) logged
 
--- the lines that were told, as a proof writes them
+-- the lines that were logged, as a proof writes them
 abbrev pub lines_over : (ℕ → Option ℕ) → List Entry → List Line
 lines_over variables logged = map (rename_line (carry variables)) (lines_of logged)
 
--- the identity was made, and was not told to have left
+-- the identity was made, and was not logged as gone
 abbrev pub IsThere : ℕ → List Entry → ℕ → Type 0
 IsThere made logged i = (i < made) × (Retires i ∈ logged → ⊥)
 
@@ -54,8 +54,8 @@ pub record HaveOwnVariables (variables : ℕ → Option ℕ) (made : ℕ) (logge
   pub present : (i : ℕ) → IsThere made logged i → (x : ℕ) × (variables i ≡ Some x)
   pub apart : (i j x : ℕ) → IsThere made logged i → IsThere made logged j → variables i ≡ Some x → variables j ≡ Some x → i ≡ j
 
--- The bytes are those of all that was told for which the format has lines, each identity as its variable: before a proof opens
--- nothing of that kind is told.
+-- The bytes are those of all that was logged for which the format has lines, each identity as its variable: before a proof opens
+-- nothing of that kind is logged.
 abbrev pub IsWrittenAs : (ℕ → Option ℕ) → List Entry → OpenProof → Type 0
 IsWrittenAs variables logged p = p.bytes ≡ logged_bytes p.format (entries_over variables logged)
 

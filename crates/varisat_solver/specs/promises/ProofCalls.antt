@@ -39,7 +39,7 @@ EnablesChecking s (Err ProofTooLate) t = IsValid s × (s.ledger.started ≡ true
 EnablesChecking s (Err _) t = ⊥
 
 module _ {V : Type 0} (by : Verdicts V) where
-  -- The bytes of an open proof are those of all that was told for which its format has lines, each identity as its variable, which is
+  -- The bytes of an open proof are those of all that was logged for which its format has lines, each identity as its variable, which is
   -- its own until it leaves, in numbers that a reader takes. In DRAT these are the lines that add or delete a clause. As long as nothing
   -- was ever hidden each entry is written as it is, the lines that add or delete a clause are a derivation from the clauses, and they
   -- refute them where these are known to be unsatisfiable; and a marked proof is one of the clauses and the assumptions.
@@ -60,7 +60,7 @@ module _ {V : Type 0} (by : Verdicts V) where
 
   -- The target of the open proof comes back, with the bytes of the proof behind those that it had before, and nothing where none is
   -- open; then none is open any more. It comes back too where it can't be flushed, which makes the solver invalid, and from an invalid
-  -- solver, of which it is not told that the bytes are those of lines.
+  -- solver, of which it is not known that the bytes are those of lines.
   abbrev pub Closes : {W : Type 0} → (W → Taken) → Known V → Result (Option W) (SolverError × W) → Known V → Type 0
   Closes taken s (Ok back) t =
       IsClosed {E = SolverError} taken (opened_state s.proof) (Ok back) × (IsValid s → IsProofIfOpen s) × (t ≡ count_anew (with_proof None s))

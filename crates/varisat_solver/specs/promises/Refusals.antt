@@ -1,11 +1,11 @@
--- The numbers under which the refusals are told, and the refusals of a step.
+-- The numbers under which the refusals are returned, and the refusals of a step.
 use Rattle.std.specs.Prelude.{ℕ}
 use Rattle.varisat_search.specs.declared.error.StepError.{StepError}
 use Rattle.varisat_search.specs.declared.error.StepError.TheVariants as step
 use Rattle.varisat_solver.specs.declared.solver.SolverError.{SolverError}
 use Rattle.varisat_solver.specs.declared.solver.SolverError.TheVariants.{Interrupted, ProofIoError, OutOfMemory, Invalid, ClauseStoreFull, WitnessVar, VariableLimit, AssumedVar, ClauseAfterSolve, ProofOpen, ProofTooLate, ConfigOutOfRange, Dimacs}
 
--- the number under which a refusal is told
+-- the number under which a refusal is returned
 abbrev pub refusal_number : SolverError → ℕ
 refusal_number Interrupted = 1
 refusal_number (ProofIoError cause) = 2
@@ -21,13 +21,13 @@ refusal_number ProofTooLate = 11
 refusal_number (ConfigOutOfRange field) = 12
 refusal_number (Dimacs cause) = 13
 
--- how it is told why a step came to no end
+-- the refusal that says why a step came to no end
 abbrev pub step_refusal : StepError → SolverError
 step_refusal step.Full = ClauseStoreFull
 step_refusal step.Memory = OutOfMemory
 step_refusal (step.Target cause) = ProofIoError cause
 
--- how many faults of a proof's target the refusal tells
+-- how many faults of a proof's target the refusal has
 abbrev pub returned_faults : SolverError → ℕ
 returned_faults (ProofIoError cause) = 1
 returned_faults _ = 0

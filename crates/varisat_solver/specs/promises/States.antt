@@ -16,9 +16,9 @@ pub data Verdict : Type 0 where
   Unsat : Verdict
   UnsatUnderAssumptions : List Literal → Verdict
 
--- What is told of an invalid solver too. `valid`: no error came from which there is no way back. `started`: a clause, a variable
+-- What is known of an invalid solver too. `valid`: no error came from which there is no way back. `started`: a clause, a variable
 -- or a list of assumptions was accepted. `steps`: how many steps were made in all. `since`: how many of them since the last
--- change, which is the last call that was not refused and did more than to solve or to tell something. `settings`: those by which
+-- change, which is the last call that was not refused and did more than to solve or to return something. `settings`: those by which
 -- further steps are made. `checking`: whether a checker runs inside, which it does from when it was switched on.
 pub record Ledger : Type 0 where
   pub valid : Bool
@@ -32,7 +32,7 @@ pub record Ledger : Type 0 where
 -- name was ever freed while its variable lived on. `clauses`: those accepted, over identities, as the names that were in use carried
 -- them when they were given: a name that becomes free may come back for another variable, and what was said before still speaks of
 -- the first. `assumptions`: the list as given, over identities. `counted`: the identities that accepted clauses and assumption lists
--- have named so far, each once. `logged`: what a proof that was opened at the beginning would have been told, over identities, as long
+-- have named so far, each once. `logged`: what a proof that was opened at the beginning would have been logged, over identities, as long
 -- as no error came from which there is no way back. `variables`: as which variable a proof writes each identity that was made; another
 -- identity has the same one only once this one has left. `proof`: the proof that is open. `words`: how many words the clause store has.
 pub record Known (V : Type 0) : Type 0 where
@@ -110,7 +110,7 @@ pub record IsWellFormed {V : Type 0} (s : Known V) : Type 0 where
   pub once : IsDistinct s.counted
 
 -- What two flags say of the state: before anything was accepted there are no clauses and no assumptions, nothing is counted, and
--- no list of assumptions was told; and while a proof is open that bars assumptions nothing is assumed.
+-- no list of assumptions was logged; and while a proof is open that bars assumptions nothing is assumed.
 pub record FlagsFit (s : State) : Type 0 where
   pub clauses : s.ledger.started ≡ false → s.clauses ≡ []
   pub assumptions : s.ledger.started ≡ false → s.assumptions ≡ []

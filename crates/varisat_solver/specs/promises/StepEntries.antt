@@ -1,4 +1,4 @@
--- Entries of a journal that steps tell: each step adds a clause that is new to what was held as the step began.
+-- Entries of a journal that steps log: each step adds a clause that is new to what was held as the step began.
 use Rattle.std.specs.Prelude.{◌≡◌, ◌≢◌, ℕ, zero, suc, ◌+◌, ◌%◌, List, [], ◌∷◌, ◌++◌, ◌⊎◌}
 use Rattle.varisat_theory.specs.promises.Membership.{◌∈◌, ◌⊆◌}
 use Rattle.varisat_theory.specs.promises.Literals.{Literal, Clause, variable_of}
@@ -20,7 +20,7 @@ LeadsInSteps interval number (suc k) P es Q =
     (first last : List Entry) × (R : List Clause) × (es ≡ first ++ last) × LeadsInSteps interval number k P first R
     × LeadsInStep interval (number + k) R last Q
 
--- Whatever the entries told so far lead to from no clauses, the further ones lead on from it, as those of k steps.
+-- Whatever the entries logged so far lead to from no clauses, the further ones lead on from it, as those of k steps.
 abbrev pub GoesOnInSteps : ℕ → ℕ → ℕ → List Entry → List Entry → Type 0
 GoesOnInSteps interval number k logged es =
     (held : List Clause) → Leads [] logged held → (after : List Clause) × LeadsInSteps interval number k held es after

@@ -1,4 +1,4 @@
--- What a solver holds, and which states it stands for.
+-- What a solver holds, and which states it represents.
 use Rattle.std.specs.Prelude.{◌≡◌, ◌≤◌, ◌+◌, ◌^◌, ℕ, zero, suc, Bool, true, false, Option, Some, None, List, [], length, slice_index_or, IsSome, Result, Ok, Err}
 use Rattle.varisat_theory.specs.promises.Membership.{◌∈◌}
 use Rattle.varisat_theory.specs.promises.Literals.{Literal, variable_of}
@@ -30,7 +30,7 @@ use Rattle.varisat_solver.specs.declared.solver.SolverError.TheVariants.{ProofIo
 
 -- The maps between names, global variables and solver variables with what is kept of the global variables; the proof that is
 -- open and the checker that runs inside; the search with its assumptions and its verdict, and how many words its store of clauses
--- has; what is told of an invalid solver too.
+-- has; what is known of an invalid solver too.
 pub record Summary : Type 0 where
   pub tables : Tables
   pub opened : Option OpenState
@@ -100,22 +100,22 @@ pub record IsValidSolver {A : Type 0} (tables : Tables) (search : Context A) : T
   pub marked : (l : Literal) (x : ℕ) → l ∈ search.assumptions.user → at tables.users.forward (variable_of l) ≡ Some x → (data_at tables.kept x).assumed ≡ true
   pub working : (l : Literal) → l ∈ search.assumptions.working → IsAssumedSolver tables (variable_of l)
 
--- Some state stands for what is held. Before a clause, a variable or a list of assumptions was accepted it has no clauses, and
+-- Some state is represented by what is held. Before a clause, a variable or a list of assumptions was accepted it has no clauses, and
 -- counts nothing.
 abbrev pub RepresentsSome : Spaces → Bool → Type 0
 RepresentsSome p started = (s : State) × SpacesFit p s × (started ≡ false → (s.clauses ≡ []) × (s.counted ≡ []))
 
--- What it keeps beside that: its proof can be told entries, it counts the steps since its last change, before which `changed_at`
--- were made, and it stands for some state, so that its checker finds each step right that it is told.
+-- What it keeps beside that: its proof can log entries, it counts the steps since its last change, before which `changed_at`
+-- were made, and it represents some state, so that its checker finds each step right that it gets.
 pub record IsValidSince {A : Type 0} (tables : Tables) (proof : ProofParts) (search : Context A) (started : Bool) (changed_at : ℕ) : Type 0 where
   pub kept : IsValidSolver tables search
   pub logs : CanLog proof
   pub counts : CountsSince changed_at search
   pub stands : RepresentsSome (spaces_with tables proof.checker search) started
 
--- The solver stands for the state: both have the same ledger and as many words in the store, and the same proof is open, whose
+-- The solver represents the state: both have the same ledger and as many words in the store, and the same proof is open, whose
 -- target has the bytes that the state says; and where it is valid, what the solver holds stands for it, these are the bytes of the
--- lines that were told, and no variable is past the limit.
+-- lines that were logged, and no variable is past the limit.
 pub record Represents (g : Summary) (s : State) : Type 0 where
   pub ledger : s.ledger ≡ g.ledger
   pub words : s.words ≡ g.words
@@ -125,7 +125,7 @@ pub record Represents (g : Summary) (s : State) : Type 0 where
   pub flags : g.ledger.valid ≡ true → FlagsFit s
   pub bounded : g.ledger.valid ≡ true → AreBounded g.tables
 
--- From each state that the solver g stands for the relation leads to one that it stands for as h.
+-- From each state that the solver g represents the relation leads to one that it represents as h.
 abbrev pub LeadsRepresented : Summary → (State → State → Type 0) → Summary → Type 0
 LeadsRepresented g R h = (s : State) → Represents g s → (t : State) × R s t × Represents h t
 

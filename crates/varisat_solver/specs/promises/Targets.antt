@@ -13,7 +13,7 @@ WritesAll p q = (entries : List Entry) × IsWrittenIf p (logged entries) q
 abbrev pub WritesUpTo : ℕ → Option OpenState → Option OpenState → Type 0
 WritesUpTo faults p q = (entries : List Entry) × IsBegunIf p (logged entries) faults q
 
--- What a call writes, by its answer: a refusal comes with one fault of the target where it tells of that, and else with none.
+-- What a call writes, by its answer: a refusal comes with one fault of the target where it stands for one, and else with none.
 abbrev pub WritesOn : {X : Type 0} → Option OpenState → Result X SolverError → Option OpenState → Type 0
 WritesOn p (Ok x) q = WritesAll p q
 WritesOn p (Err e) q = WritesUpTo (returned_faults e) p q

@@ -17,7 +17,7 @@ fn new_solver(alloc: Global) -> TestSolver {
     Solver::new_in(alloc)
 }
 
-// Whether the solver tells a core of exactly these literals, in whatever order.
+// Whether the solver returns a core of exactly these literals, in whatever order.
 fn has_core(solver: &TestSolver, wanted: &[Lit]) -> bool {
     match solver.failed_core() {
         Some(core) => { (core.len() == wanted.len()) & wanted.iter().all(|lit| core.contains(lit)) }
@@ -117,7 +117,7 @@ fn is_satisfiable_with(alloc: Global, literals: &[Lit]) -> Result<bool, SolverEr
     answer
 }
 
-// Whether the solver tells a core of some of the literals, and finds it false again as assumptions.
+// Whether the solver returns a core of some of the literals, and finds it false again as assumptions.
 fn fails_again(
     alloc: Global,
     solver: &mut TestSolver,

@@ -150,7 +150,7 @@ blank_adds_none P c Q a =
 
 -- 2. Entries that go on.
 
--- what is told leads to the same clauses, whichever of them stand for it
+-- what is logged leads to the same clauses, whichever of them stand for it
 pub goes_adding : (k : ℕ) (logged es : List Entry) (held after : List Clause) → Leads [] logged held → LeadsAdding k held es after → GoesOnAdding k logged es
 goes_adding k logged es held after d a other f =
     let (Q, g, _) = adding_same k held other es after (leads_unique [] [] logged held other refl d f) a in

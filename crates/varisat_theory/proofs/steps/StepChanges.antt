@@ -18,7 +18,7 @@ use Rattle.varisat_theory.specs.inside.Outcomes.{Proves}
 use Rattle.varisat_theory.proofs.journals.Spoken.{moved_within, fewer_within, at_place, part_within}
 use Rattle.varisat_theory.proofs.steps.SearchFits.{same_insert, same_front, same_equal, clauses_at, clauses_join, clause_in, plain, carried, proved_implied}
 
--- what is settled stays so where more literals are fixed
+-- what is discharged stays so where more literals are fixed
 pub discharged_more : (s t : Search) (c : Clause) → s.fixed ⊆ t.fixed → IsDischarged s c → IsDischarged t c
 discharged_more s t c h (inl a) = inl a
 discharged_more s t c h (inr (l, i, j)) = inr (l, i, h l j)
@@ -120,7 +120,7 @@ covers_replaced s front back middle k e w P v d h = ⊎_elim (λ a. inl a)
     go j g r (inr (inl m)) = replaced (sym (ap (λ x. x.learned) m) ∙ g) (λ x o. r x (subst (λ n. x ∈ n.clause) (sym m) o))
     go j g r (inr (inr b)) = at j g r (∈-append_right j front (middle ++ back) (∈-append_right j middle back b))
 
--- a kept clause is deleted that is learned or settled
+-- a kept clause is deleted that is learned or discharged
 pub is_deleted : (s : Search) (front back : List KeptClause) (k : KeptClause) (c : Clause) → s.kept ≡ front ++ (k ∷ back) → SameSet k.clause c →
     (k.learned ≡ true) ⊎ IsDischarged s k.clause → Proves 0 s (record s { kept = front ++ back }) (Delete c ∷ [])
 is_deleted s front back k c e q w = record {

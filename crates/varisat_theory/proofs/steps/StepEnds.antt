@@ -48,7 +48,7 @@ fits_kept s held c k q f = record {
 pub covers_kept : (s : Search) (k : KeptClause) (P : List Clause) → Covers P s → Covers P (record s { kept = s.kept ++ k ∷ [] })
 covers_kept s k P v d h = ⊎_elim (λ a. inl a) (λ (j, i, e, w). inr (j, ∈-append_left j s.kept (k ∷ []) i, e, w)) (v d h)
 
--- a clause that is settled joins the others
+-- a clause that is discharged joins the others
 pub fits_discharged : (s : Search) (held : List Clause) (c : Clause) → IsDischarged s c → Fits held s → Fits (held ++ c ∷ []) s
 fits_discharged s held c a f = record {
   others = f.others ++ c ∷ [];

@@ -1,4 +1,4 @@
--- What a proof can be told of a solver's life, entry by entry, and what is held after it.
+-- What a proof can log of a solver's life, entry by entry, and what is held after it.
 use Rattle.std.specs.Prelude.{◌≡◌, ℕ, suc, ◌*◌, List, [], ◌∷◌, ◌++◌, ◌⊎◌, map}
 use Rattle.varisat_theory.specs.promises.Literals.{Literal, Clause, variable_of}
 use Rattle.varisat_theory.specs.promises.Propagation.{Conflicts, Follows}
@@ -77,7 +77,7 @@ rename_entry f (Retires v) = Retires (variable_of (f (2 * v)))
 abbrev pub written : List Line → List Entry
 written ls = map Writes ls
 
--- Whatever the entries told so far lead to from no clauses, the further ones lead on from it, with at most n that count.
+-- Whatever the entries logged so far lead to from no clauses, the further ones lead on from it, with at most n that count.
 abbrev pub GoesOn : ℕ → List Entry → List Entry → Type 0
 GoesOn n logged es = (held : List Clause) → Leads [] logged held → (after : List Clause) × LeadsBy n held es after
 

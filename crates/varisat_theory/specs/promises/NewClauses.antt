@@ -24,7 +24,7 @@ LeadsAdding zero P es Q = Leads P es Q
 LeadsAdding (suc k) P es Q =
     (first last : List Entry) × (R : List Clause) × (es ≡ first ++ last) × LeadsAdding k P first R × LeadsToNew R last Q
 
--- Whatever the entries told so far lead to from no clauses, the further ones lead on from it, in k parts in turn that each add a
+-- Whatever the entries logged so far lead to from no clauses, the further ones lead on from it, in k parts in turn that each add a
 -- new clause, which is still held as the part ends.
 abbrev pub GoesOnAdding : ℕ → List Entry → List Entry → Type 0
 GoesOnAdding k logged es = (held : List Clause) → Leads [] logged held → (after : List Clause) × LeadsAdding k held es after

@@ -30,14 +30,14 @@ abbrev pub IsDischarged : Search → Clause → Type 0
 IsDischarged s c = IsTautology c ⊎ ((l : Literal) × (l ∈ c) × (l ∈ s.fixed))
 
 -- What the search says of the clauses that a proof holds: they are the kept ones, each as often as it is kept, and others that
--- are settled, among them a unit clause for each proved literal.
+-- are discharged, among them a unit clause for each proved literal.
 pub record Fits (held : List Clause) (s : Search) : Type 0 where
   pub others : List Clause
   pub same : SameClauses held (clauses_of s.kept ++ others)
   pub settled : (c : Clause) → c ∈ others → IsDischarged s c
   pub units : (l : Literal) → l ∈ s.proved → (d : Clause) × (d ∈ others) × IsUnit l d
 
--- What the search says of the accepted clauses: each is settled, or a kept one that is not learned is a part of it.
+-- What the search says of the accepted clauses: each is discharged, or a kept one that is not learned is a part of it.
 abbrev pub Covers : List Clause → Search → Type 0
 Covers P s = (c : Clause) → c ∈ P → IsDischarged s c ⊎ ((k : KeptClause) × (k ∈ s.kept) × (k.learned ≡ false) × (k.clause ⊆ c))
 

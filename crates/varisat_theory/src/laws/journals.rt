@@ -1,4 +1,4 @@
-//! What a proof is told, entry by entry.
+//! What a proof logs, entry by entry.
 
 ghost use Rattle.varisat_theory.specs.inside.JournalLaws.{JournalAddsNew, JournalDerives, JournalIsDetermined, JournalIsRenamed, JournalIsSound, JournalsJoin};
 

@@ -1,4 +1,4 @@
--- Laws of telling entries to a proof: none, some in turn, and any to a proof that is idle.
+-- Laws of logging entries to a proof: none, some in turn, and any to a proof that is idle.
 use Rattle.std.specs.Prelude.{◌≡◌, ℕ, ◌+◌, ◌||◌, Bool, true, false, List, [], ◌∷◌, ◌++◌, map, flat_map, length, take, Option, Some, None, refl}
 use Rattle.std.proofs.Common.{sym, ap, ◌∙◌, append_assoc, append-nil, subst, arith}
 use Rattle.std.proofs.Math.Seq.{take-append-add}

@@ -30,7 +30,7 @@ takes-more x y z first second h k = record {
 pub takes-idle : (x : TracerState) (entries : List Entry) → is_logging x.proof ≡ false → TakesGlobally x entries x
 takes-idle x entries h = record { tables = refl; logged = logged-idle x.proof (logged_as (global_literal x.tables) entries) h }
 
--- a checker that is told entries runs on
+-- a checker that gets entries runs on
 pub checked-runs : (o p : Option CheckerState) (entries : List Entry) → IsCheckedIf o entries p → is_there p ≡ is_there o
 checked-runs None p entries e = ap (λ (k : Option CheckerState). is_there k) e
 checked-runs (Some a) None entries k = absurd k
@@ -94,7 +94,7 @@ relies-after x y entries held after h r d =
       holds = subst (λ (t : Tables). MayBePresent y.proof.checker (more ++ rename (global_literal t) after)) (sym h.tables) m;
     }
 
--- what a search relies on leads on by entries, and so does what the checker may hold by those that it is told
+-- what a search relies on leads on by entries, and so does what the checker may hold by those that it gets
 pub leads-globally : (x : TracerState) (entries : List Entry) (held after : List Clause) → Relies x held → Leads held entries after →
     (now next : List Clause) × MayBePresent x.proof.checker now × Leads now (logged_as (global_literal x.tables) entries) next
 leads-globally x entries held after r d =

@@ -37,7 +37,7 @@ pub record Relies (x : TracerState) (held : List Clause) : Type 0 where
   pub others : List Clause
   pub holds : MayBePresent x.proof.checker (others ++ rename (global_literal x.tables) held)
 
--- The entries were told to the proof, over global variables; names and variables stay.
+-- The entries were logged in the proof, over global variables; names and variables stay.
 pub record TakesGlobally (x : TracerState) (entries : List Entry) (y : TracerState) : Type 0 where
   pub tables : y.tables ≡ x.tables
   pub logged : IsLogged x.proof (logged_as (global_literal x.tables) entries) y.proof
@@ -63,12 +63,12 @@ pub record OpenParts : Type 0 where
 abbrev pub open_parts : ProofParts → OpenParts
 open_parts p = record { opened = p.opened; checking = is_there p.checker }
 
--- What telling entries over global variables returns and leaves. Names and variables stay also after an error.
+-- What logging entries over global variables returns and leaves. Names and variables stay also after an error.
 abbrev pub LogsGlobally : TracerState → List Entry → Result (Unit {0}) TraceError → TracerState → Type 0
 LogsGlobally x entries (Ok u) y = TakesGlobally x entries y
 LogsGlobally x entries (Err e) y = (y.tables ≡ x.tables) × Logs x.proof (logged_as (global_literal x.tables) entries) (Err e) y.proof
 
--- what the proof is told of a global variable that has lost its name or its solver variable: that it is gone, where it is not live any more
+-- what the proof logs of a global variable that has lost its name or its solver variable: that it is gone, where it is not live any more
 abbrev pub retires_if_deleted : Tables → ℕ → List Entry
 retires_if_deleted t x = if (data_at t.kept x).deleted then Retires x ∷ [] else []
 

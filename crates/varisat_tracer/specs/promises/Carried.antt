@@ -13,7 +13,7 @@ variable_or_first (Some v) = v
 abbrev pub carry : (ℕ → Option ℕ) → Literal → Literal
 carry f l = 2 * variable_or_first (f (variable_of l)) + l % 2
 
--- The entries of a search as a proof is told them, under other names for the variables. That a variable leaves the search is not told:
+-- The entries of a search as a proof logs them, under other names for the variables. That a variable leaves the search is not logged:
 -- what it stands for may live on.
 abbrev pub logged_as : (Literal → Literal) → List Entry → List Entry
 logged_as f [] = []

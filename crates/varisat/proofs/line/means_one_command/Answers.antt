@@ -1,4 +1,4 @@
--- A text is cut into the words of its command, which tell the command.
+-- A text is cut into the words of its command, which say which it is.
 use Rattle.varisat.proofs.LineLemmas.{one_command}
 use Rattle.varisat.proofs.line.means_one_command.Goals as goal
 

@@ -1,4 +1,4 @@
--- The status is that of the outcome, or tells a fault.
+-- The status is that of the outcome, or is that of a fault.
 use Rattle.std.proofs.Common.{inl, inr, refl}
 use Rattle.varisat.specs.promises.Decided.{concluded, conclusion_status, conclusion_text}
 use Rattle.varisat_proof.proofs.PrintedTexts.{ends-printed}

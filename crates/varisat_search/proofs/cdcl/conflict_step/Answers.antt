@@ -19,7 +19,7 @@ use Rattle.varisat_search.proofs.cdcl.conflict_step.Given.{Over}
 use Rattle.varisat_search.proofs.cdcl.conflict_step.Goals.{In_ok-simplify_root_if_news}
 use Rattle.varisat_search.proofs.cdcl.conflict_step.Goals as goal
 
--- what the tracer may hold fits the search once the units are settled
+-- what the tracer may hold fits the search once the root level is simplified
 holds : (g : Over) (c : In_ok-simplify_root_if_news g) → AdmitsFor (g.P.ProofTracer.holds c.simplify_root_if_news.new.proof) (search_of (view c.simplify_root_if_news.new.ctx))
 holds g c =
     let (lines, p, (s, o, t)) = c.in_ok-simplify_root_if_news.ensures.goes_on.proves in
@@ -32,7 +32,7 @@ find_and_learn-requires-clause-holds g c = holds g (goal.at.find_and_learn-requi
 pub learn_from_conflict-requires-clause-holds : goal.learn_from_conflict-requires-clause-holds
 learn_from_conflict-requires-clause-holds g c = holds g (goal.at.learn_from_conflict-requires-clause-holds g c).In_ok-simplify_root_if_news
 
--- the units are settled, and a step is made from there
+-- the root level is simplified, and a step is made from there
 after : (g : Over) (c : In_ok-simplify_root_if_news g) (z : Context g.row.A.Denot) (p2 : g.row.P.Denot) →
     MakesStep (λ lines. AddOneIfUnknown lines z × TakesStep g.P.ProofTracer.takes c.simplify_root_if_news.new.proof lines (outcome_at z) p2)
     c.simplify_root_if_news.new.ctx z →
@@ -124,7 +124,7 @@ returns-in_err-simplify_root_if_news-clause-broken g c =
     c.from_residual.ensures
     c.in_err-simplify_root_if_news.ensures.broken
 
--- settling the units keeps the schedule
+-- simplifying the root level keeps the schedule
 planned : {A : Type 0} {x y : Context A} → ChangesRootSimplified x y → KeepsSchedule x y
 planned {x = x} k = subst (KeepsSchedule x) (sym k) (record { schedule = refl; solver_config = refl })
 

@@ -65,7 +65,7 @@ module _ {A : Type 0} (x t u : Context A) (r : IsReady x) (b : RestartsIfDue x.s
       (keeps-after-part 0 (search_of (view t)) (search_of (view u)) lines v x.assumptions a q
       (subst (λ c. KeepsAssumptions (search_of (view u)) v c a) same h))
 
--- the schedule's count is no part of how the units were settled
+-- the schedule's count is no part of how the root level was simplified
 counted : {A : Type 0} {lines : List Line} {x z : Context A} {plan : Plan} → SimplifiesThenSteps lines x z →
     SimplifiesThenSteps lines x (record z { schedule = plan })
 counted d = record { settled = d.settled; end = d.end; first = d.first; rest = d.rest; parts = d.parts; simplifies_root = d.simplifies_root; steps = d.steps }

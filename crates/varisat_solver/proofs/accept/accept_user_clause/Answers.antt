@@ -78,7 +78,7 @@ load_clause-requires-clause-decidable g c l h =
     literals-decidable c.args.clause.now c.solver_from_user_lits.new.solver_lits.items (have g here).kept
     (c.in_ok-solver_from_user_lits.ensures {u = tt}).literals c.prove_linked-2.ensures l (subst (λ ls. l ∈ ls) c.as_slice-lits.ensures.value h)
 
--- the proof can be told of the search once the clause was
+-- the proof can log for the search once the clause was
 can-tell : (g : Over) (c : In_ok-log_clause g) → CanLog c.log_clause.new.tracer.proof
 can-tell g c = logs-on (record { tables = c.mark_joined.new.variables; proof = c.args.tracer.now.proof }) (tracer_state c.log_clause.new.tracer) _
     (c.in_ok-log_clause.ensures {u = tt}).logged c.requires.logs
@@ -89,7 +89,7 @@ opened g c e =
     reopened-not c.args.ctx.now.solver_state.sat_state c.requires.undecided_before
     (ap (λ (x : SolverState). x.sat_state) (sym c.reopen.ensures) ∙ ap (λ (x : SolverState). x.sat_state) (sym (have g c).verdict.state) ∙ e)
 
--- the solver stands for the state once the names have solver variables
+-- the solver represents the state once the names have solver variables
 all-named-in : (g : Over) (c : In_ok-solver_from_user_lits g) (s : State) →
     SpacesFit (spaces_with c.args.tracer.now.tables c.args.tracer.now.proof.checker c.args.ctx.now) s →
     FitWithNew (spaces_with c.solver_from_user_lits.new.variables c.args.tracer.now.proof.checker c.solver_from_user_lits.new.ctx) s
@@ -102,7 +102,7 @@ all-named-in g c s f =
     (with_verdict (reopened_verdict s.verdict) s)) (sym (ap (λ (x : SolverState). x.sat_state) c.reopen.ensures)) (reopened-spaces first s f) in
     (have g c).stands checker (with_verdict (reopened_verdict s.verdict) s) begins
 
--- what was accepted before and the clause that was told may be held then
+-- what was accepted before and the clause that was logged may be held then
 pub load_clause-requires-clause-holds : goal.load_clause-requires-clause-holds
 load_clause-requires-clause-holds g c n =
     let here = (goal.at.load_clause-requires-clause-holds g c).In_ok-solver_from_user_lits in
@@ -122,7 +122,7 @@ load_clause-requires-clause-holds g c n =
       fits,
     )
 
--- names and variables stay as the clause is told and loaded
+-- names and variables stay as the clause is logged and loaded
 same-tables : (g : Over) (c : In_ok-load_clause g) → c.load_clause.new.proof.tables ≡ c.mark_joined.new.variables
 same-tables g c =
     let here = (goal.at.returns-clause-valid g c).In_ok-solver_from_user_lits in

@@ -29,7 +29,7 @@ pub simplify_root-requires-clause-holds : goal.simplify_root-requires-clause-hol
 simplify_root-requires-clause-holds g c = relied c.args.tracer.now.tables c.args.tracer.now.proof
     (view c.args.ctx.now) c.args.ctx.now.assumptions c.requires.logs c.requires.stands
 
--- what settling comes to
+-- what simplifying comes to
 begun : (g : Over) (c : In-Ok g) (at : Turn) → ComesOn at 0 (undecided_spaces c.args.tracer.now.tables c.args.tracer.now.proof.checker c.args.ctx.now)
     (undecided_spaces c.simplify_root.new.proof.tables c.simplify_root.new.proof.proof.checker c.simplify_root.new.ctx) c.args.tracer.now.proof c.simplify_root.new.proof.proof
 begun g c at =
@@ -42,7 +42,7 @@ begun g c at =
     goes.ready goes.extends.count goes.decidable
     (ap (λ (z : Context g.row.A.Denot). z.assumptions) c.simplify_root.ensures.frame)
 
--- and what the proof was told
+-- and what the proof logged
 settled-logged : (g : Over) (c : In-Ok g) → LogsSome c.args.tracer.now.proof c.simplify_root.new.proof.proof
 settled-logged g c = (_, (c.in-Ok.ensures {u = tt}).goes_on.proves.2.1.logged)
 

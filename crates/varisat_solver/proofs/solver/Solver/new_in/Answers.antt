@@ -18,7 +18,7 @@ use Rattle.varisat_solver.proofs.calls.SolverCalls.{first-spaces, first-kept}
 use Rattle.varisat_solver.proofs.steps.SinceSteps.{since-now, first-plan-is}
 use Rattle.varisat_solver.proofs.solver.Solver.new_in.Goals as goal
 
--- a new solver stands for the empty state
+-- a new solver represents the empty state
 begun : {A : Type 0} (t : Tables) (p : ProofParts) (x : Context A) → t ≡ no_variables → p ≡ record { opened = None; checker = None } →
     x.assumptions ≡ no_assumptions → x.solver_state.sat_state ≡ verdict.Unknown → search_of (view x) ≡ first_search →
     length x.assignment.current ≡ 0 → RepresentsSome (spaces_with t p.checker x) false

@@ -76,7 +76,7 @@ module _ {A : Type 0} {p q : TracerState} {started : Bool} {changed_at : ℕ} {x
   goes-on : (now : Option OpenProof) × GoesOnWriting s.proof now × ProofFits q.proof.opened s.variables comes.logged now
   goes-on = proof-goes-on p.proof q.proof s.variables s.variables s.logged comes.logged s.proof (proof-fits d.stood d.valid) refl comes.proof
 
-  -- the solver stands for the state that it came to
+  -- the solver represents the state that it came to
   stands-after : {r : Result Bool SolverError} → CountsSteps (length s.counted) s.ledger.settings.max_steps s.ledger.since s.ledger.steps
       y.schedule.steps r → Represents (summary_of q started changed_at y)
       (after-solve comes.logged comes.verdict y.schedule.steps goes-on.0 (length y.clause_alloc.words) s)

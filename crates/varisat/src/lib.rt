@@ -61,7 +61,7 @@ pub mod search {
     pub use varisat_search::state::{SatState, SolverState};
     pub use varisat_search::tmp::{TmpData, TmpFlags};
     pub use varisat_search::unit_simplify::{prove_units, unit_simplify};
-    pub use varisat_trace::{NoTracer, ProofTracer, TraceError};
+    pub use varisat_steps::{NoTracer, ProofTracer, TraceError};
 }
 
 /// The maps between names, global variables and solver variables, and what is kept of global variables.

@@ -6,8 +6,8 @@ use Rattle.varisat_plain.specs.promises.Checking.{IsWrong}
 use Rattle.varisat_theory.proofs.clauses.Lines.{derives_append}
 use Rattle.varisat_proof.specs.declared.checker.error.CheckerError.{CheckerError}
 use Rattle.varisat_proof.specs.declared.checker.error.CheckerError.TheVariants.{CheckFailed, NoSuchClause, OutOfMemory}
-use Rattle.varisat_trace.specs.declared.step.ProofStep.{ProofStep}
-use Rattle.varisat_trace.specs.declared.step.ProofStep.TheVariants.{AtClause, UnitClauses, DeleteClause, DeleteVar, FailedAssumptions}
+use Rattle.varisat_steps.specs.declared.step.ProofStep.{ProofStep}
+use Rattle.varisat_steps.specs.declared.step.ProofStep.TheVariants.{AtClause, UnitClauses, DeleteClause, DeleteVar, FailedAssumptions}
 use Rattle.varisat_theory.specs.inside.StepLaws.{unit_lines}
 use Rattle.varisat_proof.specs.promises.Calls.{CheckerState, IsStep, FailsAt}
 use Rattle.varisat_proof.specs.inside.Checks.{ChecksLine, ChecksUnits, ChecksCore}

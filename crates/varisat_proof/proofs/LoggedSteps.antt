@@ -9,11 +9,11 @@ use Rattle.varisat_theory.specs.inside.StepLaws.{unit_lines}
 use Rattle.varisat_theory.proofs.clauses.Held.{same_set-self, same_set-through, same_clauses-self, same_clauses_find, takes_from, follows_same, conflicts_same}
 use Rattle.varisat_theory.proofs.clauses.Lines.{derives_cut, derives_present, derives_same, same_lines-self, present_unique}
 use Rattle.varisat_theory.specs.promises.Journals.{Entry, written}
-use Rattle.varisat_trace.specs.Traces.{CanTake, CanFail, CanTakeStep, entries_of}
-use Rattle.varisat_trace.specs.declared.step.ProofStep.{ProofStep}
-use Rattle.varisat_trace.specs.declared.step.ProofStep.TheVariants.{AtClause, UnitClauses, DeleteClause, DeleteVar, FailedAssumptions}
-use Rattle.varisat_trace.specs.declared.tracer.TraceError.{TraceError}
-use Rattle.varisat_trace.specs.declared.tracer.TraceError.TheVariants.{Memory}
+use Rattle.varisat_steps.specs.Traces.{CanTake, CanFail, CanTakeStep, entries_of}
+use Rattle.varisat_steps.specs.declared.step.ProofStep.{ProofStep}
+use Rattle.varisat_steps.specs.declared.step.ProofStep.TheVariants.{AtClause, UnitClauses, DeleteClause, DeleteVar, FailedAssumptions}
+use Rattle.varisat_steps.specs.declared.tracer.TraceError.{TraceError}
+use Rattle.varisat_steps.specs.declared.tracer.TraceError.TheVariants.{Memory}
 use Rattle.varisat_proof.specs.declared.proof.format.Encoding.{Encoding}
 use Rattle.varisat_proof.specs.declared.checker.error.CheckerError.{CheckerError}
 use Rattle.varisat_proof.specs.declared.checker.error.CheckerError.TheVariants.{CheckFailed, NoSuchClause, CoreNotAssumed, Parse, Io, OutOfMemory, Dimacs, Spent}

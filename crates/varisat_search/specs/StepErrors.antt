@@ -2,8 +2,8 @@
 use Rattle.std.specs.Prelude.{◌≡◌, ℕ, ◌+◌, ◌^◌, ◌≤◌, length, Result, IfErr}
 use Rattle.varisat_clause.specs.declared.alloc.StoreError.{StoreError}
 use Rattle.varisat_clause.specs.declared.alloc.StoreError.TheVariants as store
-use Rattle.varisat_trace.specs.declared.tracer.TraceError.{TraceError}
-use Rattle.varisat_trace.specs.declared.tracer.TraceError.TheVariants as trace
+use Rattle.varisat_steps.specs.declared.tracer.TraceError.{TraceError}
+use Rattle.varisat_steps.specs.declared.tracer.TraceError.TheVariants as trace
 use Rattle.varisat_search.specs.declared.error.StepError.{StepError}
 use Rattle.varisat_search.specs.declared.error.StepError.TheVariants as step
 use Rattle.varisat_search.specs.declared.context.Context.{Context}

@@ -15,7 +15,7 @@ ghost use Rattle.varisat_search.specs.Frames.{ChangesAnalysis, ChangesClauses, C
 ghost use Rattle.varisat_search.specs.Steps.{IsPropagatedToEnd, SavesSome};
 ghost use Rattle.varisat_search.specs.Seen.{search_of};
 ghost use Rattle.varisat_theory.specs.promises.Journals.{Fails};
-ghost use Rattle.varisat_trace.specs.Traces.{TakesLines, TakesStep, LogsLines, BreaksOff, faults_of, CanTake, CanFail, AdmitsFor};
+ghost use Rattle.varisat_steps.specs.Traces.{TakesLines, TakesStep, LogsLines, BreaksOff, faults_of, CanTake, CanFail, AdmitsFor};
 ghost use Rattle.varisat_search.specs.AssumptionParts.{TakesOutImplied};
 ghost use Rattle.varisat_search.specs.Conflicts.{ComesToDecision, EndsOrStops, keeping_of, IsKeptAsReason, IsStoredAsReason, IsWatchedAsReason};
 ghost use Rattle.varisat_search.specs.Learning.{HasMet, BumpsVariables, BumpsAndStores};
@@ -40,7 +40,7 @@ use varisat_literals::Lit;
 use varisat_prop::clause::{ClauseHeader, StoreError};
 use varisat_prop::prop::{Conflict, Reason, enqueue_assignment, propagate};
 use varisat_schedule::counters::count;
-use varisat_trace::{ProofStep, ProofTracer, TraceError};
+use varisat_steps::{ProofStep, ProofTracer, TraceError};
 
 /// Why a search for a model stopped.
 #[derive(Clone, Copy, Debug, PartialEq, Eq)]

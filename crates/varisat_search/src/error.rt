@@ -3,7 +3,7 @@
 use std::alloc::AllocError;
 use std::io;
 use varisat_prop::clause::StoreError;
-use varisat_trace::TraceError;
+use varisat_steps::TraceError;
 
 /// Why a step failed. Contracts say when the clause store is full, and that `Target` is returned just where the tracer's
 /// target failed.

@@ -17,7 +17,7 @@ ghost use Rattle.varisat_search.specs.Decisions.{AreDecidable};
 ghost use Rattle.varisat_search.specs.Frames.{ChangesLoaded, ClearsFlags, KeepsVariables, KeepsScheduleAndVariables};
 ghost use Rattle.varisat_search.specs.Loading.{HasFalseLiteral, IsHeadAfter, AddsLoaded, LoadsUnit, DeletesInOrder, LoadsTo};
 ghost use Rattle.varisat_search.specs.Forgotten.{IsUnmentioned};
-ghost use Rattle.varisat_trace.specs.Traces.{TakesLines, BreaksOff, faults_of, CanTake, AdmitsWith};
+ghost use Rattle.varisat_steps.specs.Traces.{TakesLines, BreaksOff, faults_of, CanTake, AdmitsWith};
 ghost use Rattle.varisat_search.specs.StepErrors.{RefusesStoring, EndsStep, step_faults};
 ghost use Rattle.varisat_search.specs.Seen.{search_of};
 
@@ -32,7 +32,7 @@ use varisat_clause::db::add_clause;
 use varisat_literals::Lit;
 use varisat_prop::clause::{ClauseHeader, StoreError};
 use varisat_prop::prop::{Assignment, Reason, Trail, enqueue_assignment};
-use varisat_trace::{NoTracer, ProofStep, ProofTracer, TraceError};
+use varisat_steps::{NoTracer, ProofStep, ProofTracer, TraceError};
 
 /// Copies the clause's literals to `lits`, each once. Returns whether one of them is another's opposite.
 fn collect_distinct<A: Allocator + Copy>(

@@ -4,7 +4,7 @@ ghost use Rattle.varisat_search.specs.Contexts.{view, IsReady};
 ghost use Rattle.varisat_search.specs.Frames.{ChangesStore, ChangesTiers};
 ghost use Rattle.varisat_search.specs.DueReductions.{MarksReasons, DropsLocals, ReducesMids, KeepsSearch};
 ghost use Rattle.varisat_search.specs.Seen.{search_of};
-ghost use Rattle.varisat_trace.specs.Traces.{TakesLines, BreaksOff, faults_of, AdmitsFor};
+ghost use Rattle.varisat_steps.specs.Traces.{TakesLines, BreaksOff, faults_of, AdmitsFor};
 
 use crate::context::Context;
 use crate::trace::trace_deletions;
@@ -14,7 +14,7 @@ pub use varisat_analysis::reasons::{first_var, is_reason_clause};
 use varisat_clause::header::Tier;
 use varisat_clause::reduce;
 use varisat_schedule::counters::count;
-use varisat_trace::{ProofTracer, TraceError};
+use varisat_steps::{ProofTracer, TraceError};
 
 /// Deletes half of the clauses of the tier Local, rounded down: the least active first, and of equally active ones the
 /// first. One that is the reason of its first literal is passed over. The tracer takes the deletions in this order. The

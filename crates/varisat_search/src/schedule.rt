@@ -12,7 +12,7 @@ ghost use Rattle.varisat_search.specs.Restarts.{RestartsIfDue, SavesIfDue, Resta
 ghost use Rattle.varisat_search.specs.DueReductions.{ReducesLocalsIfDue, ReducesMidsIfDue, ReducesIfDue, KeepsSearch, BeginsStep, StepsBySchedule};
 ghost use Rattle.varisat_search.specs.StepErrors.{HasNoRoom, step_faults};
 ghost use Rattle.varisat_search.specs.Seen.{search_of};
-ghost use Rattle.varisat_trace.specs.Traces.{TakesLines, TakesStep, BreaksOff, faults_of, AdmitsFor};
+ghost use Rattle.varisat_steps.specs.Traces.{TakesLines, TakesStep, BreaksOff, faults_of, AdmitsFor};
 
 use crate::cdcl::conflict_step;
 use crate::collect::collect_garbage;
@@ -25,7 +25,7 @@ use std::alloc::{AllocError, Allocator};
 use varisat_schedule::counters::count;
 pub use varisat_schedule::luby::LubySequence;
 pub use varisat_schedule::schedule::Schedule;
-use varisat_trace::{ProofTracer, TraceError};
+use varisat_steps::{ProofTracer, TraceError};
 
 /// Begins a step of the schedule, which restarts the search where a restart is due. Assumptions keep their levels.
 fn restart_if_due<A: Allocator + Copy>(ctx: &mut Context<A>)

@@ -12,7 +12,7 @@ ghost use Rattle.varisat_prop.specs.Simplified.{is_unassigned};
 ghost use Rattle.varisat_prop.specs.View.{pairs_with, pairs_from};
 ghost use Rattle.varisat_search.specs.ProvedUnits.{units_in};
 ghost use Rattle.varisat_search.specs.Simplifications.{unassigned, is_gone_pair, lines_of_pairs, lines_of_clause, lines_of_clauses};
-ghost use Rattle.varisat_trace.specs.Traces.{LogsLines, CanTake};
+ghost use Rattle.varisat_steps.specs.Traces.{LogsLines, CanTake};
 
 use std::alloc::{AllocError, Allocator};
 use varisat_analysis::clause_literals::is_satisfied;
@@ -20,7 +20,7 @@ use varisat_clause::alloc::{ClauseAlloc, ClauseRef};
 use varisat_literals::Lit;
 use varisat_prop::binary::BinaryClauses;
 use varisat_prop::prop::{Assignment, ImplGraph};
-use varisat_trace::{ProofStep, ProofTracer, TraceError};
+use varisat_steps::{ProofStep, ProofTracer, TraceError};
 
 /// Adds each of the literals of which a clause is the reason to the proof, as a unit clause.
 pub fn trace_units<A: Allocator + Copy, P: ProofTracer>(

@@ -15,7 +15,7 @@ ghost use Rattle.varisat_search.specs.Progress.{ProvesTo};
 ghost use Rattle.varisat_search.specs.Seen.{search_of};
 ghost use Rattle.varisat_search.specs.RootSimplified.{CanSimplify};
 ghost use Rattle.varisat_search.specs.ProvedUnits.{units_in, implied_units, HaveUnits, ProvesUnits};
-ghost use Rattle.varisat_trace.specs.Traces.{TakesLines, BreaksOff, faults_of, CanTake, AdmitsFor};
+ghost use Rattle.varisat_steps.specs.Traces.{TakesLines, BreaksOff, faults_of, CanTake, AdmitsFor};
 ghost use Rattle.varisat_search.specs.Simplifications.{unassigned, with_shortened, with_pairs, IsSimplified, pair_lines, clause_lines, IsPairIn, IsLeftOpen, LeavesOpen, NotesWatches};
 
 use crate::context::Context;
@@ -28,7 +28,7 @@ use varisat_clause::filter::{ClauseFilter, filter_clauses};
 use varisat_literals::Lit;
 use varisat_prop::binary::BinaryClauses;
 use varisat_prop::prop::{Assignment, ImplGraph, Reason};
-use varisat_trace::{ProofTracer, TraceError};
+use varisat_steps::{ProofTracer, TraceError};
 
 /// Notes of the literals' variables that no clause is their reason.
 fn forget_reasons<A: Allocator + Copy>(impl_graph: &mut ImplGraph<A>, lits: &[Lit])

@@ -7,10 +7,10 @@ use Rattle.varisat_theory.specs.promises.Derivations.{Line, Add, Delete, Derives
 use Rattle.varisat_theory.specs.inside.StepLaws.{unit_lines}
 use Rattle.varisat_theory.specs.promises.Renaming.{rename_line}
 use Rattle.varisat_theory.specs.promises.Journals.{Entry, Writes, Fails, Leads, written}
-use Rattle.varisat_trace.specs.Traces.{CanTake, CanFail, faults_of}
-use Rattle.varisat_trace.proofs.Traced.{lines-lead}
-use Rattle.varisat_trace.specs.declared.tracer.TraceError.{TraceError}
-use Rattle.varisat_trace.specs.declared.tracer.TraceError.TheVariants.{Memory, Target}
+use Rattle.varisat_steps.specs.Traces.{CanTake, CanFail, faults_of}
+use Rattle.varisat_steps.proofs.Traced.{lines-lead}
+use Rattle.varisat_steps.specs.declared.tracer.TraceError.{TraceError}
+use Rattle.varisat_steps.specs.declared.tracer.TraceError.TheVariants.{Memory, Target}
 use Rattle.varisat_proof.specs.declared.proof.format.Encoding.{Encoding}
 use Rattle.varisat_proof.specs.promises.Calls.{CheckerState}
 use Rattle.varisat_proof.specs.promises.Lines.{ProofLine, encoding_of}

@@ -7,7 +7,7 @@ use Rattle.varisat_names.specs.promises.VarBiMap.{BiMap}
 use Rattle.varisat_names.specs.promises.VarMap.{at}
 use Rattle.varisat_names.specs.promises.Variables.{Tables}
 use Rattle.varisat_proof.specs.promises.Proving.{OpenState, ProofParts, is_there, IsBegunIf, IsLogged, MayBePresent, logged}
-use Rattle.varisat_trace.specs.Traces.{BreaksOff}
+use Rattle.varisat_steps.specs.Traces.{BreaksOff}
 use Rattle.varisat_tracer.specs.inside.Logged.{begun-none, begun-behind}
 use Rattle.varisat_tracer.specs.promises.Carried.{carry, logged_as}
 use Rattle.varisat_tracer.specs.inside.Tracing.{TracerState, OpenParts, open_parts, global_literal, Relies, TakesGlobally, BreaksGlobally, BreaksProof, CanLog}

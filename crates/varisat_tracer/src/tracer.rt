@@ -13,7 +13,7 @@ use varisat_formula::io::ProofTarget;
 use varisat_literals::{Lit, Var};
 use varisat_names::variables::LinkedVariables;
 use varisat_proof::proof::{Proof, add_assumptions, add_clause, add_step, delete_var};
-use varisat_trace::{ProofStep, ProofTracer, TraceError};
+use varisat_steps::{ProofStep, ProofTracer, TraceError};
 
 /// The global variable of a solver variable. Each that a search uses has one; for any other it is the first, which spares
 /// the callers a condition.

@@ -2,8 +2,8 @@
 use Rattle.std.specs.Prelude.{◌≡◌, ℕ, List, [], ◌∷◌}
 use Rattle.varisat_theory.specs.promises.Literals.{Literal, variable_of, literal_of}
 use Rattle.varisat_literals.specs.promises.Numbers.{polarity_of}
-use Rattle.varisat_trace.specs.declared.step.ProofStep.{ProofStep}
-use Rattle.varisat_trace.specs.declared.step.ProofStep.TheVariants.{AtClause, UnitClauses, DeleteClause, DeleteVar, FailedAssumptions}
+use Rattle.varisat_steps.specs.declared.step.ProofStep.{ProofStep}
+use Rattle.varisat_steps.specs.declared.step.ProofStep.TheVariants.{AtClause, UnitClauses, DeleteClause, DeleteVar, FailedAssumptions}
 
 -- the literal of the same sign whose variable is what the relation gives for this one's
 abbrev pub MapsLit : (ℕ → ℕ → Type 0) → Literal → Literal → Type 0

@@ -12,8 +12,8 @@ use Rattle.varisat_formula.specs.promises.Streams as streams
 use Rattle.varisat_formula.specs.promises.Streams.{Input, HasEnded}
 use Rattle.varisat_formula.specs.promises.Parsed.{GivesReading}
 use Rattle.varisat_proof.specs.declared.proof.format.ProofFormat.{ProofFormat}
-use Rattle.varisat_trace.specs.declared.step.ProofStep.{ProofStep}
-use Rattle.varisat_trace.specs.declared.step.ProofStep.TheVariants.{AtClause, UnitClauses, DeleteClause, DeleteVar, FailedAssumptions}
+use Rattle.varisat_steps.specs.declared.step.ProofStep.{ProofStep}
+use Rattle.varisat_steps.specs.declared.step.ProofStep.TheVariants.{AtClause, UnitClauses, DeleteClause, DeleteVar, FailedAssumptions}
 use Rattle.varisat_proof.specs.declared.proof.format.Encoding.TheVariants.{Text}
 use Rattle.varisat_proof.specs.declared.checker.error.CheckVerdict.{CheckVerdict}
 use Rattle.varisat_proof.specs.declared.checker.error.CheckVerdict.TheVariants.{Refutation}

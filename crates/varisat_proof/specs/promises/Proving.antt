@@ -4,8 +4,8 @@ use Rattle.varisat_theory.specs.promises.Literals.{Clause}
 use Rattle.varisat_theory.specs.promises.Held.{SameClauses}
 use Rattle.varisat_formula.specs.promises.Streams.{Taken}
 use Rattle.varisat_theory.specs.promises.Journals.{Entry}
-use Rattle.varisat_trace.specs.declared.tracer.TraceError.{TraceError}
-use Rattle.varisat_trace.specs.declared.tracer.TraceError.TheVariants.{Memory, Target}
+use Rattle.varisat_steps.specs.declared.tracer.TraceError.{TraceError}
+use Rattle.varisat_steps.specs.declared.tracer.TraceError.TheVariants.{Memory, Target}
 use Rattle.varisat_proof.specs.declared.proof.format.ProofFormat.{ProofFormat}
 use Rattle.varisat_proof.specs.promises.Calls.{CheckerState}
 use Rattle.varisat_proof.specs.inside.Present.{IsLeftAfter}

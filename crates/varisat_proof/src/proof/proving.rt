@@ -2,7 +2,7 @@
 ghost use Rattle.std.specs.Prelude.{◌≡◌, ℕ, List, [], ◌∷◌, ◌-◌, ◌<◌, ◌^◌, Option, None, Some, true, false, IfErr, OnOk, Ok, option_copied, is_some};
 ghost use Rattle.varisat_theory.specs.promises.Held.{SameClauses};
 ghost use Rattle.varisat_theory.specs.promises.Journals.{Accepts, Assumes, Retires};
-ghost use Rattle.varisat_trace.specs.Traces.{CanTakeStep, entries_of};
+ghost use Rattle.varisat_steps.specs.Traces.{CanTakeStep, entries_of};
 ghost use Rattle.varisat_proof.specs.declared.checker.error.CheckerError.TheVariants.{OutOfMemory};
 ghost use Rattle.varisat_proof.specs.declared.proof.format.LineKind.TheVariants as kinds;
 ghost use Rattle.varisat_proof.specs.promises.Lines.{line_of_kind};
@@ -19,7 +19,7 @@ use std::io;
 use std::marker::Model;
 use varisat_formula::io::ProofTarget;
 use varisat_literals::{Lit, Var};
-use varisat_trace::TraceError;
+use varisat_steps::TraceError;
 
 /// A proof that is being written.
 #[derive(Drop)]

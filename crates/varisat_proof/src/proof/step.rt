@@ -4,7 +4,7 @@ ghost use Rattle.varisat_proof.specs.inside.Mapping.{MapsLits, MapsStep};
 
 use std::alloc::{AllocError, Allocator};
 use varisat_literals::{Lit, Var};
-pub use varisat_trace::ProofStep;
+pub use varisat_steps::ProofStep;
 
 /// Renames the variables of steps. It holds the literals of the step that was mapped last.
 #[derive(Drop)]

@@ -7,7 +7,7 @@ ghost use Rattle.varisat_proof.specs.promises.Lines.{line_of_kind, plain_lines, 
 ghost use Rattle.varisat_proof.specs.promises.Written.{leb128, leb128_by, codes_bytes, mark_text, line_text, line_bytes, line_written};
 ghost use Rattle.varisat_proof.specs.promises.Steps.{step_lines, PutsLines};
 ghost use Rattle.varisat_theory.specs.inside.StepLaws.{unit_lines};
-ghost use Rattle.varisat_trace.specs.Traces.{entries_of};
+ghost use Rattle.varisat_steps.specs.Traces.{entries_of};
 ghost use Rattle.varisat_proof.specs.promises.Logging.{marked_line, logged_lines};
 
 use crate::proof::format::{Encoding, LineKind};

@@ -9,7 +9,7 @@ use Rattle.varisat_prop.specs.View.{View}
 use Rattle.varisat_prop.proofs.pairs.SimplifiedPairs.{filter-∈, ∈-filter}
 use Rattle.varisat_search.specs.Seen.{search_of, is_fixed, is_proved}
 use Rattle.varisat_search.proofs.stepping.StepWithoutLines.{unit_clauses, in_units, from_units}
-use Rattle.varisat_trace.specs.Traces.{AdmitsFor, AdmitsWith}
+use Rattle.varisat_steps.specs.Traces.{AdmitsFor, AdmitsWith}
 
 first-true : (a b : Bool) → (a && b) ≡ true → a ≡ true
 first-true true b e = refl

@@ -8,7 +8,7 @@ use Rattle.varisat_theory.specs.promises.Literals.{Literal, Clause, opposite, Is
 use Rattle.varisat_theory.specs.promises.Derivations.{Line, Delete}
 use Rattle.varisat_theory.specs.promises.Searches.{Search, IsTautology}
 use Rattle.varisat_theory.proofs.clauses.Held.{same_set-back}
-use Rattle.varisat_trace.specs.Traces.{CanTake, AdmitsWith}
+use Rattle.varisat_steps.specs.Traces.{CanTake, AdmitsWith}
 use Rattle.varisat_theory.specs.inside.Outcomes.{Outcome, Loads}
 use Rattle.varisat_clause.proofs.TierPlaces.{distinct-permutation, ∈-permutation}
 use Rattle.varisat_prop.specs.View.{View, IsTrueIn, WellFormed}

@@ -1,7 +1,7 @@
 -- A step is made over what comes before it: the root level is simplified, or propagation and decisions up to a conflict or to an end.
 use Rattle.std.proofs.Common.{◌≡◌, List, [], ◌++◌, ◌⊎◌, ⊎_elim, inl, inr, refl, ap, ◌∙◌, subst}
 use Rattle.varisat_theory.specs.promises.Literals.{Literal}
-use Rattle.varisat_trace.specs.Traces.{verdict_entries}
+use Rattle.varisat_steps.specs.Traces.{verdict_entries}
 use Rattle.varisat_theory.specs.promises.Derivations.{Line}
 use Rattle.varisat_theory.specs.inside.Outcomes.{Steps}
 use Rattle.varisat_prop.specs.View.{View, GrowsTrail}

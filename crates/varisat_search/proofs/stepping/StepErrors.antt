@@ -19,16 +19,16 @@ use Rattle.std.specs.Prelude.{Result, Ok, Err}
 use Rattle.std.specs.Result.{IsErr, IfErr, IsErrAnd}
 use Rattle.varisat_clause.specs.declared.alloc.StoreError.{StoreError}
 use Rattle.varisat_theory.specs.promises.Journals.{Entry}
-use Rattle.varisat_trace.specs.declared.tracer.TraceError.{TraceError}
-use Rattle.varisat_trace.specs.Traces.{BreaksOff, faults_of}
-use Rattle.varisat_trace.proofs.Broken.{passed-on}
+use Rattle.varisat_steps.specs.declared.tracer.TraceError.{TraceError}
+use Rattle.varisat_steps.specs.Traces.{BreaksOff, faults_of}
+use Rattle.varisat_steps.proofs.Broken.{passed-on}
 use Rattle.varisat_search.specs.declared.error.StepError.{StepError}
 use Rattle.varisat_search.specs.declared.context.Context.{Context}
 use Rattle.varisat_search.specs.StepErrors.{step_error_of_store, step_error_of_trace, step_faults, HasNoRoom, EndsStep}
 use Rattle.varisat_search.specs.Contexts.{KeepsSchedule}
 use Rattle.varisat_search.proofs.stepping.Frames.{schedule-through}
 use Rattle.varisat_clause.specs.declared.alloc.StoreError.TheVariants as store
-use Rattle.varisat_trace.specs.declared.tracer.TraceError.TheVariants as trace
+use Rattle.varisat_steps.specs.declared.tracer.TraceError.TheVariants as trace
 use Rattle.varisat_search.specs.declared.error.StepError.TheVariants as step
 
 -- The lines of `conflict_step`.

@@ -45,7 +45,7 @@ use Rattle.varisat_solver.specs.inside.Searches.{answer_at, Turn, ComesTo}
 use Rattle.varisat_solver.proofs.steps.BegunSteps.{begins-nothing}
 use Rattle.std.proofs.lemmas.List.{append-nil}
 use Rattle.varisat_theory.specs.promises.Journals.{Entry, Fails, written}
-use Rattle.varisat_trace.specs.Traces.{TakesStep}
+use Rattle.varisat_steps.specs.Traces.{TakesStep}
 use Rattle.varisat_solver.proofs.entries.LoggedProofs.{proof-logged}
 use Rattle.varisat_proof.specs.promises.Passing.{LogsConflict}
 use Rattle.varisat_solver.specs.promises.Journals.{with_entries, LogsMore}

@@ -25,7 +25,7 @@ use Rattle.varisat_search.specs.AssumptionParts.{AssumptionParts}
 use Rattle.varisat_search.specs.Seen.{search_of}
 use Rattle.varisat_search.specs.declared.state.SatState.{SatState}
 use Rattle.varisat_search.specs.declared.state.SatState.TheVariants as verdict
-use Rattle.varisat_trace.specs.Traces.{AdmitsFor}
+use Rattle.varisat_steps.specs.Traces.{AdmitsFor}
 use Rattle.varisat_tracer.specs.promises.Carried.{carry, logged_as}
 use Rattle.varisat_tracer.specs.inside.Tracing.{Relies, CanLog}
 use Rattle.varisat_solver.specs.inside.Searches.{ComesOn, Turn}

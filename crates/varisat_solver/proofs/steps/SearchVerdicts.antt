@@ -10,7 +10,7 @@ use Rattle.varisat_solver.specs.promises.Calls.{answer_of, reopened_verdict, ass
 use Rattle.varisat_theory.specs.promises.Membership.{◌∈◌}
 use Rattle.varisat_theory.specs.promises.Derivations.{Line}
 use Rattle.varisat_theory.specs.inside.Outcomes.{Steps}
-use Rattle.varisat_trace.specs.Traces.{TakesStep}
+use Rattle.varisat_steps.specs.Traces.{TakesStep}
 use Rattle.varisat_names.specs.promises.Maps.{chain}
 use Rattle.varisat_names.specs.promises.VarMap.{at}
 use Rattle.varisat_names.specs.promises.Variables.{Tables}

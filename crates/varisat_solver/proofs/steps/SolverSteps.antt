@@ -10,8 +10,8 @@ use Rattle.std.proofs.lemmas.List.{append-nil}
 use Rattle.varisat_theory.specs.promises.Membership.{◌∈◌}
 use Rattle.varisat_theory.proofs.steps.StepsMade.{none_made, one_more_made, part_made}
 use Rattle.varisat_theory.proofs.steps.StepParts.{parts_join}
-use Rattle.varisat_trace.specs.Traces.{TakesLines}
-use Rattle.varisat_trace.proofs.Traced.{step-lines}
+use Rattle.varisat_steps.specs.Traces.{TakesLines}
+use Rattle.varisat_steps.proofs.Traced.{step-lines}
 use Rattle.varisat_proof.specs.promises.Calls.{CheckerState}
 use Rattle.varisat_proof.specs.promises.Proving.{ProofParts}
 use Rattle.varisat_tracer.specs.inside.Logged.{logged-none, logged-more}

@@ -3,7 +3,7 @@ use Rattle.std.specs.Prelude.{◌≡◌, ℕ, ◌-◌, Bool, true, false, Option
 use Rattle.varisat_theory.specs.promises.Derivations.{Line}
 use Rattle.varisat_theory.specs.inside.Outcomes.{Steps}
 use Rattle.varisat_theory.specs.promises.Journals.{Entry}
-use Rattle.varisat_trace.specs.Traces.{TakesStep}
+use Rattle.varisat_steps.specs.Traces.{TakesStep}
 use Rattle.varisat_proof.specs.promises.Proving.{ProofParts, IsLogged}
 use Rattle.varisat_tracer.specs.inside.Tracing.{TracerState, TakesGlobally, CanLog}
 use Rattle.varisat_schedule.specs.CallSteps.{steps_since}

@@ -4,7 +4,7 @@ use Rattle.std.specs.List.Sorted.{IsNonDecreasingBy}
 use Rattle.varisat_theory.specs.promises.Literals.{Literal, Clause}
 use Rattle.varisat_theory.specs.promises.Renaming.{rename}
 use Rattle.varisat_theory.specs.promises.Journals.{Entry, Retires}
-use Rattle.varisat_trace.specs.declared.tracer.TraceError.{TraceError}
+use Rattle.varisat_steps.specs.declared.tracer.TraceError.{TraceError}
 use Rattle.varisat_names.specs.promises.VarMap.{at}
 use Rattle.varisat_names.specs.promises.VarData.{data_at}
 use Rattle.varisat_names.specs.promises.Variables.{Tables}

@@ -4,7 +4,7 @@ use Rattle.varisat_solver.specs.promises.States.{Ledger}
 use Rattle.varisat_solver.specs.promises.Summaries.{Represents}
 use Rattle.varisat.specs.promises.Decided.{concluded}
 use Rattle.varisat.specs.promises.Proven.{prepared, Fails, AsRead, AsClosed}
-use Rattle.varisat_trace.proofs.Broken.{passed-on}
+use Rattle.varisat_steps.proofs.Broken.{passed-on}
 use Rattle.varisat.proofs.ProgramProves.{fails-reported, finds-valid, proven}
 use Rattle.varisat_solver.proofs.entries.LoggedJournals.{proof-of}
 use Rattle.varisat.proofs.deciding.decide_in.Goals as goal

@@ -1,4 +1,4 @@
-use Rattle.varisat_trace.proofs.Broken.{passed-on}
+use Rattle.varisat_steps.proofs.Broken.{passed-on}
 use Rattle.varisat_proof.specs.promises.Verified.{FailsCheck, sources_of}
 use Rattle.varisat_proof.proofs.VerifiedTexts.{verifies_drat, fails_reading, fails_drat}
 use Rattle.varisat_proof.proofs.program.verify_drat_in.Goals as goal

@@ -1,5 +1,5 @@
 use Rattle.std.proofs.Common.{Ok, Err, [], subst, sym}
-use Rattle.varisat_trace.proofs.Broken.{passed-on}
+use Rattle.varisat_steps.proofs.Broken.{passed-on}
 use Rattle.varisat_proof.specs.promises.Verified.{FailsCheck, sources_of}
 use Rattle.varisat_proof.proofs.VerifiedTexts.{verifies_marked, marked_ok, marked_err, fails_reading, fails_marked}
 use Rattle.varisat_proof.proofs.program.verify_marked_in.Goals as goal

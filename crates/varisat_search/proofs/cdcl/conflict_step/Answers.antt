@@ -1,4 +1,4 @@
-use Rattle.varisat_trace.proofs.Broken.{breaks-on}
+use Rattle.varisat_steps.proofs.Broken.{breaks-on}
 use Rattle.varisat_search.proofs.stepping.StepErrors.{ends-unfilled, ends-after, trace-unfilled, trace-broken, step-passed}
 use Rattle.varisat_search.proofs.stepping.Frames.{schedule-through}
 use Rattle.varisat_search.specs.StepErrors.{step_error_of_trace}
@@ -13,8 +13,8 @@ use Rattle.varisat_search.specs.RootSimplified.{HasRootNews, KeepsFixed, Simplif
 use Rattle.varisat_search.specs.Contexts.{view, KeepsSchedule}
 use Rattle.varisat_search.specs.Seen.{search_of}
 use Rattle.varisat_search.proofs.stepping.MadeSteps.{made-are, made-with, no-core-entry, learned-no-core, made-settled, made-at-once}
-use Rattle.varisat_trace.specs.Traces.{TakesLines, TakesStep, AdmitsFor}
-use Rattle.varisat_trace.proofs.Traced.{step-lines, step-more, holds_on}
+use Rattle.varisat_steps.specs.Traces.{TakesLines, TakesStep, AdmitsFor}
+use Rattle.varisat_steps.proofs.Traced.{step-lines, step-more, holds_on}
 use Rattle.varisat_search.proofs.cdcl.conflict_step.Given.{Over}
 use Rattle.varisat_search.proofs.cdcl.conflict_step.Goals.{In_ok-simplify_root_if_news}
 use Rattle.varisat_search.proofs.cdcl.conflict_step.Goals as goal

@@ -1,4 +1,4 @@
-use Rattle.varisat_trace.proofs.Broken.{breaks-not}
+use Rattle.varisat_steps.proofs.Broken.{breaks-not}
 use Rattle.varisat_search.proofs.stepping.StepErrors.{ends-unfilled, ends-after, memory-unfilled, trace-unfilled, memory-broken, trace-broken, step-passed, model-steps}
 use Rattle.varisat_search.proofs.stepping.Frames.{schedule-through}
 use Rattle.varisat_search.specs.StepErrors.{step_error_of_trace}
@@ -15,12 +15,12 @@ use Rattle.varisat_search.specs.Progress.{AddOne, AddOneIfUnknown}
 use Rattle.varisat_search.proofs.assuming.AssumptionOutcomes.{error-is, core-steps, keeps-model, keeps-core}
 use Rattle.varisat_search.proofs.stepping.MadeSteps.{Finds, made-are, no-core-entry, learned-no-core, made-ended, made-learned}
 use Rattle.varisat_search.specs.Seen.{search_of, outcome_of}
-use Rattle.varisat_trace.proofs.Traced.{step-lines, holds_still}
+use Rattle.varisat_steps.proofs.Traced.{step-lines, holds_still}
 use Rattle.varisat_search.proofs.stepping.StepWithoutLines.{grows_prove}
 use Rattle.varisat_search.proofs.cdcl.find_and_learn.Given.{Over}
 use Rattle.varisat_search.proofs.cdcl.find_and_learn.Goals.{In_ok-find_conflict}
 use Rattle.varisat_search.proofs.cdcl.find_and_learn.Goals as goal
-use Rattle.varisat_trace.specs.Traces.{TakesLines, TakesStep, AdmitsFor}
+use Rattle.varisat_steps.specs.Traces.{TakesLines, TakesStep, AdmitsFor}
 
 finds : (g : Over) (c : In_ok-find_conflict g) → Finds c.args.ctx.now c.find_conflict.new.ctx
 finds g c =

@@ -1,4 +1,4 @@
-use Rattle.varisat_trace.proofs.Broken.{breaks-on, breaks-not}
+use Rattle.varisat_steps.proofs.Broken.{breaks-on, breaks-not}
 use Rattle.varisat_search.proofs.stepping.StepErrors.{memory-broken, trace-broken, store-broken, if-full, ends-unfilled, memory-unfilled, trace-unfilled}
 use Rattle.std.proofs.Common.{◌≡◌, List, [], ◌∷◌, ◌++◌, refl, sym, ap, ◌∙◌, subst, length, arith}
 use Rattle.varisat_theory.specs.promises.Literals.{Literal, Clause}
@@ -26,7 +26,7 @@ use Rattle.varisat_search.proofs.learning.LearnContext.{analysis-ready, analysis
 use Rattle.varisat_search.proofs.cdcl.learn_from_conflict.Given.{Over}
 use Rattle.varisat_search.proofs.cdcl.learn_from_conflict.Goals.{After-backtrack, In_ok-reason, In_ok-enqueue_assignment}
 use Rattle.varisat_search.proofs.cdcl.learn_from_conflict.Goals as goal
-use Rattle.varisat_trace.specs.Traces.{TakesLines}
+use Rattle.varisat_steps.specs.Traces.{TakesLines}
 
 pub bump_involved-requires-clause-ready : goal.bump_involved-requires-clause-ready
 bump_involved-requires-clause-ready g c = analysis-ready c.analyze.ensures.frame c.requires.ready

@@ -1,5 +1,5 @@
-use Rattle.varisat_trace.proofs.Broken.{error-broken, breaks-on, breaks-not}
-use Rattle.varisat_trace.specs.declared.tracer.TraceError.TheVariants.{Memory}
+use Rattle.varisat_steps.proofs.Broken.{error-broken, breaks-on, breaks-not}
+use Rattle.varisat_steps.specs.declared.tracer.TraceError.TheVariants.{Memory}
 use Rattle.std.proofs.Common.{◌≡◌, Ok, Err, MatchResult, List, [], ◌++◌, length, refl, sym, ap, ap₂, ◌∙◌, subst}
 use Rattle.varisat_theory.specs.promises.Propagation.{IsComplete}
 use Rattle.varisat_theory.specs.inside.Outcomes.{Proves}
@@ -13,8 +13,8 @@ use Rattle.varisat_search.specs.Seen.{search_of}
 use Rattle.varisat_theory.specs.promises.Derivations.{Line}
 use Rattle.varisat_search.specs.RootSimplified.{SimplifiesRoot}
 use Rattle.varisat_search.specs.Simplifications.{pair_lines, clause_lines}
-use Rattle.varisat_trace.specs.Traces.{TakesLines, AdmitsFor}
-use Rattle.varisat_trace.proofs.Traced.{lines-more, holds_on, holds_still}
+use Rattle.varisat_steps.specs.Traces.{TakesLines, AdmitsFor}
+use Rattle.varisat_steps.proofs.Traced.{lines-more, holds_on, holds_still}
 use Rattle.varisat_search.proofs.stepping.StepWithoutLines.{grows_prove}
 use Rattle.varisat_search.proofs.stepping.FixedLiterals.{none-was-conflicting}
 use Rattle.varisat_search.proofs.stepping.PropagatedContext.{propagated-ready}

@@ -1,9 +1,9 @@
-use Rattle.varisat_trace.proofs.Broken.{error-broken}
+use Rattle.varisat_steps.proofs.Broken.{error-broken}
 use Rattle.std.proofs.lemmas.Grind.{common_steps}
 use Rattle.std.proofs.Common.{◌≡◌, List, [], Ok, length, ap, refl, arith}
 use Rattle.varisat_search.specs.Contexts.{view}
 use Rattle.varisat_theory.specs.promises.Derivations.{Line}
-use Rattle.varisat_trace.specs.Traces.{TakesLines}
+use Rattle.varisat_steps.specs.Traces.{TakesLines}
 use Rattle.varisat_search.specs.RootSimplified.{HasRootNews, SimplifiesRoot}
 use Rattle.varisat_search.proofs.stepping.FixedLiterals.{ready-complete, none-conflicting}
 use Rattle.varisat_search.proofs.simplifying.RootSimplified.{goes-refl, goes-are}

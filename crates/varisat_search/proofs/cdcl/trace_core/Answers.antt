@@ -1,4 +1,4 @@
-use Rattle.varisat_trace.proofs.Broken.{error-broken, breaks-in}
+use Rattle.varisat_steps.proofs.Broken.{error-broken, breaks-in}
 use Rattle.varisat_search.proofs.cdcl.trace_core.Goals as goal
 
 pub returns-in_err-add_step-clause-broken : goal.returns-in_err-add_step-clause-broken

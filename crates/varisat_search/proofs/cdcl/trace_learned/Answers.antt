@@ -1,8 +1,8 @@
 use Rattle.std.proofs.Common.{[], ◌∷◌, sym, subst}
 use Rattle.varisat_theory.specs.promises.Literals.{Clause}
 use Rattle.varisat_theory.specs.promises.Derivations.{Add}
-use Rattle.varisat_trace.specs.Traces.{TakesLines, CanTake}
-use Rattle.varisat_trace.proofs.Broken.{lines-broken, breaks-in}
+use Rattle.varisat_steps.specs.Traces.{TakesLines, CanTake}
+use Rattle.varisat_steps.proofs.Broken.{lines-broken, breaks-in}
 use Rattle.varisat_search.proofs.cdcl.trace_learned.Goals as goal
 
 pub returns-in_err-add_step : goal.returns-in_err-add_step

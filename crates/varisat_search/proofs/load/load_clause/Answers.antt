@@ -8,7 +8,7 @@ use Rattle.varisat_search.specs.Contexts.{view, KeepsSchedule}
 use Rattle.varisat_search.specs.Loading.{IsAdded, LoadsUnit}
 use Rattle.varisat_search.proofs.loading.LoadView.{restarted-kept, Restarted, restarted}
 use Rattle.varisat_search.proofs.loading.LoadContext.{Loading, loading-restarted, Loaded, loading-other, loading-propagated, loading-inside, loaded-tautology, loaded-satisfied, loaded-deleted, loaded-added}
-use Rattle.varisat_trace.proofs.Broken.{breaks-not}
+use Rattle.varisat_steps.proofs.Broken.{breaks-not}
 use Rattle.varisat_search.proofs.stepping.StepErrors.{ends-unfilled, memory-unfilled, trace-unfilled, memory-broken, trace-broken, store-broken, if-full}
 use Rattle.varisat_search.proofs.stepping.Frames.{schedule-through}
 use Rattle.varisat_search.specs.StepErrors.{step_error_of_trace}
@@ -22,7 +22,7 @@ use Rattle.varisat_search.proofs.loading.ClauseLengths.{clause-short}
 use Rattle.varisat_search.proofs.loading.LoadedTrue.{can-delete-loaded}
 use Rattle.varisat_search.specs.Seen.{search_of}
 use Rattle.varisat_theory.specs.promises.Derivations.{Line}
-use Rattle.varisat_trace.specs.Traces.{TakesLines}
+use Rattle.varisat_steps.specs.Traces.{TakesLines}
 use Rattle.varisat_search.proofs.load.load_clause.Given.{Over}
 use Rattle.varisat_search.proofs.load.load_clause.Goals.{After-full_restart, After-collect_distinct, In_ok-collect_distinct, In_ok-trace_satisfied}
 use Rattle.varisat_search.proofs.load.load_clause.Goals as goal

@@ -1,4 +1,4 @@
-use Rattle.varisat_trace.proofs.Broken.{error-broken, breaks-in}
+use Rattle.varisat_steps.proofs.Broken.{error-broken, breaks-in}
 use Rattle.varisat_search.proofs.loading.LoadedTrue.{permuted-delete}
 use Rattle.varisat_search.proofs.load.trace_satisfied.Goals as goal
 

@@ -1,10 +1,10 @@
-use Rattle.varisat_trace.proofs.Broken.{error-broken, breaks-not}
-use Rattle.varisat_trace.specs.declared.tracer.TraceError.TheVariants.{Memory}
+use Rattle.varisat_steps.proofs.Broken.{error-broken, breaks-not}
+use Rattle.varisat_steps.specs.declared.tracer.TraceError.TheVariants.{Memory}
 use Rattle.std.proofs.Common.{◌≡◌, ◌/◌, ℕ, List, length, refl, sym, ap, ◌∙◌, subst, arith, ◌≢◌, Bool, true, false, not, nat_eq, cond, [], ◌∷◌, ◌++◌, map, inl, inr, ⊎_elim, append_assoc, zero, suc, ◌&&◌}
 use Rattle.varisat_theory.specs.promises.Derivations.{Line, Delete}
 use Rattle.varisat_clause.specs.declared.header.Tier.TheVariants.{Local}
 use Rattle.varisat_clause.specs.Stores.{stored_clauses, HoldsClauses, Store, IsSound}
-use Rattle.varisat_trace.proofs.Traced.{can_take}
+use Rattle.varisat_steps.proofs.Traced.{can_take}
 use Rattle.varisat_search.specs.Seen.{search_of, kept_pair}
 use Rattle.varisat_search.specs.Deletions.{unmarked_deletions, deletion_lines}
 use Rattle.varisat_search.specs.declared.context.Context.{Context}
@@ -18,7 +18,7 @@ use Rattle.varisat_search.proofs.stepping.DueReductions.{discards-keep}
 use Rattle.varisat_search.proofs.stepping.ReadyAfter.{first-known, discards-ready}
 use Rattle.varisat_search.proofs.reduce.reduce_locals.Given.{Over}
 use Rattle.varisat_search.proofs.reduce.reduce_locals.Goals.{After-delete_unmarked, After-count}
-use Rattle.varisat_trace.specs.Traces.{TakesLines}
+use Rattle.varisat_steps.specs.Traces.{TakesLines}
 use Rattle.std.specs.List.{filter}
 use Rattle.varisat_theory.specs.promises.Membership.{◌∈◌, IsDistinct}
 use Rattle.varisat_theory.specs.promises.Searches.{KeptClause, Search}

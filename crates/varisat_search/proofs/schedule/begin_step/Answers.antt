@@ -1,12 +1,12 @@
-use Rattle.varisat_trace.proofs.Broken.{error-broken}
+use Rattle.varisat_steps.proofs.Broken.{error-broken}
 use Rattle.std.proofs.Common.{refl, sym, ap, subst}
 use Rattle.varisat_search.specs.declared.context.Context.{Context}
 use Rattle.varisat_search.specs.Contexts.{view}
 use Rattle.varisat_search.specs.Frames.{ChangesRestarted}
 use Rattle.varisat_search.specs.Seen.{search_of}
 use Rattle.varisat_search.proofs.stepping.RestartSteps.{begun-view}
-use Rattle.varisat_trace.specs.Traces.{AdmitsFor}
-use Rattle.varisat_trace.proofs.Traced.{holds_on, holds_still}
+use Rattle.varisat_steps.specs.Traces.{AdmitsFor}
+use Rattle.varisat_steps.proofs.Traced.{holds_on, holds_still}
 use Rattle.varisat_search.proofs.schedule.begin_step.Given.{Over}
 use Rattle.varisat_search.proofs.schedule.begin_step.Goals.{After-restart_if_due}
 use Rattle.varisat_search.proofs.schedule.begin_step.Goals as goal

@@ -1,5 +1,5 @@
-use Rattle.varisat_trace.proofs.Broken.{error-broken, breaks-on, breaks-not}
-use Rattle.varisat_trace.specs.declared.tracer.TraceError.TheVariants.{Memory}
+use Rattle.varisat_steps.proofs.Broken.{error-broken, breaks-on, breaks-not}
+use Rattle.varisat_steps.specs.declared.tracer.TraceError.TheVariants.{Memory}
 use Rattle.std.proofs.Common.{◌≡◌, ◌*◌, List, [], ◌++◌, length, ⊎_elim, sym, ap, ◌∙◌, subst}
 use Rattle.varisat_theory.specs.promises.Derivations.{Line}
 use Rattle.varisat_prop.proofs.views.ViewGrowth.{append-nil}
@@ -10,7 +10,7 @@ use Rattle.varisat_search.specs.declared.context.Context.{Context}
 use Rattle.varisat_search.specs.DueReductions.{ReducesIfDue}
 use Rattle.varisat_search.proofs.stepping.DueReductions.{repacks-keep, keeps-are, keeps-same, keeps-trans}
 use Rattle.varisat_search.proofs.schedule.reduce_if_due.Goals as goal
-use Rattle.varisat_trace.specs.Traces.{TakesLines}
+use Rattle.varisat_steps.specs.Traces.{TakesLines}
 
 nothing : {X : Type 0} (P : List X → Type 0) (first more : List X) → P first → more ≡ [] → P (first ++ more)
 nothing P first more h e = subst P (sym (ap (λ xs. first ++ xs) e ∙ append-nil first)) h

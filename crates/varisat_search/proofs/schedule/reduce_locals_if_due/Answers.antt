@@ -1,6 +1,6 @@
-use Rattle.varisat_trace.proofs.Broken.{error-broken}
+use Rattle.varisat_steps.proofs.Broken.{error-broken}
 use Rattle.std.proofs.Common.{refl}
-use Rattle.varisat_trace.specs.Traces.{TakesLines}
+use Rattle.varisat_steps.specs.Traces.{TakesLines}
 use Rattle.varisat_search.specs.DueReductions.{ReducesLocalsIfDue}
 use Rattle.varisat_search.proofs.stepping.DueReductions.{keeps-are, keeps-none, keeps-refl}
 use Rattle.varisat_search.proofs.schedule.reduce_locals_if_due.Goals as goal

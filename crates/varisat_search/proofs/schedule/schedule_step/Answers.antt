@@ -17,15 +17,15 @@ use Rattle.varisat_search.proofs.assuming.AssumptionSteps.{keeps-after-part}
 use Rattle.varisat_search.proofs.variables.DecidableVariables.{same-trans}
 use Rattle.varisat_search.proofs.stepping.DueReductions.{rises-over, keeps-are}
 use Rattle.varisat_search.proofs.stepping.RestartSteps.{begun-view, begun-steps, begun-rises}
-use Rattle.varisat_trace.proofs.Broken.{breaks-on}
+use Rattle.varisat_steps.proofs.Broken.{breaks-on}
 use Rattle.varisat_search.proofs.stepping.StepErrors.{trace-broken, step-passed}
 use Rattle.varisat_schedule.specs.Plans.{Plan, step_begun}
 use Rattle.varisat_theory.specs.inside.Luby.{luby, saturated}
 use Rattle.varisat_search.specs.Progress.{outcome_at}
 use Rattle.varisat_search.specs.RootSimplified.{SimplifiesThenSteps, SimplifiesRootFirst, LearnsAlone}
 use Rattle.varisat_search.proofs.stepping.MadeSteps.{made-with}
-use Rattle.varisat_trace.specs.Traces.{TakesLines, TakesStep}
-use Rattle.varisat_trace.proofs.Traced.{step-more}
+use Rattle.varisat_steps.specs.Traces.{TakesLines, TakesStep}
+use Rattle.varisat_steps.proofs.Traced.{step-more}
 use Rattle.varisat_search.proofs.schedule.schedule_step.Goals as goal
 
 -- A step that begins with a restart and goes on with reductions, each where it is due: x is before it, t after the restart, u after the reductions.

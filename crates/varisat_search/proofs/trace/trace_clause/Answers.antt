@@ -1,10 +1,10 @@
-use Rattle.varisat_trace.proofs.Broken.{lines-broken, breaks-on, breaks-in, breaks-not}
-use Rattle.varisat_trace.specs.declared.tracer.TraceError.TheVariants.{Memory}
+use Rattle.varisat_steps.proofs.Broken.{lines-broken, breaks-on, breaks-in, breaks-not}
+use Rattle.varisat_steps.specs.declared.tracer.TraceError.TheVariants.{Memory}
 use Rattle.std.proofs.Common.{◌≡◌, ◌<◌, false, List, [], ◌∷◌, length, refl, sym, ap, ◌∙◌, subst, arith}
 use Rattle.varisat_theory.specs.promises.Literals.{Clause}
 use Rattle.varisat_theory.specs.promises.Derivations.{Line, Add, Delete}
-use Rattle.varisat_trace.specs.Traces.{TakesLines, CanTake}
-use Rattle.varisat_trace.proofs.Traced.{lines-more, can_take_first, can_take_rest}
+use Rattle.varisat_steps.specs.Traces.{TakesLines, CanTake}
+use Rattle.varisat_steps.proofs.Traced.{lines-more, can_take_first, can_take_rest}
 use Rattle.varisat_search.specs.Simplifications.{has_true, lines_of_clause}
 use Rattle.varisat_search.proofs.simplifying.FilteredUnits.{satisfied-read, unsatisfied-read}
 use Rattle.varisat_search.proofs.simplifying.TracedClauses.{lines-satisfied, lines-shorter, lines-same}

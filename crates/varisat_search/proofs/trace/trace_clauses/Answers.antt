@@ -1,5 +1,5 @@
 use Rattle.varisat_clause.specs.Collected.{live_clauses}
-use Rattle.varisat_trace.proofs.Broken.{lines-broken, breaks-on}
+use Rattle.varisat_steps.proofs.Broken.{lines-broken, breaks-on}
 use Rattle.std.proofs.Common.{◌≡◌, ◌<◌, cond, List, [], length, get_or, sym, ap, ◌∙◌, subst, arith}
 use Rattle.varisat_theory.specs.promises.Membership.{◌∈◌}
 use Rattle.varisat_theory.specs.promises.Literals.{Clause}
@@ -9,8 +9,8 @@ use Rattle.varisat_clause.specs.Stored.{StoredClause, stored_at}
 use Rattle.varisat_clause.specs.Stores.{stored_clauses}
 use Rattle.varisat_clause.proofs.CollectedClauses.{length-places}
 use Rattle.varisat_clause.proofs.StoredClauses.{stored-∈}
-use Rattle.varisat_trace.specs.Traces.{TakesLines, CanTake}
-use Rattle.varisat_trace.proofs.TracedLists.{traces-none, traces-able, traces-next, traces-over, traces-all}
+use Rattle.varisat_steps.specs.Traces.{TakesLines, CanTake}
+use Rattle.varisat_steps.proofs.TracedLists.{traces-none, traces-able, traces-next, traces-over, traces-all}
 use Rattle.varisat_search.specs.Simplifications.{lines_of_clause, lines_of_clauses}
 use Rattle.varisat_search.proofs.simplifying.TracedClauses.{stored_lines, each-clause, place-read, live-literals-∈}
 use Rattle.varisat_search.proofs.trace.trace_clauses.Given.{Over}

@@ -1,5 +1,5 @@
 use Rattle.varisat_clause.specs.Stores.{stored_clauses}
-use Rattle.varisat_trace.proofs.TracedLists.{TracesTo}
+use Rattle.varisat_steps.proofs.TracedLists.{TracesTo}
 use Rattle.varisat_search.proofs.simplifying.TracedClauses.{stored_lines}
 use Rattle.varisat_search.proofs.trace.trace_clauses.Given as goal
 

@@ -3,13 +3,13 @@ use Rattle.varisat_clause.specs.Stored.{StoredClause, header_at}
 use Rattle.varisat_clause.specs.Reductions.{unmarked_places}
 use Rattle.varisat_clause.proofs.LocalReduction.{drop-place, element}
 use Rattle.std.proofs.lemmas.Grind.{common_steps}
-use Rattle.varisat_trace.proofs.Broken.{lines-broken, breaks-on, breaks-in}
+use Rattle.varisat_steps.proofs.Broken.{lines-broken, breaks-on, breaks-in}
 use Rattle.varisat_theory.specs.promises.Literals.{Clause}
 use Rattle.varisat_theory.specs.promises.Derivations.{Line, Delete}
 use Rattle.varisat_clause.specs.Headers.{Header}
 use Rattle.varisat_clause.specs.Stores.{stored_clauses}
 use Rattle.varisat_prop.proofs.views.ReadElements.{item-∈}
-use Rattle.varisat_trace.proofs.TracedParts.{TracesPart, part-same, part-able, part-next}
+use Rattle.varisat_steps.proofs.TracedParts.{TracesPart, part-same, part-able, part-next}
 use Rattle.varisat_search.specs.Deletions.{deletion_lines, unmarked_deletions}
 use Rattle.varisat_search.proofs.trace.trace_deletions.Given.{Over}
 use Rattle.varisat_search.proofs.trace.trace_deletions.Goals.{After-lits}

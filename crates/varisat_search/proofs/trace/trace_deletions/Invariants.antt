@@ -1,7 +1,7 @@
 use Rattle.std.proofs.Common.{drop}
 use Rattle.varisat_clause.specs.Stores.{stored_clauses}
 use Rattle.varisat_clause.specs.Reductions.{unmarked_places}
-use Rattle.varisat_trace.proofs.TracedParts.{TracesPart}
+use Rattle.varisat_steps.proofs.TracedParts.{TracesPart}
 use Rattle.varisat_search.specs.Deletions.{deletion_lines}
 use Rattle.varisat_search.proofs.trace.trace_deletions.Given as goal
 

@@ -1,10 +1,10 @@
-use Rattle.varisat_trace.proofs.Broken.{lines-broken, breaks-on}
+use Rattle.varisat_steps.proofs.Broken.{lines-broken, breaks-on}
 use Rattle.std.proofs.Common.{◌≡◌, ◌<◌, ℕ, List, [], length, get_or, sym, ap, ◌∙◌, subst, arith}
 use Rattle.varisat_theory.specs.promises.Literals.{Literal, opposite}
 use Rattle.varisat_theory.specs.promises.Derivations.{Line}
 use Rattle.varisat_prop.specs.View.{pairs_with, pairs_from}
-use Rattle.varisat_trace.specs.Traces.{TakesLines, CanTake}
-use Rattle.varisat_trace.proofs.TracedLists.{traces-none, traces-able, traces-next, traces-all}
+use Rattle.varisat_steps.specs.Traces.{TakesLines, CanTake}
+use Rattle.varisat_steps.proofs.TracedLists.{traces-none, traces-able, traces-next, traces-all}
 use Rattle.varisat_search.specs.Simplifications.{lines_of_pairs}
 use Rattle.varisat_search.proofs.simplifying.TracedClauses.{list_lines, numbered, numbered-at, numbered-count, each-list}
 use Rattle.varisat_search.proofs.trace.trace_each_pair.Given.{Over}

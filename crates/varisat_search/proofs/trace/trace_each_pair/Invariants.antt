@@ -1,4 +1,4 @@
-use Rattle.varisat_trace.proofs.TracedLists.{TracesTo}
+use Rattle.varisat_steps.proofs.TracedLists.{TracesTo}
 use Rattle.varisat_search.proofs.simplifying.TracedClauses.{list_lines, numbered}
 use Rattle.varisat_search.proofs.trace.trace_each_pair.Given as goal
 

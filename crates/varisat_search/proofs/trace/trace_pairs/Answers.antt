@@ -1,7 +1,7 @@
-use Rattle.varisat_trace.proofs.Broken.{lines-broken}
+use Rattle.varisat_steps.proofs.Broken.{lines-broken}
 use Rattle.std.proofs.Common.{sym, subst}
 use Rattle.varisat_prop.specs.View.{pairs_from}
-use Rattle.varisat_trace.specs.Traces.{TakesLines, CanTake}
+use Rattle.varisat_steps.specs.Traces.{TakesLines, CanTake}
 use Rattle.varisat_search.specs.Simplifications.{lines_of_pairs}
 use Rattle.varisat_search.proofs.trace.trace_pairs.Goals as goal
 

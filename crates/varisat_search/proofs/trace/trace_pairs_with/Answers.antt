@@ -1,10 +1,10 @@
 use Rattle.varisat_prop.specs.View.{pairs_with}
 use Rattle.varisat_search.specs.Simplifications.{lines_of_pairs}
-use Rattle.varisat_trace.proofs.Broken.{lines-broken, breaks-on, breaks-in}
+use Rattle.varisat_steps.proofs.Broken.{lines-broken, breaks-on, breaks-in}
 use Rattle.std.proofs.Common.{cond, List, [], ◌∷◌, sym, ap, ◌∙◌, subst}
 use Rattle.varisat_theory.specs.promises.Derivations.{Line, Delete}
-use Rattle.varisat_trace.specs.Traces.{TakesLines, CanTake}
-use Rattle.varisat_trace.proofs.TracedLists.{traces-none, traces-able, traces-next, traces-over, traces-all}
+use Rattle.varisat_steps.specs.Traces.{TakesLines, CanTake}
+use Rattle.varisat_steps.proofs.TracedLists.{traces-none, traces-able, traces-next, traces-over, traces-all}
 use Rattle.varisat_search.proofs.simplifying.TracedClauses.{pair_line, each-pair}
 use Rattle.varisat_search.proofs.trace.trace_pairs_with.Goals as goal
 

@@ -1,6 +1,6 @@
 use Rattle.varisat_clause.specs.Collected.{live_clauses}
 use Rattle.varisat_search.specs.Simplifications.{lines_of_clauses}
-use Rattle.varisat_trace.proofs.Broken.{lines-broken}
+use Rattle.varisat_steps.proofs.Broken.{lines-broken}
 use Rattle.varisat_search.proofs.trace.trace_stored.Goals as goal
 
 pub returns-in_err-trace_clauses : goal.returns-in_err-trace_clauses

@@ -1,11 +1,11 @@
 use Rattle.varisat_theory.specs.inside.StepLaws.{unit_lines}
 use Rattle.varisat_search.specs.ProvedUnits.{units_in}
-use Rattle.varisat_trace.proofs.Broken.{lines-broken, breaks-on, breaks-in}
+use Rattle.varisat_steps.proofs.Broken.{lines-broken, breaks-on, breaks-in}
 use Rattle.std.proofs.Common.{List, refl, sym, subst, arith}
 use Rattle.varisat_theory.specs.promises.Derivations.{Line}
 use Rattle.varisat_prop.proofs.views.ReadElements.{item-∈}
-use Rattle.varisat_trace.specs.Traces.{TakesLines, CanTake}
-use Rattle.varisat_trace.proofs.TracedLists.{traces-none, traces-able, traces-next, traces-over, traces-all}
+use Rattle.varisat_steps.specs.Traces.{TakesLines, CanTake}
+use Rattle.varisat_steps.proofs.TracedLists.{traces-none, traces-able, traces-next, traces-over, traces-all}
 use Rattle.varisat_search.proofs.simplifying.TracedClauses.{unit_line, line-none, line-one, each-unit}
 use Rattle.varisat_search.proofs.trace.trace_units.Goals as goal
 

@@ -1,4 +1,4 @@
-use Rattle.varisat_trace.proofs.TracedLists.{TracesTo}
+use Rattle.varisat_steps.proofs.TracedLists.{TracesTo}
 use Rattle.varisat_search.proofs.simplifying.TracedClauses.{unit_line}
 use Rattle.varisat_search.proofs.trace.trace_units.Given as goal
 

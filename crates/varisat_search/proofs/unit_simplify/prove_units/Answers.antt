@@ -1,4 +1,4 @@
-use Rattle.varisat_trace.proofs.Broken.{error-broken}
+use Rattle.varisat_steps.proofs.Broken.{error-broken}
 use Rattle.std.proofs.lemmas.Grind.{common_steps}
 use Rattle.std.proofs.Common.{◌<◌, List, length, refl, sym, subst, arith, ◌≡◌, ℕ, zero, suc, Bool, true, false, not, [], ◌∷◌, ◌++◌, get_or, inl, inr, ⊎_elim, ap, ◌∙◌, length-append}
 use Rattle.varisat_theory.specs.promises.Membership.{◌∈◌}
@@ -10,8 +10,8 @@ use Rattle.varisat_search.specs.Contexts.{view}
 use Rattle.varisat_search.specs.Seen.{search_of}
 use Rattle.varisat_search.specs.ProvedUnits.{HaveUnits, ProvesUnits, implied_units, units_in}
 use Rattle.varisat_search.proofs.simplifying.ProvedUnits.{none-left, units-ready, level-zero, unit-node, zero-level, units-well}
-use Rattle.varisat_trace.specs.Traces.{TakesLines, CanTake}
-use Rattle.varisat_trace.proofs.Traced.{can_take}
+use Rattle.varisat_steps.specs.Traces.{TakesLines, CanTake}
+use Rattle.varisat_steps.proofs.Traced.{can_take}
 use Rattle.varisat_analysis.proofs.WellFormedViews.{inside-at, reason-kept, reason-first, reason-before}
 use Rattle.varisat_search.proofs.unit_simplify.prove_units.Given.{Over}
 use Rattle.varisat_search.proofs.unit_simplify.prove_units.Goals.{After-forget_reasons}

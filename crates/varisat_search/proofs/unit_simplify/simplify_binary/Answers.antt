@@ -1,6 +1,6 @@
-use Rattle.varisat_trace.proofs.Broken.{error-broken}
+use Rattle.varisat_steps.proofs.Broken.{error-broken}
 use Rattle.std.proofs.Common.{refl, arith}
-use Rattle.varisat_trace.proofs.Traced.{can_take}
+use Rattle.varisat_steps.proofs.Traced.{can_take}
 use Rattle.varisat_search.specs.Contexts.{view}
 use Rattle.varisat_search.specs.Seen.{search_of}
 use Rattle.varisat_search.specs.Simplifications.{pair_lines}

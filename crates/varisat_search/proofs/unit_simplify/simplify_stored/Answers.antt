@@ -1,5 +1,5 @@
-use Rattle.varisat_trace.proofs.Broken.{error-broken, breaks-on, breaks-not}
-use Rattle.varisat_trace.specs.declared.tracer.TraceError.TheVariants.{Memory}
+use Rattle.varisat_steps.proofs.Broken.{error-broken, breaks-on, breaks-not}
+use Rattle.varisat_steps.specs.declared.tracer.TraceError.TheVariants.{Memory}
 use Rattle.std.proofs.Common.{◌≡◌, ℕ, ◌<◌, ◌++◌, Bool, true, false, Option, List, length, get_or, ⊎_elim, refl, sym, ap, ◌∙◌, subst, arith}
 use Rattle.std.proofs.lemmas.List.Sorted.{IsPermutation-sym}
 use Rattle.varisat_theory.specs.promises.Membership.{◌∈◌}
@@ -23,7 +23,7 @@ use Rattle.varisat_search.specs.Simplifications.{clause_lines, left_long, left_p
 use Rattle.varisat_search.proofs.simplifying.FilteredUnits.{filtered-left, filtered-noted, filtered-place}
 use Rattle.varisat_theory.proofs.clauses.Members.{∈-append_left}
 use Rattle.varisat_prop.specs.View.{pairs_from, clause_at}
-use Rattle.varisat_trace.proofs.Traced.{can_take}
+use Rattle.varisat_steps.proofs.Traced.{can_take}
 use Rattle.varisat_search.specs.Seen.{search_of}
 use Rattle.varisat_search.proofs.simplifying.SimplifiedBinary.{stored-prove, without-pair-lines}
 use Rattle.varisat_search.proofs.simplifying.SimplifiedSearch.{IsAtUnits}

@@ -1,10 +1,10 @@
-use Rattle.varisat_trace.proofs.Broken.{error-broken, breaks-on}
+use Rattle.varisat_steps.proofs.Broken.{error-broken, breaks-on}
 use Rattle.std.proofs.Common.{◌≡◌, List, ap, ◌∙◌, subst}
 use Rattle.varisat_theory.specs.promises.Derivations.{Line}
 use Rattle.varisat_theory.specs.inside.Outcomes.{Proves}
 use Rattle.varisat_theory.proofs.steps.StepParts.{parts_join}
-use Rattle.varisat_trace.specs.Traces.{TakesLines}
-use Rattle.varisat_trace.proofs.Traced.{lines-more, holds_on}
+use Rattle.varisat_steps.specs.Traces.{TakesLines}
+use Rattle.varisat_steps.proofs.Traced.{lines-more, holds_on}
 use Rattle.varisat_search.specs.declared.context.Context.{Context}
 use Rattle.varisat_search.specs.Contexts.{view}
 use Rattle.varisat_search.specs.Frames.{ChangesSimplified}

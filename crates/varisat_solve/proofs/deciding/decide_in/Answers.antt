@@ -4,7 +4,7 @@ use Rattle.varisat_solver.specs.promises.States.{Ledger}
 use Rattle.varisat_solver.specs.promises.Summaries.{Represents}
 use Rattle.varisat.specs.promises.Decided.{concluded}
 use Rattle.varisat.specs.promises.Proven.{prepared}
-use Rattle.varisat_trace.proofs.Broken.{passed-on}
+use Rattle.varisat_steps.proofs.Broken.{passed-on}
 use Rattle.varisat.proofs.ProgramProves.{finds-valid}
 use Rattle.varisat_solver.proofs.entries.LoggedJournals.{proof-of}
 use Rattle.varisat_solve.specs.promises.Solving.{FailsOver, AsAdded, AsClosed}

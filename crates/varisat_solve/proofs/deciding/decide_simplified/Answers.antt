@@ -1,5 +1,5 @@
 -- Each return, by what the calls before it ensure.
-use Rattle.varisat_trace.proofs.Broken.{passed-on}
+use Rattle.varisat_steps.proofs.Broken.{passed-on}
 use Rattle.varisat.specs.promises.Decided.{concluded}
 use Rattle.varisat_solve.specs.promises.Solving.{FailsSimplified, AsParsed, AsSimplified, AsLed, AsDecided}
 use Rattle.varisat_solve.proofs.SimplifiedTexts.{low-made, made-of, decided-by, extended-fails}

@@ -8,7 +8,7 @@ use Rattle.varisat_names.specs.promises.VarBiMap.{BiMap}
 use Rattle.varisat_names.specs.promises.Variables.{Tables}
 use Rattle.varisat_tracer.specs.inside.Tracing.{TracerState, tracer_state, global_literal, BreaksProof}
 use Rattle.varisat_tracer.proofs.Logging.{logs-on, proof-unbroken}
-use Rattle.varisat_trace.proofs.Broken.{passed-on}
+use Rattle.varisat_steps.proofs.Broken.{passed-on}
 use Rattle.varisat_search.specs.declared.error.StepError.{StepError}
 use Rattle.varisat_search.specs.declared.error.StepError.TheVariants as step
 use Rattle.varisat_search.specs.StepErrors.{step_faults}

@@ -1,5 +1,5 @@
-use Rattle.varisat_trace.specs.declared.tracer.TraceError.{TraceError}
-use Rattle.varisat_trace.specs.declared.tracer.TraceError.TheVariants as trace
+use Rattle.varisat_steps.specs.declared.tracer.TraceError.{TraceError}
+use Rattle.varisat_steps.specs.declared.tracer.TraceError.TheVariants as trace
 use Rattle.varisat_search.specs.declared.error.StepError.TheVariants as step
 use Rattle.varisat_solver.proofs.accept.log_assumptions.Goals as goal
 use Rattle.varisat_tracer.proofs.Logging.{breaks-proof}
@@ -7,8 +7,8 @@ use Rattle.varisat_tracer.proofs.GlobalSteps.{breaks-logged-globally}
 use Rattle.varisat_tracer.specs.inside.Tracing.{tracer_state, BreaksProof}
 use Rattle.varisat_search.proofs.stepping.StepErrors.{trace-faults}
 use Rattle.varisat_search.specs.StepErrors.{step_error_of_trace, step_faults}
-use Rattle.varisat_trace.proofs.Broken.{passed-on}
-use Rattle.varisat_trace.specs.Traces.{faults_of}
+use Rattle.varisat_steps.proofs.Broken.{passed-on}
+use Rattle.varisat_steps.specs.Traces.{faults_of}
 use Rattle.varisat_theory.specs.promises.Journals.{Assumes}
 use Rattle.std.proofs.Common.{◌≡◌, ◌≢◌, [], ◌∷◌, subst}
 

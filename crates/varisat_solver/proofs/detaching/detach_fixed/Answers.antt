@@ -1,8 +1,8 @@
 use Rattle.varisat_search.specs.declared.error.StepError.TheVariants as step
 use Rattle.varisat_search.proofs.stepping.StepErrors.{trace-faults, trace-unfilled}
 use Rattle.varisat_search.specs.StepErrors.{step_faults}
-use Rattle.varisat_trace.proofs.Broken.{passed-on}
-use Rattle.varisat_trace.specs.Traces.{faults_of}
+use Rattle.varisat_steps.proofs.Broken.{passed-on}
+use Rattle.varisat_steps.specs.Traces.{faults_of}
 use Rattle.std.proofs.Common.{◌≡◌, ◌≢◌, inl, inr, ⊎_elim, length, ap, ◌∙◌, sym, subst, refl, arith}
 use Rattle.varisat_prop.specs.Changes.{IsConflicting}
 use Rattle.varisat_search.specs.RootSimplified.{HasRootNews}

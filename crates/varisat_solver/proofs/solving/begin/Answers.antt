@@ -6,8 +6,8 @@ use Rattle.varisat_search.specs.Contexts.{view}
 use Rattle.varisat_search.specs.DueReductions.{BeginsStep}
 use Rattle.varisat_search.specs.StepErrors.{step_error_of_trace, step_faults}
 use Rattle.varisat_search.proofs.stepping.StepErrors.{trace-faults, trace-unfilled}
-use Rattle.varisat_trace.specs.Traces.{TakesLines, faults_of}
-use Rattle.varisat_trace.proofs.Broken.{passed-on}
+use Rattle.varisat_steps.specs.Traces.{TakesLines, faults_of}
+use Rattle.varisat_steps.proofs.Broken.{passed-on}
 use Rattle.varisat_tracer.specs.inside.Tracing.{tracer_state, TakesGlobally, BreaksProof}
 use Rattle.varisat_tracer.proofs.Logging.{breaks-proof, proof-breaks-on}
 use Rattle.varisat_solver.specs.inside.Searches.{turn_of}

@@ -4,7 +4,7 @@ use Rattle.varisat_names.specs.promises.Settings.{Settings}
 use Rattle.varisat_search.specs.declared.error.StepError.TheVariants as step
 use Rattle.varisat_search.specs.declared.state.SolverState.{SolverState}
 use Rattle.varisat_search.specs.StepErrors.{step_faults, HasNoRoom}
-use Rattle.varisat_trace.proofs.Broken.{passed-on, on-error}
+use Rattle.varisat_steps.proofs.Broken.{passed-on, on-error}
 use Rattle.varisat_tracer.specs.inside.Tracing.{tracer_state, BreaksProof}
 use Rattle.varisat_tracer.proofs.Logging.{proof-breaks-on, logs-on}
 use Rattle.varisat_solver.specs.inside.Searches.{turn_of, BeginsSolverStep, MakesNamedStep}

@@ -5,7 +5,7 @@ use Rattle.varisat_search.specs.declared.error.StepError.TheVariants as step
 use Rattle.varisat_search.specs.Contexts.{view}
 use Rattle.varisat_search.specs.Seen.{outcome_of}
 use Rattle.varisat_search.specs.StepErrors.{step_faults}
-use Rattle.varisat_trace.proofs.Broken.{passed-on}
+use Rattle.varisat_steps.proofs.Broken.{passed-on}
 use Rattle.varisat_tracer.specs.inside.Tracing.{tracer_state, BreaksProof}
 use Rattle.varisat_tracer.proofs.Logging.{breaks-proof, proof-unbroken, proof-breaks-on}
 use Rattle.varisat_solver.specs.inside.Accepting.{HasUser}

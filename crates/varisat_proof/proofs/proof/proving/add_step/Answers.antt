@@ -1,4 +1,4 @@
-use Rattle.varisat_trace.specs.Traces.{entries_of}
+use Rattle.varisat_steps.specs.Traces.{entries_of}
 use Rattle.varisat_proof.specs.promises.Proving.{ProofParts}
 use Rattle.varisat_proof.proofs.LoggedSteps.{tells-ok, tells-spent}
 use Rattle.varisat_proof.proofs.proof.proving.add_step.Goals as goal

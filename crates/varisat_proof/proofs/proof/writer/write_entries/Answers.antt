@@ -1,5 +1,5 @@
 use Rattle.std.proofs.Common.{ap}
-use Rattle.varisat_trace.specs.Traces.{entries_of}
+use Rattle.varisat_steps.specs.Traces.{entries_of}
 use Rattle.varisat_proof.proofs.StepLines.{puts-units}
 use Rattle.varisat_proof.proofs.proof.writer.write_entries.Goals as goal
 

@@ -1,13 +1,13 @@
 use Rattle.varisat_proof.specs.promises.Proving.{is_logging}
-use Rattle.varisat_trace.specs.declared.tracer.TraceError.TheVariants.{Memory}
-use Rattle.varisat_trace.proofs.Broken.{step-broken}
+use Rattle.varisat_steps.specs.declared.tracer.TraceError.TheVariants.{Memory}
+use Rattle.varisat_steps.proofs.Broken.{step-broken}
 use Rattle.std.proofs.Common.{List, [], ◌∷◌, refl, sym, ap, ◌∙◌, subst}
 use Rattle.varisat_theory.specs.promises.Literals.{Literal}
 use Rattle.varisat_theory.specs.promises.Derivations.{Add, Delete}
 use Rattle.varisat_theory.specs.inside.StepLaws.{unit_lines}
 use Rattle.varisat_theory.specs.promises.Journals.{Writes, Fails, written}
-use Rattle.varisat_trace.specs.Traces.{CanTakeStep, entries_of}
-use Rattle.varisat_trace.specs.declared.step.ProofStep.{ProofStep}
+use Rattle.varisat_steps.specs.Traces.{CanTakeStep, entries_of}
+use Rattle.varisat_steps.specs.declared.step.ProofStep.{ProofStep}
 use Rattle.varisat_tracer.specs.promises.Carried.{logged_as}
 use Rattle.varisat_tracer.specs.inside.Tracing.{TracerState, tracer_state, global_literal, Relies, TakesGlobally, BreaksGlobally}
 use Rattle.varisat_tracer.proofs.GlobalSteps.{added-parts, units-parts, deleted-parts, fails-parts, takes-parts, logged-units, breaks-logged, breaks-before}

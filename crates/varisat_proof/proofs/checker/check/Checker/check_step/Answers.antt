@@ -1,6 +1,6 @@
 use Rattle.std.proofs.Common.{sym, ap, subst, ◌∙◌}
-use Rattle.varisat_trace.specs.declared.step.ProofStep.{ProofStep}
-use Rattle.varisat_trace.specs.declared.step.ProofStep.TheVariants.{AtClause, DeleteClause}
+use Rattle.varisat_steps.specs.declared.step.ProofStep.{ProofStep}
+use Rattle.varisat_steps.specs.declared.step.ProofStep.TheVariants.{AtClause, DeleteClause}
 use Rattle.varisat_proof.specs.promises.Calls.{IsStep}
 use Rattle.varisat_proof.proofs.CheckedSteps.{step_is}
 use Rattle.varisat_proof.proofs.checker.check.Checker.check_step.Goals as goal

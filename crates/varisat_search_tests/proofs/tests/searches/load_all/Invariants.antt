@@ -1,5 +1,0 @@
-use Rattle.varisat_search.specs.Contexts.{IsReady}
-use Rattle.varisat_search_tests.proofs.tests.searches.load_all.Given as goal
-
-abbrev pub invariant-loop-clause : goal.invariant-loop-clause
-invariant-loop-clause g l = IsReady l.ctx

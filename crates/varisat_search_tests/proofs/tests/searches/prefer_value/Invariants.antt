@@ -1,5 +1,0 @@
-use Rattle.std.proofs.Common.{◌≡◌}
-use Rattle.varisat_search_tests.proofs.tests.searches.prefer_value.Given as goal
-
-abbrev pub invariant-loop-index : goal.invariant-loop-index
-invariant-loop-index g l = l.assignment.current ≡ l.fn.assignment.current

@@ -1,6 +1,0 @@
-use Rattle.varisat_search.specs.Contexts.{view}
-use Rattle.varisat_search.proofs.learning.LeastHeld.{anything-for}
-use Rattle.varisat_search_tests.proofs.tests.searches.step.Goals as goal
-
-pub conflict_step-requires-clause-holds : goal.conflict_step-requires-clause-holds
-conflict_step-requires-clause-holds g c = anything-for (λ held. Unit {0}) (λ held. tt) (view c.args.ctx.now)

@@ -1,4 +1,0 @@
-use Rattle.varisat_search_tests.proofs.tests.tiers.header_of.Goals as goal
-
-pub header-requires-clause-sound : goal.header-requires-clause-sound
-header-requires-clause-sound g c = c.requires.tracks.sound

@@ -60,8 +60,11 @@ pub fn decide_text<W: ProofTarget, A: Allocator + Copy, S: ByteSource, E: Write>
 ) -> Result<Report<A>, SolverError>
     requires faults { (S.input cnf.old).faults < 2 ^ 64 - 1 }
     requires room { CanCountFault W.taken target.old }
-    ensures decided { IfOk result (λ report. DecidesBy W.taken options (S.input cnf.old) (S.input cnf.new) target.old target.new (concluded report)) }
-    ensures fails { IfErr result (λ error. FailsBy W.taken options target.old (S.input cnf.old) (S.input cnf.new) error) }
+    ensures decided { IfOk result
+        (λ report.
+        DecidesBy W.taken options (S.input cnf.old) (S.input cnf.new) target.old target.new (concluded report)) }
+    ensures fails { IfErr result
+        (λ error. FailsBy W.taken options target.old (S.input cnf.old) (S.input cnf.new) error) }
 {
     let mut solver: Solver<W, A> = new_solver(alloc, options.check);
     let report = decide_in(&mut solver, cnf, target, options, err);
@@ -101,8 +104,11 @@ fn decide_in<W: ProofTarget, A: Allocator + Copy, S: ByteSource, E: Write>(
     requires checks { options.check ≡ true → IsSome solver.old.checker }
     requires faults { (S.input cnf.old).faults < 2 ^ 64 - 1 }
     requires room { CanCountFault W.taken target.old }
-    ensures decided { IfOk result (λ report. DecidesBy W.taken options (S.input cnf.old) (S.input cnf.new) target.old target.new (concluded report)) }
-    ensures fails { IfErr result (λ error. FailsBy W.taken options target.old (S.input cnf.old) (S.input cnf.new) error) }
+    ensures decided { IfOk result
+        (λ report.
+        DecidesBy W.taken options (S.input cnf.old) (S.input cnf.new) target.old target.new (concluded report)) }
+    ensures fails { IfErr result
+        (λ error. FailsBy W.taken options target.old (S.input cnf.old) (S.input cnf.new) error) }
 {
     prepare(solver, target.take(), options);
     solver.add_dimacs_cnf(cnf)?;
@@ -157,7 +163,8 @@ pub fn close<W: ProofTarget, A: Allocator + Copy>(
     solver: &mut Solver<W, A>,
 ) -> Result<Option<W>, SolverError>
     ensures handed { IfOk result (λ back. IsClosed {E = SolverError} W.taken solver.old.opened (Ok back)) }
-    ensures fails { (s : State) → Represents solver.old s → IfErr result (λ error. (back : W) × (t : State) × ClosesProof W.taken s (Err (error, back)) t) }
+    ensures fails { (s : State) → Represents solver.old s →
+        IfErr result (λ error. (back : W) × (t : State) × ClosesProof W.taken s (Err (error, back)) t) }
 {
     match solver.close_proof() {
         Ok(target) => Ok(target),

@@ -27,7 +27,8 @@ pub fn parse_line<S: ByteSource, A: Allocator + Copy>(
     alloc: A,
     text: &[u8],
 ) -> Result<Option<Call<MemoryTarget<A>, S, A>>, AllocError>
-    ensures command { IfOk result (λ found. IfSome found (λ call. (command : Command) × AsksFor call command × MeansCommand text.now command)) }
+    ensures command { IfOk result
+        (λ found. IfSome found (λ call. (command : Command) × AsksFor call command × MeansCommand text.now command)) }
     ensures no_command { IfOk result (λ found. IfNone found ((command : Command) → MeansCommand text.now command → ⊥)) }
 {
     if let Some(numbers) = text.strip_prefix(b"add ") {
@@ -50,7 +51,8 @@ fn parse_short<S: ByteSource, A: Allocator + Copy>(
     alloc: A,
     text: &[u8],
 ) -> Option<Call<MemoryTarget<A>, S, A>>
-    ensures command { IfSome result (λ call. (command : Command) × AsksFor call command × MeansCommand text.now command) }
+    ensures command { IfSome result
+        (λ call. (command : Command) × AsksFor call command × MeansCommand text.now command) }
     ensures no_command { IfNone result ((command : Command) → MeansCommand text.now command → BeginsList text.now) }
 {
     match text.strip_prefix(b"config ") {
@@ -69,7 +71,8 @@ fn parse_short<S: ByteSource, A: Allocator + Copy>(
 fn parse_usage<S: ByteSource, A: Allocator + Copy>(
     text: &[u8],
 ) -> Option<Call<MemoryTarget<A>, S, A>>
-    ensures command { IfSome result (λ call. (command : Command) × AsksFor call command × MeansCommand text.now command) }
+    ensures command { IfSome result
+        (λ call. (command : Command) × AsksFor call command × MeansCommand text.now command) }
     ensures no_command { IfNone result ((command : Command) → MeansCommand text.now command → SetsUsage command → ⊥) }
 {
     if let Some(number) = text.strip_prefix(b"sample ") {
@@ -89,7 +92,8 @@ fn parse_proof<S: ByteSource, A: Allocator + Copy>(
     alloc: A,
     text: &[u8],
 ) -> Option<Call<MemoryTarget<A>, S, A>>
-    ensures command { IfSome result (λ call. (command : Command) × AsksFor call command × MeansCommand text.now command) }
+    ensures command { IfSome result
+        (λ call. (command : Command) × AsksFor call command × MeansCommand text.now command) }
     ensures no_command { IfNone result ((command : Command) → MeansCommand text.now command → Opens command → ⊥) }
 {
     if text == b"proof text".as_slice() {
@@ -108,8 +112,10 @@ fn parse_word<S: ByteSource, A: Allocator + Copy>(
     alloc: A,
     word: &[u8],
 ) -> Option<Call<MemoryTarget<A>, S, A>>
-    ensures command { IfSome result (λ call. (command : Command) × AsksFor call command × MeansCommand word.now command) }
-    ensures no_command { IfNone result ((command : Command) → MeansCommand word.now command → 1 < length (words command)) }
+    ensures command { IfSome result
+        (λ call. (command : Command) × AsksFor call command × MeansCommand word.now command) }
+    ensures no_command { IfNone result
+        ((command : Command) → MeansCommand word.now command → 1 < length (words command)) }
 {
     if word == b"add".as_slice() {
         Some(Call::AddClause(Vec::new(alloc)))
@@ -387,7 +393,8 @@ fn write_names<W: Write, A: Allocator + Copy>(
     out: &mut W,
     names: &Result<Vec<Var, A>, SolverError>,
 ) -> io::Result<()>
-    ensures { OnOk result (Appends (W.contents out.old) (W.contents out.new) (names_text (returned_variables names.now))) }
+    ensures { OnOk result
+        (Appends (W.contents out.old) (W.contents out.new) (names_text (returned_variables names.now))) }
 {
     match names {
         Ok(variables) => {

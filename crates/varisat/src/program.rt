@@ -66,7 +66,8 @@ pub fn solve_lines<A: Allocator + Copy, S: ByteSource, P: ProofTarget, T: ProofT
     requires out_faults { (T.taken out.old).faults < 2 ^ 64 - 1 }
     // Deciding fails, and nothing is printed; or the source gave a whole text, which was decided if the steps allowed it, with
     // a proof in the target, and the outcome was printed, or a beginning of it where a call of `out` failed.
-    ensures outcome { SolvesText P.taken options (S.input cnf.old) (S.input cnf.new) proof.old proof.new (T.taken out.old) (T.taken out.new) result }
+    ensures outcome { SolvesText P.taken options (S.input cnf.old) (S.input cnf.new) proof.old proof.new
+        (T.taken out.old) (T.taken out.new) result }
     ensures truth { StatusIsTrue (S.input cnf.old) (S.input cnf.new) result }
 {
     match decide_text(alloc, cnf, proof, options, err) {

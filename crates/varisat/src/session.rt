@@ -72,7 +72,8 @@ pub fn make_call<W: ProofTarget, S: ByteSource, A: Allocator + Copy>(
     call: Call<W, S, A>,
 ) -> Answer<W, S, A>
     requires { MayStillFail S.input W.taken call }
-    ensures { (s : State) → Represents solver.old s → (t : State) × MakesCall S.input W.taken s call result t × Represents solver.new t }
+    ensures { (s : State) → Represents solver.old s →
+        (t : State) × MakesCall S.input W.taken s call result t × Represents solver.new t }
 {
     match call {
         Call::AddClause(clause) => Answer::AddClause(solver.add_clause(&clause)),
@@ -112,8 +113,11 @@ pub fn run<W: ProofTarget, S: ByteSource, A: Allocator + Copy>(
     calls: Vec<Call<W, S, A>, A>,
 ) -> Result<Vec<Answer<W, S, A>, A>, AllocError>
     requires { AreReady S.input W.taken calls.items }
-    ensures run { IfOk result (λ answers. LeadsRepresented solver.old (λ s t. Run S.input W.taken s calls.items answers.items t) solver.new) }
-    ensures answers { IfOk result (λ answers. (s : State) → Represents solver.old s → AreAnswered S.input (story_now s) calls.items answers.items) }
+    ensures run { IfOk result
+        (λ answers. LeadsRepresented solver.old (λ s t. Run S.input W.taken s calls.items answers.items t) solver.new) }
+    ensures answers { IfOk result
+        (λ answers. (s : State) → Represents solver.old s →
+        AreAnswered S.input (story_now s) calls.items answers.items) }
     ensures few { IfOk result (λ answers. (s : State) → Represents solver.old s →
         HasFewStepsAlong by_state S.input W.taken s calls.items answers.items) }
     ensures refused { OnErr result (solver.new ≡ solver.old) }
@@ -135,10 +139,12 @@ pub fn answers_of<W: ProofTarget, S: ByteSource, A: Allocator + Copy>(
     calls: Vec<Call<W, S, A>, A>,
 ) -> Result<Vec<Answer<W, S, A>, A>, AllocError>
     requires { AreReady S.input W.taken calls.items }
-    ensures run { IfOk result (λ answers. (t : State) × Run S.input W.taken empty_state calls.items answers.items t × HasRightLog t) }
+    ensures run { IfOk result
+        (λ answers. (t : State) × Run S.input W.taken empty_state calls.items answers.items t × HasRightLog t) }
     ensures answers { IfOk result (λ answers. AreAnswered S.input empty_story calls.items answers.items) }
     ensures truth { IfOk result (λ answers. AreTrue S.input W.taken empty_past calls.items answers.items) }
-    ensures few { IfOk result (λ answers. HasFewStepsAlong by_answers S.input W.taken empty_past calls.items answers.items) }
+    ensures few { IfOk result
+        (λ answers. HasFewStepsAlong by_answers S.input W.taken empty_past calls.items answers.items) }
 {
     let mut solver: Solver<W, A> = Solver::new_in(*calls.allocator());
     let answers = run(&mut solver, calls);

@@ -56,7 +56,12 @@ with_bump p x = record {
 
 -- The clause at the place takes part in a conflict: it is active, its glue and its tier are improved, and it is bumped.
 abbrev pub clause_bumped : List ImplNode → ℕ → Scored → Scored
-clause_bumped nodes p x = with_bump p (record x { clauses = with_header x.clauses p (noted (glue_of nodes (literals_at x.clauses p)) (header_at x.clauses p)) })
+clause_bumped nodes p x =
+    with_bump p
+    (record x {
+      clauses =
+          with_header x.clauses p (noted (glue_of nodes (literals_at x.clauses p)) (header_at x.clauses p));
+    })
 
 -- so do the clauses of the store that are named, in turn
 abbrev pub clauses_bumped : List ImplNode → List Conflict → Scored → Scored
@@ -85,7 +90,8 @@ pub record CanBump (nodes : List ImplNode) (s : Store) (d : Database) (flags : L
   pub count : CanCount nodes (literals_at (stored_clauses s) p) flags
 
 -- The named clauses of the store take part in a conflict, in turn, and then the activities decay.
-pub record BumpsClauses (nodes : List ImplNode) (names : List Conflict) (s t : Store) (a b : ActivityScale) : Type 0 where
+pub record BumpsClauses (nodes : List ImplNode) (names : List Conflict) (s t : Store)
+    (a b : ActivityScale) : Type 0 where
   pub store : HoldsClauses t (length s.words) (clauses_decayed (clauses_bumped nodes names (scored s a))).clauses
   pub scale : b ≡ (clauses_decayed (clauses_bumped nodes names (scored s a))).scale
 

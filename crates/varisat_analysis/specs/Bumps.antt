@@ -31,4 +31,6 @@ pub record AreVariablesAbove (nodes : List ImplNode) (lits : List Literal) (vars
 
 -- The variables above level 0 of the clauses that are named are bumped, each once, and then activities decay.
 abbrev pub BumpsInvolved : View → List Conflict → Activities → Activities → Type 0
-BumpsInvolved s names a b = (vars : List ℕ) × AreVariablesAbove s.nodes (literals_among s.clauses names) vars × (b ≡ decayed (bumped_each vars a))
+BumpsInvolved s names a b =
+    (vars : List ℕ) × AreVariablesAbove s.nodes (literals_among s.clauses names) vars
+    × (b ≡ decayed (bumped_each vars a))

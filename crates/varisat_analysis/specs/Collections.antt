@@ -26,7 +26,8 @@ moved_reason ks js (reason.Long p) = reason.Long (new_place ks js p)
 pub record Repacks (s t : View) : Type 0 where
   pub clauses : t.clauses ≡ packed 0 s.clauses
   pub count : length t.nodes ≡ length s.nodes
-  pub nodes : (k : ℕ) → k < length s.trail → node_at t k ≡ record (node_at s k) { reason = moved_reason s.clauses t.clauses (node_at s k).reason }
+  pub nodes : (k : ℕ) → k < length s.trail →
+      node_at t k ≡ record (node_at s k) { reason = moved_reason s.clauses t.clauses (node_at s k).reason }
   pub rest : t ≡ record s { clauses = t.clauses; nodes = t.nodes }
 
 -- the clause is the reason of its first literal at the other place from now on, where it was so

@@ -82,7 +82,8 @@ pub data IsInvolved (s : View) (f : Conflict) (k : ℕ) (g : Conflict) : Type 0 
   -- it is the conflict's clause
   IsOfConflict : g ≡ f → IsInvolved s f k g
   -- it is the reason of a reached literal of the current level behind the implication point
-  IsReasonOf : (j : ℕ) → k < j → IsOfCurrentLevel s j → IsReachedDownTo s f k (literal_at s j) → g ∈ names_of (literal_at s j) (node_at s j).reason →
+  IsReasonOf : (j : ℕ) → k < j → IsOfCurrentLevel s j → IsReachedDownTo s f k (literal_at s j) →
+      g ∈ names_of (literal_at s j) (node_at s j).reason →
       IsInvolved s f k g
 
 -- The names are those of the clauses that are resolved down to the first unique implication point: all of them, each once, and no other.

@@ -34,7 +34,9 @@ IsPassedOver s flags l = (level_of s l ≡ 0) ⊎ (slice_index_or flags (variabl
 
 -- a literal that is to be marked, and its level: that is above 0, and its variable has a flag and is not marked
 abbrev pub IsToMark : View → List Bool → Literal → ℕ → Type 0
-IsToMark s flags l level = (level ≡ level_of s l) × (0 < level) × (slice_index_or flags (variable_of l) false ≡ false) × (variable_of l < length flags)
+IsToMark s flags l level =
+    (level ≡ level_of s l) × (0 < level) × (slice_index_or flags (variable_of l) false ≡ false)
+    × (variable_of l < length flags)
 
 -- A conflict above level 0, where each level began with propagation at its end.
 pub record IsDeepConflict (s : View) (f : Conflict) : Type 0 where
@@ -115,7 +117,8 @@ one_if true = 1
 
 -- the literal at the place is of the current level, and is marked
 abbrev pub is_open : View → List Bool → ℕ → Bool
-is_open s flags k = nat_eq (node_at s k).level (current_level s) && slice_index_or flags (variable_of (literal_at s k)) false
+is_open s flags k =
+    nat_eq (node_at s k).level (current_level s) && slice_index_or flags (variable_of (literal_at s k)) false
 
 -- how many of the first i literals are of the current level and marked
 abbrev pub open_below : View → List Bool → ℕ → ℕ
@@ -147,7 +150,8 @@ pub record AddsMarks (s : View) (lits : List Literal) (count : ℕ) (x y : Marki
   pub all : (m : Literal) → m ∈ lits → 0 < level_of s m → IsFlagged y.flags (variable_of m)
   pub longer : x.clause ⊆ y.clause
   pub marks : (i : ℕ) → AreFalseBefore s i lits → AreOfKept s lits → i ≤ length s.trail → Marks s i x → Marks s i y
-  pub counted : (i : ℕ) → AreFalseBefore s i lits → i ≤ length s.trail → open_below s y.flags i ≡ open_below s x.flags i + count
+  pub counted : (i : ℕ) → AreFalseBefore s i lits → i ≤ length s.trail →
+      open_below s y.flags i ≡ open_below s x.flags i + count
   pub met : MeetsNew s lits x y
   pub involved : y.involved ≡ x.involved
 
@@ -170,7 +174,8 @@ pub record IsResolved (s : View) (f : Conflict) (first : Literal) (x : Marking) 
 pub record IsMinimized (s : View) (others left : Clause) : Type 0 where
   pub part : left ⊆ others
   pub distinct : IsDistinct others → IsDistinct left
-  pub follows : (first : Literal) (held : List Clause) → ViewFits held s → Follows held (first ∷ others) → Follows held (first ∷ left)
+  pub follows : (first : Literal) (held : List Clause) → ViewFits held s → Follows held (first ∷ others) →
+      Follows held (first ∷ left)
 
 -- The clause was minimized; what was marked meanwhile is listed too.
 pub record Minimizes (s : View) (x y : Marking) : Type 0 where

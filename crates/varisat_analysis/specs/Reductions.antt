@@ -30,7 +30,8 @@ is_reason values nodes k =
 
 -- A clause that is not deleted is marked exactly where it is a reason.
 abbrev pub reason_marked : List (Option Bool) → List ImplNode → StoredClause → StoredClause
-reason_marked values nodes k = if k.header.deleted then k else record k { header = record k.header { mark = is_reason values nodes k } }
+reason_marked values nodes k =
+    if k.header.deleted then k else record k { header = record k.header { mark = is_reason values nodes k } }
 
 -- the clauses once each that is the reason of its first literal is marked
 abbrev pub reasons_marked : List (Option Bool) → List ImplNode → List StoredClause → List StoredClause
@@ -42,5 +43,6 @@ pub record Discards (s t : View) : Type 0 where
   pub gone : StoredClause → Bool
   pub clauses : SameButHeaders (filter (λ k. not (gone k)) s.clauses) t.clauses
   pub learned : (k : StoredClause) → k ∈ s.clauses → gone k ≡ true → k.header.tier ≡ tier.Local
-  pub unused : (k : StoredClause) → k ∈ s.clauses → gone k ≡ true → (i : ℕ) → i < length s.trail → (node_at s i).reason ≢ reason.Long k.place
+  pub unused : (k : StoredClause) → k ∈ s.clauses → gone k ≡ true → (i : ℕ) → i < length s.trail →
+      (node_at s i).reason ≢ reason.Long k.place
   pub rest : t ≡ record s { clauses = t.clauses }

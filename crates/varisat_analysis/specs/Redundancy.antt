@@ -15,7 +15,8 @@ IsImplied s x = (x ∈ s.trail) × (is_clause (node_of s x).reason ≡ true)
 abbrev pub IsReasoned : View → List Bool → Literal → Type 0
 IsReasoned s flags x =
     (is_clause (node_of s x).reason ≡ true)
-    × ((m : Literal) → m ∈ causes_of s.clauses (node_of s x).reason → (level_of s m ≡ 0) ⊎ IsFlagged flags (variable_of m))
+    × ((m : Literal) → m ∈ causes_of s.clauses (node_of s x).reason →
+    (level_of s m ≡ 0) ⊎ IsFlagged flags (variable_of m))
 
 -- how many flags are not set
 abbrev pub count_unmarked : List Bool → ℕ
@@ -39,7 +40,8 @@ pub record ListsNew (x y : Marking) : Type 0 where
 -- the stack; all of them where it was `done`.
 pub record Explores (s : View) (lits : List Literal) (done : Bool) (x y : Marking) : Type 0 where
   pub list : ListsNew x y
-  pub new : (v : ℕ) → IsFlagged y.flags v → IsFlagged x.flags v ⊎ ((l : Literal) × (l ∈ y.stack) × IsImplied s l × (variable_of l ≡ v))
+  pub new : (v : ℕ) → IsFlagged y.flags v →
+      IsFlagged x.flags v ⊎ ((l : Literal) × (l ∈ y.stack) × IsImplied s l × (variable_of l ≡ v))
   pub stacked : x.stack ⊆ y.stack
   pub grown : (l : Literal) → l ∈ y.stack → (l ∈ x.stack) ⊎ IsImplied s l
   pub all : done ≡ true → (m : Literal) → m ∈ lits → (level_of s m ≡ 0) ⊎ IsFlagged y.flags (variable_of m)
@@ -49,7 +51,8 @@ pub record Explores (s : View) (lits : List Literal) (done : Bool) (x y : Markin
 pub record IsRedundant (s : View) (l : Literal) (x y : Marking) : Type 0 where
   pub list : ListsNew x y
   pub reasoned : IsReasoned s y.flags (opposite l)
-  pub others : (m : Literal) → m ∈ s.trail → IsFlagged y.flags (variable_of m) → IsFlagged x.flags (variable_of m) ⊎ IsReasoned s y.flags m
+  pub others : (m : Literal) → m ∈ s.trail → IsFlagged y.flags (variable_of m) →
+      IsFlagged x.flags (variable_of m) ⊎ IsReasoned s y.flags m
 
 -- Nothing more is marked.
 pub record IsAsBefore (x y : Marking) : Type 0 where

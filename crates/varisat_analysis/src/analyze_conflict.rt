@@ -146,7 +146,8 @@ fn add_literals<A: Allocator + Copy>(
     ghost s: { View }
     requires can { CanMark s parts var_flags.old }
     requires falsified { IsFalse s.trail lits.now }
-    ensures { IfOk result (λ count. AddsMarks s lits.now count (marking scratch.old var_flags.old) (marking scratch.new var_flags.new)) }
+    ensures { IfOk result
+        (λ count. AddsMarks s lits.now count (marking scratch.old var_flags.old) (marking scratch.new var_flags.new)) }
 {
     let current = parts.trail.current_level();
     let mut count = 0;
@@ -192,7 +193,8 @@ fn add_reason<A: Allocator + Copy>(
     ghost s: { View }
     requires can { CanMark s parts var_flags.old }
     requires stands { lit ∈ s.trail }
-    ensures { IfOk result (λ count. AddsReason s lit count (marking scratch.old var_flags.old) (marking scratch.new var_flags.new)) }
+    ensures { IfOk result
+        (λ count. AddsReason s lit count (marking scratch.old var_flags.old) (marking scratch.new var_flags.new)) }
 {
     let reason = *parts.impl_graph.reason(lit.var());
     list_reason(&mut scratch.involved, lit, reason)?;
@@ -237,7 +239,8 @@ fn resolve<A: Allocator + Copy>(
 fn clear_flags(var_flags: &mut [bool], vars: &[Var])
     requires { (v : ℕ) → v ∈ vars.now → v < length var_flags.old }
     ensures gone { (v : ℕ) → v ∈ vars.now → slice_index_or var_flags.new v false ≡ false }
-    ensures rest { (v : ℕ) → (v ∈ vars.now → ⊥) → slice_index_or var_flags.new v false ≡ slice_index_or var_flags.old v false }
+    ensures rest { (v : ℕ) → (v ∈ vars.now → ⊥) →
+        slice_index_or var_flags.new v false ≡ slice_index_or var_flags.old v false }
 {
     for var in vars {
         var_flags[var.index()] = false;
@@ -265,7 +268,8 @@ fn mark_causes<A: Allocator + Copy>(
     ghost s: { View }
     requires can { CanMark s parts var_flags.old }
     requires falsified { IsFalse s.trail lits.now }
-    ensures { IfOk result (λ done. Explores s lits.now done (marking scratch.old var_flags.old) (marking scratch.new var_flags.new)) }
+    ensures { IfOk result
+        (λ done. Explores s lits.now done (marking scratch.old var_flags.old) (marking scratch.new var_flags.new)) }
 {
     for lit in lits {
         let Some(level) = level_to_mark(parts, var_flags, *lit) else {
@@ -295,7 +299,9 @@ fn is_redundant<A: Allocator + Copy>(
     ghost s: { View }
     requires can { CanMark s parts var_flags.old }
     requires falsified { opposite lit ∈ s.trail }
-    ensures { IfOk result (λ redundant. FindsRedundancy s lit redundant (marking scratch.old var_flags.old) (marking scratch.new var_flags.new)) }
+    ensures { IfOk result
+        (λ redundant.
+        FindsRedundancy s lit redundant (marking scratch.old var_flags.old) (marking scratch.new var_flags.new)) }
 {
     if parts.impl_graph.reason(lit.var()).is_unit() {
         return Ok(false);
@@ -362,7 +368,8 @@ fn highest_place<A: Allocator + Copy>(parts: Parts<'_, A>, clause: &[Lit]) -> us
     requires range { (m : ℕ) → m ∈ clause.now → variable_of m < length s.nodes }
     requires some { 0 < length clause.now }
     ensures within { result < length clause.now }
-    ensures highest { (k : ℕ) → k < length clause.now → level_of s (slice_index_or clause.now k 0) ≤ level_of s (slice_index_or clause.now result 0) }
+    ensures highest { (k : ℕ) → k < length clause.now →
+        level_of s (slice_index_or clause.now k 0) ≤ level_of s (slice_index_or clause.now result 0) }
 {
     let mut highest = 0;
     for place in 1..clause.len() {
@@ -401,8 +408,10 @@ fn learn<A: Allocator + Copy>(
 ) -> Result<usize, AllocError>
     ghost s: { View }
     requires { MayBegin s parts conflict (marking scratch.old var_flags.old) }
-    ensures teaches { IfOk result (λ level. Teaches s conflict scratch.new.clause.items scratch.new.involved.items level) }
-    ensures met { OnOk result (AreVariablesAbove s.nodes (literals_among s.clauses scratch.new.involved.items) scratch.new.met.items) }
+    ensures teaches { IfOk result
+        (λ level. Teaches s conflict scratch.new.clause.items scratch.new.involved.items level) }
+    ensures met { OnOk result
+        (AreVariablesAbove s.nodes (literals_among s.clauses scratch.new.involved.items) scratch.new.met.items) }
     ensures cleaned { OnOk result (MarksAreListed (marking scratch.new var_flags.new)) }
 {
     let first = resolve(parts, scratch, var_flags, conflict)?;
@@ -424,8 +433,10 @@ fn learn_and_clear<A: Allocator + Copy>(
     ghost s: { View }
     requires { MayBegin s parts conflict (marking scratch.old var_flags.old) }
     ensures unmarked { (v : ℕ) → slice_index_or var_flags.new v false ≡ false }
-    ensures teaches { IfOk result (λ level. Teaches s conflict scratch.new.clause.items scratch.new.involved.items level) }
-    ensures met { OnOk result (AreVariablesAbove s.nodes (literals_among s.clauses scratch.new.involved.items) scratch.new.met.items) }
+    ensures teaches { IfOk result
+        (λ level. Teaches s conflict scratch.new.clause.items scratch.new.involved.items level) }
+    ensures met { OnOk result
+        (AreVariablesAbove s.nodes (literals_among s.clauses scratch.new.involved.items) scratch.new.met.items) }
 {
     match learn(parts, scratch, var_flags, conflict) {
         Ok(level) => {
@@ -458,7 +469,8 @@ pub fn analyze_conflict<A: Allocator + Copy>(
     ensures count { analyze.new.var_count ≡ analyze.old.var_count }
     ensures learned { IfOk result (λ level. IsLearned s conflict analyze.new.clause level) }
     ensures involved { OnOk result (AreInvolved s conflict analyze.new.involved) }
-    ensures met { OnOk result (AreVariablesAbove s.nodes (literals_among s.clauses analyze.new.involved) analyze.new.met) }
+    ensures met { OnOk result
+        (AreVariablesAbove s.nodes (literals_among s.clauses analyze.new.involved) analyze.new.met) }
 {
     let parts = Parts {
         clause_alloc,

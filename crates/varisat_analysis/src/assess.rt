@@ -66,7 +66,8 @@ fn improve_glue<A: Allocator + Copy>(
     cref: ClauseRef,
 ) -> Result<(), AllocError>
     requires { CanBump impl_graph.now.nodes.items alloc.old db.old flags.old cref }
-    ensures improved { OnOk result (RewritesHeaderAt alloc.old alloc.new cref (improved (glue_at impl_graph.now.nodes.items alloc.old cref))) }
+    ensures improved { OnOk result
+        (RewritesHeaderAt alloc.old alloc.new cref (improved (glue_at impl_graph.now.nodes.items alloc.old cref))) }
     ensures refused { OnErr result (alloc.new ≡ alloc.old) }
     ensures refused_too { OnErr result (db.new ≡ db.old) }
     ensures flags { flags.new ≡ flags.old }
@@ -109,8 +110,10 @@ pub fn bump_clause<A: Allocator + Copy>(
     cref: ClauseRef,
 ) -> Result<(), AllocError>
     requires { CanBump impl_graph.now.nodes.items alloc.old db.old flags.old cref }
-    ensures bumped { OnOk result (RewritesScored alloc.old alloc.new activity.old (clause_bumped impl_graph.now.nodes.items cref)) }
-    ensures scale { OnOk result (activity.new ≡ (clause_bumped impl_graph.now.nodes.items cref (scored alloc.old activity.old)).scale) }
+    ensures bumped { OnOk result
+        (RewritesScored alloc.old alloc.new activity.old (clause_bumped impl_graph.now.nodes.items cref)) }
+    ensures scale { OnOk result
+        (activity.new ≡ (clause_bumped impl_graph.now.nodes.items cref (scored alloc.old activity.old)).scale) }
     ensures refused { OnErr result (alloc.new ≡ alloc.old) }
     ensures refused_too { OnErr result (db.new ≡ db.old) }
     ensures unscaled { OnErr result (activity.new ≡ activity.old) }
@@ -135,8 +138,10 @@ pub fn bump_named<A: Allocator + Copy>(
     requires tracks { Tracks db.old alloc.old }
     requires named { (f : Conflict) → f ∈ names.now → NamesPlace (live_clauses alloc.old) f }
     requires count { CanCount impl_graph.now.nodes.items (literals_among (live_clauses alloc.old) names.now) flags.old }
-    ensures bumped { OnOk result (RewritesScored alloc.old alloc.new activity.old (clauses_bumped impl_graph.now.nodes.items names.now)) }
-    ensures scale { OnOk result (activity.new ≡ (clauses_bumped impl_graph.now.nodes.items names.now (scored alloc.old activity.old)).scale) }
+    ensures bumped { OnOk result
+        (RewritesScored alloc.old alloc.new activity.old (clauses_bumped impl_graph.now.nodes.items names.now)) }
+    ensures scale { OnOk result
+        (activity.new ≡ (clauses_bumped impl_graph.now.nodes.items names.now (scored alloc.old activity.old)).scale) }
     ensures headers { SameButHeaders (live_clauses alloc.old) (live_clauses alloc.new) }
     ensures flags { flags.new ≡ flags.old }
     ensures tracks { Tracks db.new alloc.new }

@@ -62,7 +62,8 @@ fn pass_flagged<A: Allocator + Copy>(
     requires flags { length flags.old ≡ 2 * length s.values }
     requires stands { lit ∈ s.trail }
     ensures listed { OnOk result (core.new.items ≡ core.old.items ++ decided_by lit (node_of s lit).reason) }
-    ensures flagged { OnOk result (FlagsCauses s (causes_of s.clauses (node_of s lit).reason) (slice_set flags.old lit false) flags.new) }
+    ensures flagged { OnOk result
+        (FlagsCauses s (causes_of s.clauses (node_of s lit).reason) (slice_set flags.old lit false) flags.new) }
 {
     flags[lit.code()] = false;
     let reason = *parts.impl_graph.reason(lit.var());

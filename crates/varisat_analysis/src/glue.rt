@@ -71,7 +71,8 @@ fn flag_levels<A: Allocator + Copy>(
 ) -> usize
     requires { CanCount impl_graph.now.nodes.items lits.now flags.old }
     ensures count { result ≡ distinct_count nat_eq (map (level_in impl_graph.now.nodes.items) lits.now) }
-    ensures only { (n : ℕ) → slice_index_or flags.new n false ≡ true → (l : Literal) × (l ∈ lits.now) × (level_in impl_graph.now.nodes.items l ≡ n) }
+    ensures only { (n : ℕ) → slice_index_or flags.new n false ≡ true →
+        (l : Literal) × (l ∈ lits.now) × (level_in impl_graph.now.nodes.items l ≡ n) }
 {
     let mut count = 0;
     for lit in lits {
@@ -89,7 +90,8 @@ fn flag_levels<A: Allocator + Copy>(
 fn clear_levels<A: Allocator + Copy>(flags: &mut [bool], impl_graph: &ImplGraph<A>, lits: &[Lit])
     requires known { (l : Literal) → l ∈ lits.now → variable_of l < length impl_graph.now.nodes.items }
     requires room { (l : Literal) → l ∈ lits.now → level_in impl_graph.now.nodes.items l < length flags.old }
-    ensures gone { (l : Literal) → l ∈ lits.now → slice_index_or flags.new (level_in impl_graph.now.nodes.items l) false ≡ false }
+    ensures gone { (l : Literal) → l ∈ lits.now →
+        slice_index_or flags.new (level_in impl_graph.now.nodes.items l) false ≡ false }
     ensures fewer { (n : ℕ) → slice_index_or flags.new n false ≡ true → slice_index_or flags.old n false ≡ true }
 {
     for lit in lits {

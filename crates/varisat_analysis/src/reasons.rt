@@ -59,7 +59,8 @@ fn mark_reason<A: Allocator + Copy>(
     requires value { (clause_of clause_alloc.old cref).header.deleted ≡ false →
         first_variable (clause_of clause_alloc.old cref) < length assignment.now.current }
     requires nodes { length impl_graph.now.nodes.items ≡ length assignment.now.current }
-    ensures marked { RewritesClauseAt clause_alloc.old clause_alloc.new cref (reason_marked assignment.now.current impl_graph.now.nodes.items) }
+    ensures marked { RewritesClauseAt clause_alloc.old clause_alloc.new cref
+        (reason_marked assignment.now.current impl_graph.now.nodes.items) }
     ensures tracks { (d : Database) → Tracks d clause_alloc.old → Tracks d clause_alloc.new }
 {
     let mut header = clause_alloc.header(cref);
@@ -77,9 +78,11 @@ pub fn mark_reasons<A: Allocator + Copy>(
     impl_graph: &ImplGraph<A>,
 )
     requires sound { IsSound clause_alloc.old }
-    requires values { (k : StoredClause) → k ∈ live_clauses clause_alloc.old → first_variable k < length assignment.now.current }
+    requires values { (k : StoredClause) → k ∈ live_clauses clause_alloc.old →
+        first_variable k < length assignment.now.current }
     requires nodes { length impl_graph.now.nodes.items ≡ length assignment.now.current }
-    ensures marked { RewritesClauses clause_alloc.old clause_alloc.new (reasons_marked assignment.now.current impl_graph.now.nodes.items) }
+    ensures marked { RewritesClauses clause_alloc.old clause_alloc.new
+        (reasons_marked assignment.now.current impl_graph.now.nodes.items) }
     ensures tracks { (d : Database) → Tracks d clause_alloc.old → Tracks d clause_alloc.new }
 {
     'clauses: for index in 0..clause_alloc.len() {
@@ -100,7 +103,8 @@ fn repoint_reason<A: Allocator + Copy>(
     requires place { IsClauseRef (stored_clauses clause_alloc.now) cref }
     requires value { first_variable (clause_of clause_alloc.now cref) < length assignment.now.current }
     requires node { first_variable (clause_of clause_alloc.now cref) < length impl_graph.old.nodes.items }
-    ensures { impl_graph.new.nodes.items ≡ repointed assignment.now.current impl_graph.old.nodes.items (clause_of clause_alloc.now cref) new_cref }
+    ensures { impl_graph.new.nodes.items
+        ≡ repointed assignment.now.current impl_graph.old.nodes.items (clause_of clause_alloc.now cref) new_cref }
 {
     if is_reason_clause(assignment, clause_alloc, impl_graph, cref) {
         let var = first_var(clause_alloc, cref);
@@ -118,9 +122,11 @@ pub fn repoint_reasons<A: Allocator + Copy>(
 )
     requires sound { IsSound clause_alloc.now }
     requires count { length (stored_clauses new_alloc.now) ≡ length (live_clauses clause_alloc.now) }
-    requires values { (k : StoredClause) → k ∈ live_clauses clause_alloc.now → first_variable k < length assignment.now.current }
+    requires values { (k : StoredClause) → k ∈ live_clauses clause_alloc.now →
+        first_variable k < length assignment.now.current }
     requires nodes { length impl_graph.old.nodes.items ≡ length assignment.now.current }
-    ensures { impl_graph.new.nodes.items ≡ reasons_repointed clause_alloc.now new_alloc.now assignment.now.current impl_graph.old.nodes.items }
+    ensures { impl_graph.new.nodes.items
+        ≡ reasons_repointed clause_alloc.now new_alloc.now assignment.now.current impl_graph.old.nodes.items }
 {
     let mut index = 0;
     for cref in clauses_iter(clause_alloc) {

@@ -44,7 +44,8 @@ impl<A: Allocator + Copy> TmpFlags<A> {
     pub fn set_var_count(&mut self, count: usize) -> Result<(), AllocError>
         requires raised { length self.old.flags.items ≤ 2 * count }
         requires small { count ≤ variable_limit }
-        ensures { OnOk result (self.new.flags.items ≡ self.old.flags.items ++ replicate (2 * count - length self.old.flags.items) false) }
+        ensures { OnOk result
+            (self.new.flags.items ≡ self.old.flags.items ++ replicate (2 * count - length self.old.flags.items) false) }
     {
         self.flags.resize(2 * count, false)?;
         Ok(())

@@ -193,7 +193,9 @@ pub extern "C" fn caller_set_mode(alloc: Global, handle: &mut Handle, variable: 
 #[unsafe(no_mangle)]
 pub extern "C" fn caller_model(alloc: Global, handle: &mut Handle) -> u8
     requires { IsSome handle.old.held }
-    ensures { MovesHeld (λ g h. ReturnsListOf (λ s r t. ReturnsList (by_state.model s) s r t) g result h) handle.old.held handle.new.held }
+    ensures { MovesHeld
+        (λ g h.
+        ReturnsListOf (λ s r t. ReturnsList (by_state.model s) s r t) g result h) handle.old.held handle.new.held }
 {
     let mut caller = handle.take(alloc);
     let answer = caller.model();
@@ -205,7 +207,9 @@ pub extern "C" fn caller_model(alloc: Global, handle: &mut Handle) -> u8
 #[unsafe(no_mangle)]
 pub extern "C" fn caller_core(alloc: Global, handle: &mut Handle) -> u8
     requires { IsSome handle.old.held }
-    ensures { MovesHeld (λ g h. ReturnsListOf (λ s r t. ReturnsList (by_state.core s) s r t) g result h) handle.old.held handle.new.held }
+    ensures { MovesHeld
+        (λ g h.
+        ReturnsListOf (λ s r t. ReturnsList (by_state.core s) s r t) g result h) handle.old.held handle.new.held }
 {
     let mut caller = handle.take(alloc);
     let answer = caller.core();
@@ -316,7 +320,8 @@ pub extern "C" fn caller_take_written(alloc: Global, handle: &mut Handle) -> usi
 pub extern "C" fn caller_steps(alloc: Global, handle: &mut Handle) -> u64
     requires { IsSome handle.old.held }
     ensures same { handle.new.held ≡ handle.old.held }
-    ensures steps { IsTrueBehind (λ g. LeadsRepresented g.solver (λ s t. ReturnsSteps s result t) g.solver) handle.old.held }
+    ensures steps { IsTrueBehind
+        (λ g. LeadsRepresented g.solver (λ s t. ReturnsSteps s result t) g.solver) handle.old.held }
 {
     let caller = handle.take(alloc);
     let answer = caller.steps();
@@ -341,7 +346,8 @@ pub extern "C" fn caller_counter(alloc: Global, handle: &mut Handle, number: u8)
 pub extern "C" fn caller_is_valid(alloc: Global, handle: &mut Handle) -> bool
     requires { IsSome handle.old.held }
     ensures same { handle.new.held ≡ handle.old.held }
-    ensures valid { IsTrueBehind (λ g. LeadsRepresented g.solver (λ s t. ReturnsValid s result t) g.solver) handle.old.held }
+    ensures valid { IsTrueBehind
+        (λ g. LeadsRepresented g.solver (λ s t. ReturnsValid s result t) g.solver) handle.old.held }
 {
     let caller = handle.take(alloc);
     let answer = caller.is_valid();

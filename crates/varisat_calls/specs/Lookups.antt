@@ -62,14 +62,19 @@ pub data FindsNone (none : Summary → Type 0) (number : ℤ) (g : Caller) (n : 
 
 -- Whether the literal of the number is true in the model: 1 and 0, and 15 where the model has no such variable.
 pub data ReturnsValue (number : ℤ) (g : Caller) (n : ℕ) (h : Caller) : Type 0 where
-  True : (m : List Literal) → IsModel g.solver m → literal_numbered number ∈ m → n ≡ 1 → h ≡ g → ReturnsValue number g n h
-  False : (m : List Literal) → IsModel g.solver m → opposite (literal_numbered number) ∈ m → n ≡ 0 → h ≡ g → ReturnsValue number g n h
-  Unknown : (m : List Literal) → IsModel g.solver m → (literal_numbered number ∈ m → ⊥) → (opposite (literal_numbered number) ∈ m → ⊥) →
+  True : (m : List Literal) → IsModel g.solver m → literal_numbered number ∈ m → n ≡ 1 → h ≡ g →
+      ReturnsValue number g n h
+  False : (m : List Literal) → IsModel g.solver m → opposite (literal_numbered number) ∈ m → n ≡ 0 → h ≡ g →
+      ReturnsValue number g n h
+  Unknown : (m : List Literal) → IsModel g.solver m → (literal_numbered number ∈ m → ⊥) →
+      (opposite (literal_numbered number) ∈ m → ⊥) →
       n ≡ 15 → h ≡ g → ReturnsValue number g n h
   Unfound : FindsNone HasNoModel number g n h → ReturnsValue number g n h
 
 -- Whether the literal of the number is one of the core: 1 and 0.
 pub data ReturnsFailed (number : ℤ) (g : Caller) (n : ℕ) (h : Caller) : Type 0 where
-  Failed : (m : List Literal) → IsCore g.solver m → literal_numbered number ∈ m → n ≡ 1 → h ≡ g → ReturnsFailed number g n h
-  Unfailed : (m : List Literal) → IsCore g.solver m → (literal_numbered number ∈ m → ⊥) → n ≡ 0 → h ≡ g → ReturnsFailed number g n h
+  Failed : (m : List Literal) → IsCore g.solver m → literal_numbered number ∈ m → n ≡ 1 → h ≡ g →
+      ReturnsFailed number g n h
+  Unfailed : (m : List Literal) → IsCore g.solver m → (literal_numbered number ∈ m → ⊥) → n ≡ 0 → h ≡ g →
+      ReturnsFailed number g n h
   Unfound : FindsNone HasNoCore number g n h → ReturnsFailed number g n h

@@ -82,7 +82,8 @@ RaisesActivity old new a p = RewritesClauses old new (λ ks. with_activity ks p 
 
 -- the same, and then all activities are shifted
 abbrev pub RaisesAndShifts : Store → Store → ActivityScale → ℕ → Type 0
-RaisesAndShifts old new a p = RewritesClauses old new (λ ks. with_activity (clauses_shifted ks) p (activity_bumped p (scored old a) / 2 ^ 16))
+RaisesAndShifts old new a p =
+    RewritesClauses old new (λ ks. with_activity (clauses_shifted ks) p (activity_bumped p (scored old a) / 2 ^ 16))
 
 -- the increment after a decay
 abbrev pub increment_decayed : ActivityScale → ℕ

@@ -25,7 +25,8 @@ abbrev pub left_if : Bool → StoredClause → StoredClause
 left_if stays k = record k { header = record k.header { deleted = not stays } }
 
 -- a filter came to the clause at the place
-pub record FiltersAt {F : Type 0} (Leaves : F → StoredClause → StoredClause → F → Type 0) (f g : F) (old new : Store) (p : ℕ) : Type 0 where
+pub record FiltersAt {F : Type 0} (Leaves : F → StoredClause → StoredClause → F → Type 0) (f g : F) (old new : Store)
+    (p : ℕ) : Type 0 where
   pub clause : StoredClause
   pub place : clause.place ≡ p
   pub tier : clause.header.tier ≡ (header_at (stored_clauses old) p).tier
@@ -34,19 +35,23 @@ pub record FiltersAt {F : Type 0} (Leaves : F → StoredClause → StoredClause 
 
 -- A filter f comes to the clause k, leaves j of it, and is g then. One that was deleted before is passed over. Another one
 -- keeps its place and its tier, and the rest is the filter's own relation.
-pub data FiltersOne {F : Type 0} (Leaves : F → StoredClause → StoredClause → F → Type 0) (f : F) (k j : StoredClause) (g : F) : Type 0 where
+pub data FiltersOne {F : Type 0} (Leaves : F → StoredClause → StoredClause → F → Type 0) (f : F) (k j : StoredClause)
+    (g : F) : Type 0 where
   PassesOver : k.header.deleted ≡ true → j ≡ k → g ≡ f → FiltersOne Leaves f k j g
-  ComesTo : k.header.deleted ≡ false → j.place ≡ k.place → j.header.tier ≡ k.header.tier → Leaves f k j g → FiltersOne Leaves f k j g
+  ComesTo : k.header.deleted ≡ false → j.place ≡ k.place → j.header.tier ≡ k.header.tier → Leaves f k j g →
+      FiltersOne Leaves f k j g
 
 -- it goes over the clauses one after another, and leaves as many
-abbrev pub Filters : {F : Type 0} → (F → StoredClause → StoredClause → F → Type 0) → F → List StoredClause → List StoredClause → F → Type 0
+abbrev pub Filters : {F : Type 0} → (F → StoredClause → StoredClause → F → Type 0) → F → List StoredClause →
+    List StoredClause → F → Type 0
 Filters Leaves f [] [] g = g ≡ f
 Filters Leaves f [] (j ∷ js) g = ⊥
 Filters Leaves f (k ∷ ks) [] g = ⊥
 Filters {F} Leaves f (k ∷ ks) (j ∷ js) h = (g : F) × FiltersOne Leaves f k j g × Filters Leaves g ks js h
 
 -- it stops behind the first clauses, and the others stay as they are
-pub record StopsWithin {F : Type 0} (Leaves : F → StoredClause → StoredClause → F → Type 0) (f : F) (ks js : List StoredClause) : Type 0 where
+pub record StopsWithin {F : Type 0} (Leaves : F → StoredClause → StoredClause → F → Type 0) (f : F)
+    (ks js : List StoredClause) : Type 0 where
   pub first : List StoredClause
   pub rest : List StoredClause
   pub left : List StoredClause

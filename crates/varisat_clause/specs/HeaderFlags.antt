@@ -20,7 +20,8 @@ bit-back (suc (suc n)) h = absurd (omega arith)
 
 -- the flags that a header was read from
 pub flags-read : (f : ℕ) → f < 2 ^ 11 →
-    tier_index (tier_of (f % 4)) + 4 * bit (nat_eq (f / 4 % 2) 1) + 8 * bit (nat_eq (f / 8 % 2) 1) + 16 * (f / 16 % 64) + 1024 * bit (nat_eq (f / 1024) 1) ≡ f
+    tier_index (tier_of (f % 4)) + 4 * bit (nat_eq (f / 4 % 2) 1) + 8 * bit (nat_eq (f / 8 % 2) 1) + 16 *
+    (f / 16 % 64) + 1024 * bit (nat_eq (f / 1024) 1) ≡ f
 flags-read f h =
     let t = tier-back (f % 4) (omega arith) in
     let d = bit-back (f / 4 % 2) (omega arith) in
@@ -48,7 +49,8 @@ tier-small Mid = omega arith
 tier-small Local = omega arith
 
 -- the tier alone is set
-pub tier-alone : (a f n : ℕ) (t : Tier) → f < 2 ^ 11 → header_of_words a (f - f % 4 + tier_index t) n ≡ record (header_of_words a f n) { tier = t }
+pub tier-alone : (a f n : ℕ) (t : Tier) → f < 2 ^ 11 →
+    header_of_words a (f - f % 4 + tier_index t) n ≡ record (header_of_words a f n) { tier = t }
 tier-alone a f n t h =
     let s = tier-small t in
     let g : ℕ = f - f % 4 + tier_index t in

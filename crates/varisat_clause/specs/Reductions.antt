@@ -59,7 +59,9 @@ pub record MarksTier (t : Tier) (old new : Store) (ps : List ℕ) : Type 0 where
 
 -- the clause at the first place is less active, or as active and before the other
 abbrev pub Precedes : List StoredClause → ℕ → ℕ → Type 0
-Precedes ks p q = ((header_at ks p).activity < (header_at ks q).activity) ⊎ (((header_at ks p).activity ≡ (header_at ks q).activity) × (p < q))
+Precedes ks p q =
+    ((header_at ks p).activity < (header_at ks q).activity)
+    ⊎ (((header_at ks p).activity ≡ (header_at ks q).activity) × (p < q))
 
 -- each precedes all that are behind it
 abbrev pub AreRanked : List StoredClause → List ℕ → Type 0
@@ -70,7 +72,8 @@ AreRanked ks (p ∷ ps) = ((q : ℕ) → q ∈ ps → Precedes ks p q) × AreRan
 abbrev pub unmarked_places : List StoredClause → ℕ → List ℕ → List ℕ
 unmarked_places ks n [] = []
 unmarked_places ks zero (p ∷ ps) = []
-unmarked_places ks (suc n) (p ∷ ps) = if (header_at ks p).mark then unmarked_places ks (suc n) ps else p ∷ unmarked_places ks n ps
+unmarked_places ks (suc n) (p ∷ ps) =
+    if (header_at ks p).mark then unmarked_places ks (suc n) ps else p ∷ unmarked_places ks n ps
 
 -- the clauses at the places are deleted
 abbrev pub all_deleted : List ℕ → List StoredClause → List StoredClause
@@ -89,7 +92,8 @@ pub record ReducesLocals (old new : Store) : Type 0 where
 abbrev pub mid_reduced : StoredClause → StoredClause
 mid_reduced k =
     if is_live_in Mid k then (
-    if k.header.active then record k { header = record k.header { active = false } } else record k { header = record k.header { tier = Local } }) else k
+    if k.header.active then record k { header = record k.header { active = false } }
+    else record k { header = record k.header { tier = Local } }) else k
 
 -- the clauses once the tier Mid is reduced
 abbrev pub mids_reduced : List StoredClause → List StoredClause

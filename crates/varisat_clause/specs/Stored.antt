@@ -55,7 +55,9 @@ with_header ks p h = with_stored ks p (record (stored_at ks p) { header = h })
 
 -- the clause at the place keeps only its first n literals
 abbrev pub shortened : List StoredClause → ℕ → ℕ → List StoredClause
-shortened ks p n = with_stored ks p (record { place = p; header = record (header_at ks p) { len = n }; literals = take n (literals_at ks p) })
+shortened ks p n =
+    with_stored ks p
+    (record { place = p; header = record (header_at ks p) { len = n }; literals = take n (literals_at ks p) })
 
 -- each clause stands at a higher place than the one before it
 abbrev pub AreRising : List StoredClause → Type 0
@@ -75,4 +77,5 @@ abbrev pub AreReordered : List StoredClause → List StoredClause → Type 0
 AreReordered [] [] = Unit {0}
 AreReordered [] (j ∷ js) = ⊥
 AreReordered (k ∷ ks) [] = ⊥
-AreReordered (k ∷ ks) (j ∷ js) = (j.place ≡ k.place) × (j.header ≡ k.header) × SameSet j.literals k.literals × AreReordered ks js
+AreReordered (k ∷ ks) (j ∷ js) =
+    (j.place ≡ k.place) × (j.header ≡ k.header) × SameSet j.literals k.literals × AreReordered ks js

@@ -52,7 +52,9 @@ pub record IsSound (s : Store) : Type 0 where
 
 -- the same as tests
 abbrev pub lies : List ℕ → ℕ → ℕ → ℕ → Bool
-lies ws low high p = nat_le low p && nat_le 3 (len_at ws p) && nat_le (p + 3 + len_at ws p) high && nat_lt (slice_index ws (p + 1)) (2 ^ 11)
+lies ws low high p =
+    nat_le low p && nat_le 3 (len_at ws p) && nat_le (p + 3 + len_at ws p) high && nat_lt (slice_index ws (p + 1))
+    (2 ^ 11)
 
 -- the same as a test: clauses of these places stand one after another between two words
 abbrev pub fit : List ℕ → ℕ → ℕ → List ℕ → Bool
@@ -75,15 +77,18 @@ RewritesClauses old new f = HoldsClauses new (length old.words) (f (stored_claus
 
 -- only the clause at the place is changed
 abbrev pub RewritesClauseAt : Store → Store → ℕ → (StoredClause → StoredClause) → Type 0
-RewritesClauseAt old new p f = HoldsClauses new (length old.words) (with_stored (stored_clauses old) p (f (stored_at (stored_clauses old) p)))
+RewritesClauseAt old new p f =
+    HoldsClauses new (length old.words) (with_stored (stored_clauses old) p (f (stored_at (stored_clauses old) p)))
 
 -- only its header is changed
 abbrev pub RewritesHeaderAt : Store → Store → ℕ → (Header → Header) → Type 0
-RewritesHeaderAt old new p f = HoldsClauses new (length old.words) (with_header (stored_clauses old) p (f (header_at (stored_clauses old) p)))
+RewritesHeaderAt old new p f =
+    HoldsClauses new (length old.words) (with_header (stored_clauses old) p (f (header_at (stored_clauses old) p)))
 
 -- only its literals are changed
 abbrev pub RewritesLiteralsAt : Store → Store → ℕ → (Clause → Clause) → Type 0
-RewritesLiteralsAt old new p f = HoldsClauses new (length old.words) (with_literals (stored_clauses old) p (f (literals_at (stored_clauses old) p)))
+RewritesLiteralsAt old new p f =
+    HoldsClauses new (length old.words) (with_literals (stored_clauses old) p (f (literals_at (stored_clauses old) p)))
 
 -- a clause stands behind the words that there were, and all else is as it was
 pub record AddsStored (old new : Store) (k : StoredClause) : Type 0 where
@@ -102,7 +107,8 @@ splice ws a xs = take a ws ++ (xs ++ drop (length xs) (drop a ws))
 
 -- the same, where what is too long is cut off
 abbrev pub put_words : Store → ℕ → List ℕ → Store
-put_words s a xs = record s { words = take (length s.words) (splice s.words a xs ++ drop (length (splice s.words a xs)) s.words) }
+put_words s a xs =
+    record s { words = take (length s.words) (splice s.words a xs ++ drop (length (splice s.words a xs)) s.words) }
 
 -- n words that are written behind the header at the place become the literals of the clause there, and no other clause changes
 abbrev pub TakesLiteralsAt : Store → ℕ → ℕ → Type 0

@@ -136,8 +136,10 @@ pub fn bump_clause_activity<A: Allocator + Copy>(
 )
     requires sound { IsSound alloc.old }
     requires place { IsClauseRef (stored_clauses alloc.old) cref }
-    ensures raised { reaches_limit_at cref (scored alloc.old activity.old) ≡ false → RaisesActivity alloc.old alloc.new activity.old cref }
-    ensures shifted { reaches_limit_at cref (scored alloc.old activity.old) ≡ true → RaisesAndShifts alloc.old alloc.new activity.old cref }
+    ensures raised { reaches_limit_at cref (scored alloc.old activity.old) ≡ false →
+        RaisesActivity alloc.old alloc.new activity.old cref }
+    ensures shifted { reaches_limit_at cref (scored alloc.old activity.old) ≡ true →
+        RaisesAndShifts alloc.old alloc.new activity.old cref }
     ensures scale { activity.new ≡ scale_rescaled (reaches_limit_at cref (scored alloc.old activity.old)) activity.old }
 {
     let increment = activity.increment();
@@ -158,8 +160,10 @@ pub fn decay_clause_activities<A: Allocator + Copy>(
     activity: &mut ClauseActivity,
 )
     requires { IsSound alloc.old }
-    ensures clauses { RewritesClauses alloc.old alloc.new (clauses_rescaled (reaches_clause_limit (increment_decayed activity.old))) }
-    ensures scale { activity.new ≡ scale_rescaled (reaches_clause_limit (increment_decayed activity.old)) (scale_decayed activity.old) }
+    ensures clauses { RewritesClauses alloc.old alloc.new
+        (clauses_rescaled (reaches_clause_limit (increment_decayed activity.old))) }
+    ensures scale { activity.new
+        ≡ scale_rescaled (reaches_clause_limit (increment_decayed activity.old)) (scale_decayed activity.old) }
 {
     let increment = activity.decayed();
     if increment < ACTIVITY_LIMIT {

@@ -214,7 +214,8 @@ impl<A: Allocator + Copy> ClauseAlloc<A> {
         requires sound { IsSound self.old }
         ensures added { IfOk result (λ cref. AddsStored self.old self.new (new_clause cref header lits.now)) }
         ensures room { IfOk result (λ cref. length self.old.words + 3 + length lits.now < 2 ^ 32) }
-        ensures full { IfErr result (λ error. (error ≡ StoreError.Full) ↔ (2 ^ 32 ≤ length self.old.words + 3 + length lits.now)) }
+        ensures full { IfErr result
+            (λ error. (error ≡ StoreError.Full) ↔ (2 ^ 32 ≤ length self.old.words + 3 + length lits.now)) }
         ensures refused { OnErr result (self.new ≡ self.old) }
     {
         if !self.has_room(lits.len()) {

@@ -159,7 +159,8 @@ impl<'a, A: Allocator + Copy> ClauseHeaderMut<'a, A> {
         requires most { count ≤ (header_at (stored_clauses self.old.alloc.now) self.old.cref).len }
         ensures same_reference { self.new.alloc.ghost_name ≡ self.old.alloc.ghost_name }
         ensures same_place { self.new.cref ≡ self.old.cref }
-        ensures changed { RewritesClauses self.old.alloc.now self.new.alloc.now (λ clauses. shortened clauses self.old.cref count) }
+        ensures changed { RewritesClauses self.old.alloc.now self.new.alloc.now
+            (λ clauses. shortened clauses self.old.cref count) }
     {
         let cref = self.cref;
         let alloc = &mut *self.alloc;
@@ -172,7 +173,8 @@ impl<'a, A: Allocator + Copy> ClauseHeaderMut<'a, A> {
         requires place { IsClauseRef (stored_clauses self.old.alloc.now) self.old.cref }
         ensures same_reference { self.new.alloc.ghost_name ≡ self.old.alloc.ghost_name }
         ensures same_place { self.new.cref ≡ self.old.cref }
-        ensures changed { RewritesHeaderAt self.old.alloc.now self.new.alloc.now self.old.cref (λ header. record header { deleted = deleted }) }
+        ensures changed { RewritesHeaderAt self.old.alloc.now self.new.alloc.now self.old.cref
+            (λ header. record header { deleted = deleted }) }
     {
         let mut header = self.header();
         header.set_deleted(deleted);
@@ -185,7 +187,8 @@ impl<'a, A: Allocator + Copy> ClauseHeaderMut<'a, A> {
         requires place { IsClauseRef (stored_clauses self.old.alloc.now) self.old.cref }
         ensures same_reference { self.new.alloc.ghost_name ≡ self.old.alloc.ghost_name }
         ensures same_place { self.new.cref ≡ self.old.cref }
-        ensures changed { RewritesHeaderAt self.old.alloc.now self.new.alloc.now self.old.cref (λ header. record header { tier = tier }) }
+        ensures changed { RewritesHeaderAt self.old.alloc.now self.new.alloc.now self.old.cref
+            (λ header. record header { tier = tier }) }
     {
         let mut header = self.header();
         header.set_tier(tier);
@@ -198,7 +201,8 @@ impl<'a, A: Allocator + Copy> ClauseHeaderMut<'a, A> {
         requires place { IsClauseRef (stored_clauses self.old.alloc.now) self.old.cref }
         ensures same_reference { self.new.alloc.ghost_name ≡ self.old.alloc.ghost_name }
         ensures same_place { self.new.cref ≡ self.old.cref }
-        ensures changed { RewritesHeaderAt self.old.alloc.now self.new.alloc.now self.old.cref (λ header. record header { mark = mark }) }
+        ensures changed { RewritesHeaderAt self.old.alloc.now self.new.alloc.now self.old.cref
+            (λ header. record header { mark = mark }) }
     {
         let mut header = self.header();
         header.set_mark(mark);
@@ -211,7 +215,8 @@ impl<'a, A: Allocator + Copy> ClauseHeaderMut<'a, A> {
         requires place { IsClauseRef (stored_clauses self.old.alloc.now) self.old.cref }
         ensures same_reference { self.new.alloc.ghost_name ≡ self.old.alloc.ghost_name }
         ensures same_place { self.new.cref ≡ self.old.cref }
-        ensures changed { RewritesHeaderAt self.old.alloc.now self.new.alloc.now self.old.cref (λ header. record header { active = active }) }
+        ensures changed { RewritesHeaderAt self.old.alloc.now self.new.alloc.now self.old.cref
+            (λ header. record header { active = active }) }
     {
         let mut header = self.header();
         header.set_active(active);
@@ -224,7 +229,8 @@ impl<'a, A: Allocator + Copy> ClauseHeaderMut<'a, A> {
         requires place { IsClauseRef (stored_clauses self.old.alloc.now) self.old.cref }
         ensures same_reference { self.new.alloc.ghost_name ≡ self.old.alloc.ghost_name }
         ensures same_place { self.new.cref ≡ self.old.cref }
-        ensures changed { RewritesHeaderAt self.old.alloc.now self.new.alloc.now self.old.cref (λ header. record header { glue = min glue 63 }) }
+        ensures changed { RewritesHeaderAt self.old.alloc.now self.new.alloc.now self.old.cref
+            (λ header. record header { glue = min glue 63 }) }
     {
         let mut header = self.header();
         header.set_glue(glue);
@@ -237,7 +243,8 @@ impl<'a, A: Allocator + Copy> ClauseHeaderMut<'a, A> {
         requires place { IsClauseRef (stored_clauses self.old.alloc.now) self.old.cref }
         ensures same_reference { self.new.alloc.ghost_name ≡ self.old.alloc.ghost_name }
         ensures same_place { self.new.cref ≡ self.old.cref }
-        ensures changed { RewritesHeaderAt self.old.alloc.now self.new.alloc.now self.old.cref (λ header. record header { activity = activity }) }
+        ensures changed { RewritesHeaderAt self.old.alloc.now self.new.alloc.now self.old.cref
+            (λ header. record header { activity = activity }) }
     {
         let mut header = self.header();
         header.set_activity(activity);

@@ -250,7 +250,8 @@ pub fn add_clause<A: Allocator + Copy>(
     ensures added { IfOk result (λ cref. AddsStored alloc.old alloc.new (new_clause cref header lits.now)) }
     ensures noted { IfOk result (λ cref. db.new ≡ with_added header.tier cref db.old) }
     ensures room { IfOk result (λ cref. length alloc.old.words + 3 + length lits.now < 2 ^ 32) }
-    ensures full { IfErr result (λ error. (error ≡ StoreError.Full) ↔ (2 ^ 32 ≤ length alloc.old.words + 3 + length lits.now)) }
+    ensures full { IfErr result
+        (λ error. (error ≡ StoreError.Full) ↔ (2 ^ 32 ≤ length alloc.old.words + 3 + length lits.now)) }
     ensures refused { OnErr result (alloc.new ≡ alloc.old) }
     ensures refused_too { OnErr result (db.new ≡ db.old) }
     ensures tracks { Tracks db.new alloc.new }
@@ -295,7 +296,9 @@ pub fn delete_clause<A: Allocator + Copy>(
     requires live { (header_at (stored_clauses alloc.old) cref).deleted ≡ false }
     requires tracks { Tracks db.old alloc.old }
     ensures deleted { RewritesHeaderAt alloc.old alloc.new cref (λ header. record header { deleted = true }) }
-    ensures noted { db.new ≡ with_deleted (header_at (stored_clauses alloc.old) cref).tier (length (literals_at (stored_clauses alloc.old) cref)) db.old }
+    ensures noted { db.new
+        ≡ with_deleted (header_at (stored_clauses alloc.old) cref).tier
+        (length (literals_at (stored_clauses alloc.old) cref)) db.old }
     ensures tracks { Tracks db.new alloc.new }
 {
     let mut header = alloc.header(cref);
@@ -316,7 +319,8 @@ pub fn try_delete_clause<A: Allocator + Copy>(
     requires live { (header_at (stored_clauses alloc.old) cref).deleted ≡ false }
     requires tracks { Tracks db.old alloc.old }
     ensures deletes { result ≡ not is_reason }
-    ensures deleted { is_reason ≡ false → RewritesHeaderAt alloc.old alloc.new cref (λ header. record header { deleted = true }) }
+    ensures deleted { is_reason ≡ false →
+        RewritesHeaderAt alloc.old alloc.new cref (λ header. record header { deleted = true }) }
     ensures kept { is_reason ≡ true → alloc.new ≡ alloc.old }
     ensures kept_too { is_reason ≡ true → db.new ≡ db.old }
     ensures tracks { Tracks db.new alloc.new }

@@ -29,7 +29,8 @@ pub trait ClauseFilter<A: Allocator + Copy> {
         requires live { (clause_of alloc.old cref).header.deleted ≡ false }
         requires accepted { accepts self.old (clause_of alloc.old cref) }
         ensures altered { OnOk result (Alters alloc.old alloc.new cref) }
-        ensures left { IfOk result (λ stays. leaves self.old (clause_of alloc.old cref) (left_if stays (clause_of alloc.new cref)) self.new) }
+        ensures left { IfOk result
+            (λ stays. leaves self.old (clause_of alloc.old cref) (left_if stays (clause_of alloc.new cref)) self.new) }
         ensures accepts_more { OnOk result ((k : StoredClause) → accepts self.old k → accepts self.new k) }
         ensures refused { OnErr result (alloc.new ≡ alloc.old) };
 }
@@ -67,8 +68,10 @@ pub fn filter_clauses<A: Allocator + Copy, F: ClauseFilter<A>>(
 ) -> Result<(), F::Error>
     requires tracks { Tracks db.old alloc.old }
     requires accepted { (k : StoredClause) → k ∈ stored_clauses alloc.old → is_live k ≡ true → F.accepts filter.old k }
-    ensures filtered { OnOk result (Filters F.leaves filter.old (stored_clauses alloc.old) (stored_clauses alloc.new) filter.new) }
-    ensures stopped { OnErr result (StopsWithin F.leaves filter.old (stored_clauses alloc.old) (stored_clauses alloc.new)) }
+    ensures filtered { OnOk result
+        (Filters F.leaves filter.old (stored_clauses alloc.old) (stored_clauses alloc.new) filter.new) }
+    ensures stopped { OnErr result
+        (StopsWithin F.leaves filter.old (stored_clauses alloc.old) (stored_clauses alloc.new)) }
     ensures size { length alloc.new.words ≡ length alloc.old.words }
     ensures tracks { Tracks db.new alloc.new }
 {

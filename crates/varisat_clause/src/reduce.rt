@@ -153,7 +153,8 @@ pub fn delete_unmarked<A: Allocator + Copy>(
 )
     requires tracks { Tracks db.old alloc.old }
     requires listed { ListsTier Tier.Local (stored_clauses alloc.old) list.now }
-    ensures deleted { RewritesClauses alloc.old alloc.new (all_deleted (unmarked_places (stored_clauses alloc.old) count list.now)) }
+    ensures deleted { RewritesClauses alloc.old alloc.new
+        (all_deleted (unmarked_places (stored_clauses alloc.old) count list.now)) }
     ensures tracks { Tracks db.new alloc.new }
 {
     let mut left = count;

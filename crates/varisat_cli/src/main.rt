@@ -21,8 +21,8 @@ use std::{env, fs};
 use varisat::io::{IoTarget, ProofTarget, ReadSource};
 use varisat::line::parse_number;
 use varisat::program::{
-    STATUS_DONE, STATUS_FAULT, SolveOptions, check_drat_lines, check_lines, session_lines,
-    print_fault, print_usage,
+    STATUS_DONE, STATUS_FAULT, SolveOptions, check_drat_lines, check_lines, print_fault,
+    print_usage, session_lines,
 };
 use varisat::proof::ProofFormat;
 use varisat::solver::SolverError;
@@ -217,7 +217,8 @@ fn heap_size(value: &str) -> Option<usize> {
 
 // How a proof is written; not both are asked for.
 fn proof_format(is_binary: bool, is_marked: bool) -> ProofFormat
-    ensures { MatchBool is_binary (result ≡ ProofFormat.BinaryDrat) (MatchBool is_marked (result ≡ ProofFormat.Marked) (result ≡ ProofFormat.Drat)) }
+    ensures { MatchBool is_binary (result ≡ ProofFormat.BinaryDrat)
+        (MatchBool is_marked (result ≡ ProofFormat.Marked) (result ≡ ProofFormat.Drat)) }
 {
     if is_binary {
         ProofFormat::BinaryDrat
@@ -407,7 +408,8 @@ fn decide_text<R: Read + Drop, T: ProofTarget, E: Write>(
     requires room { CanCountFault taken_by_writer proof.old }
     requires out_faults { (T.taken out.old).faults < 2 ^ 64 - 1 }
     ensures truth { StatusIsTrue cnf.old cnf.new result }
-    ensures outcome { (result ≡ fault_status) ⊎ DecidesWithStatus taken_by_writer options.search cnf.old cnf.new proof.old proof.new result }
+    ensures outcome { (result ≡ fault_status)
+        ⊎ DecidesWithStatus taken_by_writer options.search cnf.old cnf.new proof.old proof.new result }
 {
     match heap {
         None => solve_lines(rt.alloc(), cnf, proof, options, rt, out, err),

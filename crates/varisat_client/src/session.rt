@@ -66,7 +66,8 @@ pub fn run<A: Allocator + Copy>(
     client: &mut Client<A>,
     calls: Vec<Call, A>,
 ) -> Result<Vec<Answer, A>, AllocError>
-    ensures run { IfOk result (λ answers. Moves (λ p q. MakeInTurn p calls.items answers.items q) client.old client.new) }
+    ensures run { IfOk result
+        (λ answers. Moves (λ p q. MakeInTurn p calls.items answers.items q) client.old client.new) }
     ensures refused { OnErr result (client.new ≡ client.old) }
 {
     let mut answers = Vec::with_capacity(*calls.allocator(), calls.len())?;

@@ -58,7 +58,9 @@ pub(crate) fn give<A: Allocator + Copy>(
     client: &mut Client<A>,
     clause: &[Lit],
 ) -> Result<(), MaxSatError>
-    ensures { OnOk result ((p : Past) → IsReady client.old p → IsReady client.new (record (count clause.now p) { clauses = p.clauses ++ clause.now ∷ [] })) }
+    ensures { OnOk result
+        ((p : Past) → IsReady client.old p →
+        IsReady client.new (record (count clause.now p) { clauses = p.clauses ++ clause.now ∷ [] })) }
 {
     for literal in clause {
         client.add(number_of(*literal)?);
@@ -93,7 +95,8 @@ pub(crate) fn search<A: Allocator + Copy>(
     charges: &[Charge],
     threshold: u64,
 ) -> Result<bool, MaxSatError>
-    ensures { IfOk result (λ b. (p : Past) → IsReady client.old p → Finds b threshold charges.now p.clauses client.new) }
+    ensures { IfOk result
+        (λ b. (p : Past) → IsReady client.old p → Finds b threshold charges.now p.clauses client.new) }
 {
     assume(client, charges, threshold)?;
     match client.search() {
@@ -113,7 +116,8 @@ pub(crate) fn divide<A: Allocator + Copy>(
     charges: &[Charge],
     alloc: A,
 ) -> Result<Split<A>, MaxSatError>
-    ensures { IfOk result (λ s. (p : Past) → IsReady client.now p → IsSplit p.core charges.now s.kept.items s.failed.items) }
+    ensures { IfOk result
+        (λ s. (p : Past) → IsReady client.now p → IsSplit p.core charges.now s.kept.items s.failed.items) }
 {
     let mut kept = Vec::new(alloc);
     let mut failed = Vec::new(alloc);
@@ -133,7 +137,9 @@ pub(crate) fn values<A: Allocator + Copy>(
     count: usize,
     alloc: A,
 ) -> Result<Vec<bool, A>, MaxSatError>
-    ensures { IfOk result (λ vs. (p : Past) → IsReady client.now p → (a : Assignment) → MakesTrue a p.model → AreValues count p.model vs.items) }
+    ensures { IfOk result
+        (λ vs. (p : Past) → IsReady client.now p → (a : Assignment) → MakesTrue a p.model →
+        AreValues count p.model vs.items) }
 {
     let mut values = Vec::new(alloc);
     for index in 0..count {

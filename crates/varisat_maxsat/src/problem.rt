@@ -35,7 +35,9 @@ fn add_all_hard<A: Allocator + Copy>(
     reduction: &mut Reduction<A>,
     formula: &CnfFormula<A>,
 ) -> Result<(), MaxSatError>
-    ensures { OnOk result ((p : Asked) → ReducesTo p reduction.old → ReducesTo (record p { hard = p.hard ++ formula.now.clauses }) reduction.new) }
+    ensures { OnOk result
+        ((p : Asked) → ReducesTo p reduction.old →
+        ReducesTo (record p { hard = p.hard ++ formula.now.clauses }) reduction.new) }
 {
     for clause in formula.iter() {
         reduction.add_hard(clause)?;
@@ -50,7 +52,9 @@ fn add_all_soft<A: Allocator + Copy>(
     weights: &[u64],
 ) -> Result<(), MaxSatError>
     requires { length weights.now ≡ length formula.now.clauses }
-    ensures { OnOk result ((p : Asked) → ReducesTo p reduction.old → ReducesTo (record p { soft = p.soft ++ paired weights.now formula.now.clauses }) reduction.new) }
+    ensures { OnOk result
+        ((p : Asked) → ReducesTo p reduction.old →
+        ReducesTo (record p { soft = p.soft ++ paired weights.now formula.now.clauses }) reduction.new) }
 {
     let mut index = 0;
     for clause in formula.iter() {
@@ -90,7 +94,9 @@ impl<A: Allocator + Copy> Problem<A> {
 
     /// Takes a hard clause.
     pub fn add_hard(&mut self, clause: &[Lit]) -> Result<(), FormulaError>
-        ensures ok { OnOk result (self.new ≡ record (with_hard clause.now self.old) { variables = max self.old.variables (variables_of clause.now) }) }
+        ensures ok { OnOk result
+            (self.new
+            ≡ record (with_hard clause.now self.old) { variables = max self.old.variables (variables_of clause.now) }) }
         ensures refused { OnErr result (self.new ≡ self.old) }
     {
         self.hard.add_clause(clause)?;
@@ -99,7 +105,10 @@ impl<A: Allocator + Copy> Problem<A> {
 
     /// Takes a soft clause with its weight.
     pub fn add_soft(&mut self, weight: u64, clause: &[Lit]) -> Result<(), FormulaError>
-        ensures ok { OnOk result (self.new ≡ record (with_soft weight clause.now self.old) { variables = max self.old.variables (variables_of clause.now) }) }
+        ensures ok { OnOk result
+            (self.new
+            ≡ record
+            (with_soft weight clause.now self.old) { variables = max self.old.variables (variables_of clause.now) }) }
         ensures refused { OnErr result (self.new ≡ self.old) }
     {
         self.weights.reserve(1)?;
@@ -110,7 +119,8 @@ impl<A: Allocator + Copy> Problem<A> {
 
     /// Brings the problem down.
     pub(crate) fn reduce(&self, reduction: &mut Reduction<A>) -> Result<(), MaxSatError>
-        ensures { OnOk result (ReducesTo (starting self.now.variables) reduction.old → ReducesTo self.now reduction.new) }
+        ensures { OnOk result
+            (ReducesTo (starting self.now.variables) reduction.old → ReducesTo self.now reduction.new) }
     {
         add_all_hard(reduction, &self.hard)?;
         add_all_soft(reduction, &self.soft, &self.weights)?;

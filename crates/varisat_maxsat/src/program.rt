@@ -72,7 +72,8 @@ fn print_optimum<A: Allocator + Copy, T: ProofTarget, E: Write>(
     err: &mut E,
 ) -> u8
     requires { (T.taken out.old).faults < 2 ^ 64 - 1 }
-    ensures { Prints (optimum_text optimum.now.cost optimum.now.values.items) 30 (T.taken out.old) (T.taken out.new) result }
+    ensures { Prints (optimum_text optimum.now.cost optimum.now.values.items) 30 (T.taken out.old)
+        (T.taken out.new) result }
 {
     match written(alloc, optimum.cost, &optimum.values) {
         Ok(text) => print_answer(&text, STATUS_OPTIMUM, out, err),

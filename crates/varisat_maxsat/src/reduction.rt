@@ -75,7 +75,8 @@ impl<A: Allocator + Copy> Reduction<A> {
 
     /// Takes a soft clause.
     pub fn add_soft(&mut self, weight: u64, clause: &[Lit]) -> Result<(), MaxSatError>
-        ensures { OnOk result ((p : Problem) → ReducesTo p self.old → ReducesTo (with_soft weight clause.now p) self.new) }
+        ensures { OnOk result
+            ((p : Problem) → ReducesTo p self.old → ReducesTo (with_soft weight clause.now p) self.new) }
     {
         ensure_below(clause, self.variables)?;
         if weight == 0 {
@@ -107,7 +108,8 @@ impl<A: Allocator + Copy> Reduction<A> {
 
     /// Brings the problem further down by the core. False is for one that no assignment satisfies.
     pub fn relax(&mut self) -> Result<bool, MaxSatError>
-        ensures { IfOk result (λ b. (p : Problem) (t : ℕ) → ReducesToAfter false t p self.old → IsRelaxed b p self.new) }
+        ensures { IfOk result
+            (λ b. (p : Problem) (t : ℕ) → ReducesToAfter false t p self.old → IsRelaxed b p self.new) }
     {
         let Split { mut kept, failed } = divide(&self.client, &self.charges, self.alloc)?;
         if failed.is_empty() {
@@ -121,7 +123,11 @@ impl<A: Allocator + Copy> Reduction<A> {
     }
 
     /// Joins the literals, of which one is true, and raises the bound by their weight.
-    fn join_pending(&mut self, mut pending: VecDeque<Lit, A>, weight: u64) -> Result<(), MaxSatError>
+    fn join_pending(
+        &mut self,
+        mut pending: VecDeque<Lit, A>,
+        weight: u64,
+    ) -> Result<(), MaxSatError>
         ensures { OnOk result ((p : Problem) → ReducesToWith p pending.items weight self.old → ReducesTo p self.new) }
     {
         'gates: while let Some(first) = pending.pop_front() {
@@ -139,7 +145,9 @@ impl<A: Allocator + Copy> Reduction<A> {
     /// In place of two literals: one that is true where either is, which is returned, and one that is true where both are,
     /// which is charged.
     fn join(&mut self, first: Lit, second: Lit, weight: u64) -> Result<Lit, MaxSatError>
-        ensures { IfOk result (λ d. (p : Problem) (rest : List ℕ) → ReducesToWith p (first ∷ second ∷ rest) weight self.old → ReducesToWith p (rest ++ d ∷ []) weight self.new) }
+        ensures { IfOk result
+            (λ d. (p : Problem) (rest : List ℕ) → ReducesToWith p (first ∷ second ∷ rest) weight self.old →
+            ReducesToWith p (rest ++ d ∷ []) weight self.new) }
     {
         let either = self.fresh()?;
         let both = self.fresh()?;
@@ -162,7 +170,8 @@ impl<A: Allocator + Copy> Reduction<A> {
 
     /// The values of the problem's variables in the model.
     pub fn values(&self) -> Result<Vec<bool, A>, MaxSatError>
-        ensures { IfOk result (λ vs. (p : Problem) → ReducesToAfter true 0 p self.now → IsOptimum p self.now.bound vs.items) }
+        ensures { IfOk result
+            (λ vs. (p : Problem) → ReducesToAfter true 0 p self.now → IsOptimum p self.now.bound vs.items) }
     {
         let mut values = values(&self.client, self.named, self.alloc)?;
         values.truncate(self.variables);

@@ -19,7 +19,8 @@ pub struct Optimum<A: Allocator + Copy> {
 
 /// The bound with the values of the model.
 fn optimum_of<A: Allocator + Copy>(reduction: &Reduction<A>) -> Result<Optimum<A>, MaxSatError>
-    ensures { IfOk result (λ m. (p : Asked) → ReducesToAfter true 0 p reduction.now → IsOptimum p m.cost m.values.items) }
+    ensures { IfOk result
+        (λ m. (p : Asked) → ReducesToAfter true 0 p reduction.now → IsOptimum p m.cost m.values.items) }
 {
     let values = reduction.values()?;
     Ok(Optimum {
@@ -51,7 +52,9 @@ fn solve<A: Allocator + Copy>(
     problem: &Problem<A>,
     reduction: &mut Reduction<A>,
 ) -> Result<Option<Optimum<A>>, MaxSatError>
-    ensures { IfOk result (λ o. ReducesTo (starting problem.now.variables) reduction.old → MatchOption o (IsSatisfiable problem.now.hard → ⊥) (λ m. IsOptimum problem.now m.cost m.values.items)) }
+    ensures { IfOk result
+        (λ o. ReducesTo (starting problem.now.variables) reduction.old →
+        MatchOption o (IsSatisfiable problem.now.hard → ⊥) (λ m. IsOptimum problem.now m.cost m.values.items)) }
 {
     problem.reduce(reduction)?;
     if !descend(reduction)? {
@@ -66,7 +69,8 @@ pub fn optimize<A: Allocator + Copy>(
     problem: &Problem<A>,
     alloc: A,
 ) -> Result<Option<Optimum<A>>, MaxSatError>
-    ensures { IfOk result (λ o. MatchOption o (IsSatisfiable problem.now.hard → ⊥) (λ m. IsOptimum problem.now m.cost m.values.items)) }
+    ensures { IfOk result
+        (λ o. MatchOption o (IsSatisfiable problem.now.hard → ⊥) (λ m. IsOptimum problem.now m.cost m.values.items)) }
 {
     let mut reduction = Reduction::new_in(alloc, problem.var_count());
     let found = solve(problem, &mut reduction);

@@ -70,7 +70,8 @@ impl<A: Allocator + Copy> Model for Reader<A> {
 /// The first line, and what stands behind its end, if it ends.
 fn split_line(text: &[u8]) -> (&[u8], Option<&[u8]>)
     ensures last { IfNone result.1 (slice_split is_line_feed text.now ≡ result.0.now ∷ []) }
-    ensures more { IfSome result.1 (λ rest. slice_split is_line_feed text.now ≡ result.0.now ∷ slice_split is_line_feed rest.now) }
+    ensures more { IfSome result.1
+        (λ rest. slice_split is_line_feed text.now ≡ result.0.now ∷ slice_split is_line_feed rest.now) }
     ensures shorter { IfSome result.1 (λ rest. length rest.now < length text.now) }
 {
     match text.iter().position(|byte| *byte == b'\n') {
@@ -245,7 +246,8 @@ impl<A: Allocator + Copy> Reader<A> {
     /// Takes a hard clause.
     fn take_hard(&mut self, line: &[u8], clause: &mut Vec<Lit, A>) -> Result<(), WcnfFault>
         ensures ok { OnOk result (after_hard self.old (clause_of (words line.now)) ≡ Ok self.new) }
-        ensures err { IfErr result (λ e. (e ≡ OutOfMemory) ⊎ (after_hard self.old (clause_of (words line.now)) ≡ Err e)) }
+        ensures err { IfErr result
+            (λ e. (e ≡ OutOfMemory) ⊎ (after_hard self.old (clause_of (words line.now)) ≡ Err e)) }
     {
         parse_clause(line, clause)?;
         match self.problem.add_hard(clause) {
@@ -262,7 +264,8 @@ impl<A: Allocator + Copy> Reader<A> {
         clause: &mut Vec<Lit, A>,
     ) -> Result<(), WcnfFault>
         ensures ok { OnOk result (after_soft weight self.old (clause_of (words line.now)) ≡ Ok self.new) }
-        ensures err { IfErr result (λ e. (e ≡ OutOfMemory) ⊎ (after_soft weight self.old (clause_of (words line.now)) ≡ Err e)) }
+        ensures err { IfErr result
+            (λ e. (e ≡ OutOfMemory) ⊎ (after_soft weight self.old (clause_of (words line.now)) ≡ Err e)) }
     {
         parse_clause(line, clause)?;
         match self.problem.add_soft(weight, clause) {
@@ -279,7 +282,8 @@ impl<A: Allocator + Copy> Reader<A> {
         clause: &mut Vec<Lit, A>,
     ) -> Result<(), WcnfFault>
         ensures ok { OnOk result (after_weight weight self.old (clause_of (words line.now)) ≡ Ok self.new) }
-        ensures err { IfErr result (λ e. (e ≡ OutOfMemory) ⊎ (after_weight weight self.old (clause_of (words line.now)) ≡ Err e)) }
+        ensures err { IfErr result
+            (λ e. (e ≡ OutOfMemory) ⊎ (after_weight weight self.old (clause_of (words line.now)) ≡ Err e)) }
     {
         let Some(weight) = weight else {
             return Err(WcnfFault::Start);

@@ -189,7 +189,8 @@ impl ConfigField {
 
     /// The setting of the name, if it is one of a setting.
     pub fn from_name(name: &[u8]) -> Option<ConfigField>
-        ensures { MatchOption result ((field : ConfigField) → field_text field ≢ name.now) (λ field. field_text field ≡ name.now) }
+        ensures { MatchOption result ((field : ConfigField) → field_text field ≢ name.now)
+            (λ field. field_text field ≡ name.now) }
     {
         if name == b"vsids_decay".as_slice() {
             Some(ConfigField::VsidsDecay)
@@ -223,7 +224,8 @@ impl ConfigField {
 
     /// Refuses a value that is out of the setting's range.
     fn check(self, value: Option<u64>) -> Result<(), ConfigError>
-        ensures { MatchResult result (λ _. may_take self value ≡ true) (λ error. (may_take self value ≡ false) × (error.field ≡ self)) }
+        ensures { MatchResult result (λ _. may_take self value ≡ true)
+            (λ error. (may_take self value ≡ false) × (error.field ≡ self)) }
     {
         let (lowest, highest) = self.range();
         match value {

@@ -232,7 +232,9 @@ impl<A: Allocator + Copy> Variables<A> {
     /// Raises the count of global variables above this one. Those that join are not live. Where memory is refused
     /// nothing changes.
     pub fn reach_global(&mut self, global: Var) -> Result<(), AllocError>
-        ensures reached { OnOk result (self.new ≡ record self.old { tables = record self.old.tables { kept = reaching self.old.tables.kept global } }) }
+        ensures reached { OnOk result
+            (self.new
+            ≡ record self.old { tables = record self.old.tables { kept = reaching self.old.tables.kept global } }) }
         ensures refused { OnErr result (self.new ≡ self.old) }
     {
         self.globals.reach(global)?;
@@ -250,9 +252,11 @@ impl<A: Allocator + Copy> Variables<A> {
 
     /// What is kept of the global variable that has the solver variable, to be changed.
     pub fn var_data_solver_mut(&mut self, solver: Var) -> &mut VarData
-        requires { MatchOption (at self.old.tables.solvers.backward solver) ⊥ (λ global. global < length self.old.tables.kept) }
+        requires { MatchOption (at self.old.tables.solvers.backward solver) ⊥
+            (λ global. global < length self.old.tables.kept) }
         ensures* lends { sem 𝓛 (lends_data_of_solver A.row A.Allocator self.entry solver result) }
-        ensures value { result.now ≡ data_at self.old.tables.kept (number_or_zero (at self.old.tables.solvers.backward solver)) }
+        ensures value { result.now
+            ≡ data_at self.old.tables.kept (number_or_zero (at self.old.tables.solvers.backward solver)) }
     {
         let global = self.global_from_solver().get(solver).unwrap();
         self.globals.data_mut(global)

@@ -73,7 +73,8 @@ fn place_of(present: &[Vec<u32>], clause: &[u32]) -> Option<usize>
 
 /// Takes out one present clause that is equal as a set, or returns false where there is none.
 fn take_out(present: &mut Vec<Vec<u32>>, clause: &[u32]) -> bool
-    ensures taken { result ≡ true → TakesOut (clause_lists present.old.items) clause.now (clause_lists present.new.items) }
+    ensures taken { result ≡ true →
+        TakesOut (clause_lists present.old.items) clause.now (clause_lists present.new.items) }
     ensures absent { result ≡ false → IsAbsent (clause_lists present.old.items) clause.now }
 {
     match place_of(present, clause) {
@@ -92,7 +93,9 @@ fn take_line(
     present: &mut Vec<Vec<u32>>,
     line: &PlainLine,
 ) -> Result<LineStatus, AllocError>
-    ensures { IfOk result (λ status. IsPlainLineStatus (clause_lists present.old.items) (line_of line.now) status (clause_lists present.new.items)) }
+    ensures { IfOk result
+        (λ status.
+        IsPlainLineStatus (clause_lists present.old.items) (line_of line.now) status (clause_lists present.new.items)) }
 {
     match line {
         PlainLine::Adds(clause) => {
@@ -130,7 +133,9 @@ pub fn check_lines(
     clauses: &[Vec<u32>],
     lines: &[PlainLine],
 ) -> Result<PlainVerdict, AllocError>
-    ensures { IfOk result (λ found. (verdict : PlainVerdict) → (found ≡ verdict) ↔ IsVerdict (clause_lists clauses.now) (map line_of lines.now) verdict) }
+    ensures { IfOk result
+        (λ found. (verdict : PlainVerdict) →
+        (found ≡ verdict) ↔ IsVerdict (clause_lists clauses.now) (map line_of lines.now) verdict) }
 {
     let mut present = copies(alloc, clauses)?;
     for (i, line) in lines.iter().enumerate() {

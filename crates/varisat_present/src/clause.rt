@@ -111,7 +111,8 @@ pub fn find_other<A: Allocator + Copy>(
     clause: &[Lit],
     literal: Lit,
 ) -> Option<Lit>
-    ensures { MatchOption result (LeavesOnly known.now clause.now literal) (λ l. (l ∈ clause.now) × (l ≢ literal) × (opposite l ∈ known.now → ⊥)) }
+    ensures { MatchOption result (LeavesOnly known.now clause.now literal)
+        (λ l. (l ∈ clause.now) × (l ≢ literal) × (opposite l ∈ known.now → ⊥)) }
 {
     for l in clause {
         if is_other(known, *l, literal) {

@@ -71,7 +71,8 @@ pub fn find_place<A: Allocator + Copy>(
     places: &[Option<Vec<Lit, A>>],
     clause: &[Lit],
 ) -> Option<usize>
-    ensures { MatchOption result (IsAbsent (present places.now) clause.now) (λ i. (c : Clause) × (present_at places.now i ≡ Some c) × SameSet c clause.now) }
+    ensures { MatchOption result (IsAbsent (present places.now) clause.now)
+        (λ i. (c : Clause) × (present_at places.now i ≡ Some c) × SameSet c clause.now) }
 {
     for place in 0..places.len() {
         if is_equal_at(alloc, places, place, clause) {

@@ -65,7 +65,8 @@ fn find_indexed<A: Allocator + Copy>(
     index: &ClauseIndex<A>,
     clause: &[Lit],
 ) -> Option<usize>
-    ensures { MatchOption result (result ≡ None) (λ i. (c : Clause) × (present_at places.now i ≡ Some c) × SameSet c clause.now) }
+    ensures { MatchOption result (result ≡ None)
+        (λ i. (c : Clause) × (present_at places.now i ≡ Some c) × SameSet c clause.now) }
 {
     let mut next = index.first(key_of(clause));
     for _ in 0..index.len() {
@@ -88,7 +89,8 @@ fn find_equal<A: Allocator + Copy>(
     index: &ClauseIndex<A>,
     clause: &[Lit],
 ) -> Option<usize>
-    ensures { MatchOption result (IsAbsent (present places.now) clause.now) (λ i. (c : Clause) × (present_at places.now i ≡ Some c) × SameSet c clause.now) }
+    ensures { MatchOption result (IsAbsent (present places.now) clause.now)
+        (λ i. (c : Clause) × (present_at places.now i ≡ Some c) × SameSet c clause.now) }
 {
     match find_indexed(alloc, places, index, clause) {
         Some(place) => Some(place),
@@ -279,7 +281,8 @@ fn resolvents_conflict<A: Allocator + Copy>(
     requires no_clash { HasClash known.old → ⊥ }
     requires implied { AreImplied (present places.now) [] known.old }
     requires none { AllConflict (present places.now) (present (take first places.now)) base.now literal }
-    ensures found { IfOk result (λ found. IsTrue found ↔ AllConflict (present places.now) (present places.now) base.now literal) }
+    ensures found { IfOk result
+        (λ found. IsTrue found ↔ AllConflict (present places.now) (present places.now) base.now literal) }
     ensures frame { OnOk result (known.new ≡ known.old) }
 {
     let count = known.len();
@@ -400,7 +403,9 @@ impl<A: Allocator + Copy> PresentClauses<A> {
     /// Whether all literals of the clause but one are implied to be false, if the clause is present.
     fn is_forced(&mut self, clause: &[Lit]) -> Result<bool, AllocError>
         ensures yes { IfOk result (λ found. found ≡ true → IsForced self.old clause.now) }
-        ensures no { IfOk result (λ found. found ≡ false → (Conflicts self.old [] → ⊥) → IsForced self.old clause.now → IsAbsent self.old clause.now) }
+        ensures no { IfOk result
+            (λ found. found ≡ false → (Conflicts self.old [] → ⊥) → IsForced self.old clause.now →
+            IsAbsent self.old clause.now) }
         ensures frame { self.new ≡ self.old }
     {
         match propagate_to_end(
@@ -424,7 +429,8 @@ impl<A: Allocator + Copy> PresentClauses<A> {
     /// Takes out one clause that is equal as a set, unless it may be why a literal is implied. Where propagation over
     /// the clauses conflicts any of them may be taken out.
     pub fn take_out_spare(&mut self, clause: &[Lit]) -> Result<Deletion, AllocError>
-        ensures told { IfOk result (λ deletion. (Conflicts self.old [] → ⊥) → IsDeletionOf self.old clause.now deletion self.new) }
+        ensures told { IfOk result
+            (λ deletion. (Conflicts self.old [] → ⊥) → IsDeletionOf self.old clause.now deletion self.new) }
         ensures refused { OnErr result (self.new ≡ self.old) }
     {
         let is_forced = self.is_forced(clause)?;
@@ -566,7 +572,8 @@ impl<A: Allocator + Copy> PresentClauses<A> {
 
     /// The place of the first literal of the clause on which it is RAT, if there is one.
     pub fn find_pivot(&mut self, clause: &[Lit]) -> Result<Option<usize>, AllocError>
-        ensures found { IfOk result (λ found. MatchOption found (IsRatOnSome self.old clause.now → ⊥) (λ i. IsRatOnSome self.old clause.now)) }
+        ensures found { IfOk result
+            (λ found. MatchOption found (IsRatOnSome self.old clause.now → ⊥) (λ i. IsRatOnSome self.old clause.now)) }
         ensures frame { self.new ≡ self.old }
     {
         self.stopper = UNSEEN;

@@ -84,8 +84,12 @@ fn verify_drat<A: Allocator + Copy, S: ByteSource, P: ByteSource, E: Write>(
 ) -> Result<bool, CheckerError>
     requires cnf_faults { (S.input cnf.old).faults < 2 ^ 64 - 1 }
     requires proof_faults { (P.input proof.old).faults < 2 ^ 64 - 1 }
-    ensures verified { IfOk result (VerifiesDrat format (sources_of (S.input cnf.old) (P.input proof.old)) (sources_of (S.input cnf.new) (P.input proof.new))) }
-    ensures fails { IfErr result (FailsCheck (sources_of (S.input cnf.old) (P.input proof.old)) (sources_of (S.input cnf.new) (P.input proof.new))) }
+    ensures verified { IfOk result
+        (VerifiesDrat format (sources_of (S.input cnf.old) (P.input proof.old))
+        (sources_of (S.input cnf.new) (P.input proof.new))) }
+    ensures fails { IfErr result
+        (FailsCheck (sources_of (S.input cnf.old) (P.input proof.old))
+        (sources_of (S.input cnf.new) (P.input proof.new))) }
 {
     let mut checker = Checker::new_in(alloc);
     let verified = verify_drat_in(&mut checker, cnf, proof, format, err);
@@ -104,8 +108,12 @@ fn verify_drat_in<A: Allocator + Copy, S: ByteSource, P: ByteSource, E: Write>(
     requires new { checker.old ≡ record { clauses = []; spent = false } }
     requires cnf_faults { (S.input cnf.old).faults < 2 ^ 64 - 1 }
     requires proof_faults { (P.input proof.old).faults < 2 ^ 64 - 1 }
-    ensures verified { IfOk result (VerifiesDrat format (sources_of (S.input cnf.old) (P.input proof.old)) (sources_of (S.input cnf.new) (P.input proof.new))) }
-    ensures fails { IfErr result (FailsCheck (sources_of (S.input cnf.old) (P.input proof.old)) (sources_of (S.input cnf.new) (P.input proof.new))) }
+    ensures verified { IfOk result
+        (VerifiesDrat format (sources_of (S.input cnf.old) (P.input proof.old))
+        (sources_of (S.input cnf.new) (P.input proof.new))) }
+    ensures fails { IfErr result
+        (FailsCheck (sources_of (S.input cnf.old) (P.input proof.old))
+        (sources_of (S.input cnf.new) (P.input proof.new))) }
 {
     match checker.add_dimacs_cnf(cnf) {
         Ok(()) => {}
@@ -180,8 +188,12 @@ fn verify_by<A: Allocator + Copy, S: ByteSource, P: ByteSource>(
 ) -> Result<bool, CheckerError>
     requires cnf_faults { (S.input cnf.old).faults < 2 ^ 64 - 1 }
     requires proof_faults { (P.input proof.old).faults < 2 ^ 64 - 1 }
-    ensures verified { IfOk result (VerifiesBy format (sources_of (S.input cnf.old) (P.input proof.old)) (sources_of (S.input cnf.new) (P.input proof.new))) }
-    ensures fails { IfErr result (FailsCheck (sources_of (S.input cnf.old) (P.input proof.old)) (sources_of (S.input cnf.new) (P.input proof.new))) }
+    ensures verified { IfOk result
+        (VerifiesBy format (sources_of (S.input cnf.old) (P.input proof.old))
+        (sources_of (S.input cnf.new) (P.input proof.new))) }
+    ensures fails { IfErr result
+        (FailsCheck (sources_of (S.input cnf.old) (P.input proof.old))
+        (sources_of (S.input cnf.new) (P.input proof.new))) }
 {
     match format {
         ProofFormat::Drat => verify(alloc, cnf, proof, ProofFormat::Drat),
@@ -204,7 +216,8 @@ fn are_given<A: Allocator + Copy>(given: &Checker<A>, formula: &CnfFormula<A>) -
 
 /// Whether a marked proof with this report is verified: it refutes, and its inputs are clauses of the text.
 fn is_refuted_by<A: Allocator + Copy>(given: &Checker<A>, report: &MarkedReport<A>) -> bool
-    ensures { IsTrue result ↔ ((report.now.verdict ≡ Refutation) × AreGiven given.now.clauses report.now.inputs.clauses) }
+    ensures { IsTrue result
+        ↔ ((report.now.verdict ≡ Refutation) × AreGiven given.now.clauses report.now.inputs.clauses) }
 {
     match report.verdict {
         CheckVerdict::Refutation => are_given(given, &report.inputs),
@@ -241,8 +254,12 @@ fn verify_marked_in<A: Allocator + Copy, S: ByteSource, P: ByteSource>(
     requires checker_new { checker.old ≡ record { clauses = []; spent = false } }
     requires cnf_faults { (S.input cnf.old).faults < 2 ^ 64 - 1 }
     requires proof_faults { (P.input proof.old).faults < 2 ^ 64 - 1 }
-    ensures verified { IfOk result (VerifiesMarked (sources_of (S.input cnf.old) (P.input proof.old)) (sources_of (S.input cnf.new) (P.input proof.new))) }
-    ensures fails { IfErr result (FailsCheck (sources_of (S.input cnf.old) (P.input proof.old)) (sources_of (S.input cnf.new) (P.input proof.new))) }
+    ensures verified { IfOk result
+        (VerifiesMarked (sources_of (S.input cnf.old) (P.input proof.old))
+        (sources_of (S.input cnf.new) (P.input proof.new))) }
+    ensures fails { IfErr result
+        (FailsCheck (sources_of (S.input cnf.old) (P.input proof.old))
+        (sources_of (S.input cnf.new) (P.input proof.new))) }
 {
     match given.add_dimacs_cnf(cnf) {
         Ok(()) => {}
@@ -266,8 +283,12 @@ fn verify_marked<A: Allocator + Copy, S: ByteSource, P: ByteSource>(
 ) -> Result<bool, CheckerError>
     requires cnf_faults { (S.input cnf.old).faults < 2 ^ 64 - 1 }
     requires proof_faults { (P.input proof.old).faults < 2 ^ 64 - 1 }
-    ensures verified { IfOk result (VerifiesMarked (sources_of (S.input cnf.old) (P.input proof.old)) (sources_of (S.input cnf.new) (P.input proof.new))) }
-    ensures fails { IfErr result (FailsCheck (sources_of (S.input cnf.old) (P.input proof.old)) (sources_of (S.input cnf.new) (P.input proof.new))) }
+    ensures verified { IfOk result
+        (VerifiesMarked (sources_of (S.input cnf.old) (P.input proof.old))
+        (sources_of (S.input cnf.new) (P.input proof.new))) }
+    ensures fails { IfErr result
+        (FailsCheck (sources_of (S.input cnf.old) (P.input proof.old))
+        (sources_of (S.input cnf.new) (P.input proof.new))) }
 {
     let mut given = Checker::new_in(alloc);
     let mut checker = Checker::new_in(alloc);
@@ -288,8 +309,12 @@ fn verify<A: Allocator + Copy, S: ByteSource, P: ByteSource>(
 ) -> Result<bool, CheckerError>
     requires cnf_faults { (S.input cnf.old).faults < 2 ^ 64 - 1 }
     requires proof_faults { (P.input proof.old).faults < 2 ^ 64 - 1 }
-    ensures verified { IfOk result (Verifies format (sources_of (S.input cnf.old) (P.input proof.old)) (sources_of (S.input cnf.new) (P.input proof.new))) }
-    ensures fails { IfErr result (FailsCheck (sources_of (S.input cnf.old) (P.input proof.old)) (sources_of (S.input cnf.new) (P.input proof.new))) }
+    ensures verified { IfOk result
+        (Verifies format (sources_of (S.input cnf.old) (P.input proof.old))
+        (sources_of (S.input cnf.new) (P.input proof.new))) }
+    ensures fails { IfErr result
+        (FailsCheck (sources_of (S.input cnf.old) (P.input proof.old))
+        (sources_of (S.input cnf.new) (P.input proof.new))) }
 {
     let mut checker = Checker::new_in(alloc);
     let verified = verify_in(&mut checker, cnf, proof, format);
@@ -323,8 +348,12 @@ fn verify_in<A: Allocator + Copy, S: ByteSource, P: ByteSource>(
     requires new { checker.old ≡ record { clauses = []; spent = false } }
     requires cnf_faults { (S.input cnf.old).faults < 2 ^ 64 - 1 }
     requires proof_faults { (P.input proof.old).faults < 2 ^ 64 - 1 }
-    ensures verified { IfOk result (Verifies format (sources_of (S.input cnf.old) (P.input proof.old)) (sources_of (S.input cnf.new) (P.input proof.new))) }
-    ensures fails { IfErr result (FailsCheck (sources_of (S.input cnf.old) (P.input proof.old)) (sources_of (S.input cnf.new) (P.input proof.new))) }
+    ensures verified { IfOk result
+        (Verifies format (sources_of (S.input cnf.old) (P.input proof.old))
+        (sources_of (S.input cnf.new) (P.input proof.new))) }
+    ensures fails { IfErr result
+        (FailsCheck (sources_of (S.input cnf.old) (P.input proof.old))
+        (sources_of (S.input cnf.new) (P.input proof.new))) }
 {
     match checker.add_dimacs_cnf(cnf) {
         Ok(()) => {}

@@ -53,7 +53,9 @@ IsConflicting s f = NamesKeptClause s f × IsFalse s.trail (named_in s.clauses f
 
 -- the literal's variable is one of those that there are, and has no value
 abbrev pub IsAssignable : List (Option Bool) → List ImplNode → Literal → Type 0
-IsAssignable values nodes l = (variable_of l < length values) × (variable_of l < length nodes) × (slice_index_or values (variable_of l) None ≡ None)
+IsAssignable values nodes l =
+    (variable_of l < length values) × (variable_of l < length nodes)
+    × (slice_index_or values (variable_of l) None ≡ None)
 
 -- the literal is true, at the current level and for the reason
 abbrev pub enqueued : View → Literal → Reason → View
@@ -61,13 +63,17 @@ enqueued s l r =
     record s {
       values = slice_set s.values (variable_of l) (Some (polarity_of l));
       trail = s.trail ++ l ∷ [];
-      nodes = slice_set s.nodes (variable_of l) (record { reason = r; level = length s.decisions; depth = suc (length s.trail) });
+      nodes =
+          slice_set s.nodes (variable_of l)
+          (record { reason = r; level = length s.decisions; depth = suc (length s.trail) });
     }
 
 -- With whatever clauses, the parts become those in which the literal is true, at the current level and for the reason.
-abbrev pub Enqueues : {A : Type 0} → Values → Values → TrailParts → TrailParts → ImplGraph A → ImplGraph A → Literal → Reason → Type 0
+abbrev pub Enqueues : {A : Type 0} → Values → Values → TrailParts → TrailParts → ImplGraph A → ImplGraph A → Literal →
+    Reason → Type 0
 Enqueues values values' trail trail' graph graph' l r =
-    (clauses : Store) (binary : List (List Literal)) → view_of clauses binary values' trail' graph' ≡ enqueued (view_of clauses binary values trail graph) l r
+    (clauses : Store) (binary : List (List Literal)) →
+    view_of clauses binary values' trail' graph' ≡ enqueued (view_of clauses binary values trail graph) l r
 
 -- the literal is decided, and is still to be propagated
 abbrev pub decided_on : View → Literal → View

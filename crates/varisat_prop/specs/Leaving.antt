@@ -27,5 +27,8 @@ cleared (g ∷ gone) x (y ∷ ys) = (if g then x else y) ∷ cleared gone x ys
 -- Each of the literals, which are on the trail in this order, has its place noted as its depth. Reasons and levels stay.
 pub record AreRenumbered (ls : List Literal) (old new : List ImplNode) : Type 0 where
   pub count : length new ≡ length old
-  pub depths : (k : ℕ) → k < length ls → (slice_index_or new (variable_of (slice_index_or ls k 0)) no_node).depth ≡ suc k
-  pub rest : (v : ℕ) → slice_index_or new v no_node ≡ record (slice_index_or old v no_node) { depth = (slice_index_or new v no_node).depth }
+  pub depths : (k : ℕ) → k < length ls →
+      (slice_index_or new (variable_of (slice_index_or ls k 0)) no_node).depth ≡ suc k
+  pub rest : (v : ℕ) →
+      slice_index_or new v no_node
+      ≡ record (slice_index_or old v no_node) { depth = (slice_index_or new v no_node).depth }

@@ -33,4 +33,5 @@ pub record AddsPair (B C : List (List Literal)) (a b : Literal) : Type 0 where
   pub old : (l m : Literal) → m ∈ slice_index_or B l [] → m ∈ slice_index_or C l []
   pub first : b ∈ slice_index_or C (opposite a) []
   pub second : a ∈ slice_index_or C (opposite b) []
-  pub new : (l m : Literal) → m ∈ slice_index_or C l [] → (m ∈ slice_index_or B l []) ⊎ (((l ≡ opposite a) × (m ≡ b)) ⊎ ((l ≡ opposite b) × (m ≡ a)))
+  pub new : (l m : Literal) → m ∈ slice_index_or C l [] →
+      (m ∈ slice_index_or B l []) ⊎ (((l ≡ opposite a) × (m ≡ b)) ⊎ ((l ≡ opposite b) × (m ≡ a)))

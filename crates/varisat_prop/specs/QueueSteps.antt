@@ -32,7 +32,8 @@ pub record SearchParts : Type 0 where
 
 -- all of them together
 abbrev pub parts_of : {A : Type 0} → Store → List (List Literal) → Values → TrailParts → ImplGraph A → SearchParts
-parts_of store binary values trail graph = record { store = store; binary = binary; values = values; trail = trail; nodes = graph.nodes.items }
+parts_of store binary values trail graph =
+    record { store = store; binary = binary; values = values; trail = trail; nodes = graph.nodes.items }
 
 -- the view of the parts
 abbrev pub view_of_parts : SearchParts → View
@@ -98,7 +99,8 @@ pub record IsWatchOf (W : Watches) (s : View) (l : Literal) (w : Watch) : Type 0
   pub is_true : IsTrueIn s l
 
 -- In the store the clause at place i, of which the watched literal f is false, is in the order in which it is watched now.
-pub record IsReorderedAt (old new : Store) (values : List (Option Bool)) (i : ℕ) (f : Literal) (o : Found) : Type 0 where
+pub record IsReorderedAt (old new : Store) (values : List (Option Bool)) (i : ℕ) (f : Literal)
+    (o : Found) : Type 0 where
   pub sound : IsSound new
   pub changed : live_clauses new ≡ with_literals (live_clauses old) i (literals_at (live_clauses new) i)
   pub found : IsFound values (literals_at (live_clauses old) i) (literals_at (live_clauses new) i) f o
@@ -120,7 +122,8 @@ pub record IsVisitedAs (x y : PartsWithLists) (l : Literal) (i : ℕ) (v : Visit
   pub keeps : KeepsParts x.parts y.parts
 
 -- The parts of a search one by one, of which the clauses of two literals stay: each as it was, and as it is then.
-module _ {A : Type 0} (store store' : Store) (binary : List (List Literal)) (values values' : Values) (trail trail' : TrailParts)
+module _ {A : Type 0} (store store' : Store) (binary : List (List Literal)) (values values' : Values)
+    (trail trail' : TrailParts)
     (graph graph' : ImplGraph A) where
   -- the search went on without a decision
   abbrev pub PartsPropagate : Type 0

@@ -109,7 +109,8 @@ Implies s (l ∷ others) k = (l ≡ literal_at s k) × ((m : Literal) → m ∈ 
 -- Why the literal at place k may stand there. A reason Unit is a decision's, which is listed among the decisions, or that of a literal at level 0.
 abbrev pub IsReason : View → ℕ → Reason → Type 0
 IsReason s k reason.Unit = (k ∈ s.decisions) ⊎ ((node_at s k).level ≡ 0)
-IsReason s k (reason.Binary ms) = (m : Literal) × (ms ≡ m ∷ []) × (literal_at s k ∈ implied_by s (opposite m)) × IsOnTrailBefore s k (opposite m)
+IsReason s k (reason.Binary ms) =
+    (m : Literal) × (ms ≡ m ∷ []) × (literal_at s k ∈ implied_by s (opposite m)) × IsOnTrailBefore s k (opposite m)
 IsReason s k (reason.Long p) = IsClauseRef s.clauses p × Implies s (clause_at s p) k
 
 -- What keeps the code safe: the lists fit one another.
@@ -134,12 +135,15 @@ pub record WellFormed (s : View) : Type 0 where
   -- a literal's depth gives its place, so that none stands twice
   pub depth_is : (k : ℕ) → k < length s.trail → (node_at s k).depth ≡ suc k
   -- the decisions stand on the trail, in rising order, each with reason Unit
-  pub decided : (j : ℕ) → j < length s.decisions → (decision_at s j < length s.trail) × ((node_at s (decision_at s j)).reason ≡ reason.Unit)
+  pub decided : (j : ℕ) → j < length s.decisions →
+      (decision_at s j < length s.trail) × ((node_at s (decision_at s j)).reason ≡ reason.Unit)
   pub rising : (i j : ℕ) → i < j → j < length s.decisions → decision_at s i < decision_at s j
   -- the level of a place is the number of decisions up to it: it is at most j just before the decision that opens level j + 1
   pub levels_to : (k : ℕ) → k < length s.trail → (node_at s k).level ≤ length s.decisions
-  pub levels_up : (k j : ℕ) → k < length s.trail → j < length s.decisions → (node_at s k).level ≤ j → k < decision_at s j
-  pub levels_down : (k j : ℕ) → k < length s.trail → j < length s.decisions → k < decision_at s j → (node_at s k).level ≤ j
+  pub levels_up : (k j : ℕ) → k < length s.trail → j < length s.decisions → (node_at s k).level ≤ j →
+      k < decision_at s j
+  pub levels_down : (k j : ℕ) → k < length s.trail → j < length s.decisions → k < decision_at s j →
+      (node_at s k).level ≤ j
   -- each place has its reason
   pub reason_is : (k : ℕ) → k < length s.trail → IsReason s k (node_at s k).reason
 
@@ -156,10 +160,12 @@ pub record ViewFits (held : List Clause) (s : View) : Type 0 where
   -- each kept clause is held
   pub stored : (c : Clause) → c ∈ kept s → (d : Clause) × (d ∈ held) × SameSet d c
   -- a literal of level 0 without a clause as its reason is held as a unit clause
-  pub units : (k : ℕ) → k < length s.trail → (node_at s k).level ≡ 0 → (node_at s k).reason ≡ reason.Unit → (d : Clause) × (d ∈ held)
+  pub units : (k : ℕ) → k < length s.trail → (node_at s k).level ≡ 0 → (node_at s k).reason ≡ reason.Unit →
+      (d : Clause) × (d ∈ held)
       × IsUnit (literal_at s k) d
   -- a held clause that isn't kept, nor a part of it, says nothing more: it is a tautology, or a literal of it is true at level 0
-  pub covered : (c : Clause) → c ∈ held → ((d : Clause) × (d ∈ kept s) × (d ⊆ c)) ⊎ (IsTautology c ⊎ ((l : Literal) × (l ∈ c) × IsFixed s l))
+  pub covered : (c : Clause) → c ∈ held →
+      ((d : Clause) × (d ∈ kept s) × (d ⊆ c)) ⊎ (IsTautology c ⊎ ((l : Literal) × (l ∈ c) × IsFixed s l))
 
 -- the reason is a clause
 abbrev pub is_clause : Reason → Bool

@@ -28,14 +28,17 @@ HasOther values d m = (literal_in d 1 ≡ m) × (IsMadeTrue values (opposite m) 
 -- what the clause c, reordered as d, comes to where its watched literal f is false
 abbrev pub IsFound : List (Option Bool) → Clause → Clause → Literal → Found → Type 0
 IsFound values c d f (found.True l) =
-    IsRearranged c d × IsPair c l f × (literal_in d 0 ≡ l) × (literal_in d 1 ≡ f) × IsMadeTrue values l × (literal_in c 0 ≡ l → d ≡ c)
+    IsRearranged c d × IsPair c l f × (literal_in d 0 ≡ l) × (literal_in d 1 ≡ f) × IsMadeTrue values l
+    × (literal_in c 0 ≡ l → d ≡ c)
 IsFound values c d f (found.Other l m) =
-    IsRearranged c d × IsPair c l f × (literal_in d 0 ≡ l) × (literal_in d 1 ≡ m) × (IsMadeTrue values l → ⊥) × (IsMadeTrue values (opposite m) → ⊥)
+    IsRearranged c d × IsPair c l f × (literal_in d 0 ≡ l) × (literal_in d 1 ≡ m) × (IsMadeTrue values l → ⊥)
+    × (IsMadeTrue values (opposite m) → ⊥)
 IsFound values c d f (found.False l) =
     IsRearranged c d × IsPair c l f × (literal_in d 0 ≡ l) × (literal_in d 1 ≡ f) × (IsMadeTrue values l → ⊥)
     × ((k : ℕ) → k < length d → IsFalseAt values d k)
 IsFound values c d f (found.Implied l) =
-    IsRearranged c d × IsPair c l f × (literal_in d 0 ≡ l) × (literal_in d 1 ≡ f) × (IsMadeTrue values l → ⊥) × (IsMadeTrue values (opposite l) → ⊥)
+    IsRearranged c d × IsPair c l f × (literal_in d 0 ≡ l) × (literal_in d 1 ≡ f) × (IsMadeTrue values l → ⊥)
+    × (IsMadeTrue values (opposite l) → ⊥)
     × ((k : ℕ) → 1 ≤ k → k < length d → IsFalseAt values d k)
 
 -- Watches of the clause d at place i may have been added.
@@ -43,7 +46,8 @@ pub record AddsWatches (W V : Watches) (i : ℕ) (d : Clause) : Type 0 where
   pub enabled : V.enabled ≡ W.enabled
   pub count : length V.lists ≡ length W.lists
   pub old : (x : Literal) (w : Watch) → w ∈ watches_of W x → w ∈ watches_of V x
-  pub new : (x : Literal) (w : Watch) → w ∈ watches_of V x → (w ∈ watches_of W x) ⊎ ((w.cref ≡ i) × (w.blocking ∈ d) × IsWatchedBy d (opposite x))
+  pub new : (x : Literal) (w : Watch) → w ∈ watches_of V x →
+      (w ∈ watches_of W x) ⊎ ((w.cref ≡ i) × (w.blocking ∈ d) × IsWatchedBy d (opposite x))
 
 -- the list gets a watch of the clause at place i
 abbrev pub GetsWatch : List Watch → List Watch → ℕ → Type 0
@@ -53,7 +57,8 @@ GetsWatch ws vs i = (w : Watch) × (w.cref ≡ i) × (vs ≡ ws ++ w ∷ [])
 pub record WatchesClause (W V : Watches) (i : ℕ) (d : Clause) : Type 0 where
   pub adds : AddsWatches W V i d
   pub pair : W.enabled ≡ true → (j : ℕ) → j < 2 → HasWatch (watches_of V (opposite (literal_in d j))) i
-  pub once : literal_in d 0 ≢ literal_in d 1 → (x : Literal) → (watches_of V x ≡ watches_of W x) ⊎ GetsWatch (watches_of W x) (watches_of V x) i
+  pub once : literal_in d 0 ≢ literal_in d 1 → (x : Literal) →
+      (watches_of V x ≡ watches_of W x) ⊎ GetsWatch (watches_of W x) (watches_of V x) i
   pub off : W.enabled ≡ false → V ≡ W
 
 -- A visit of the clause at place i, which the opposite of l watches.
@@ -73,6 +78,8 @@ pub record IsVisited (s t : View) (W V : Watches) (l : Literal) (i : ℕ) : Type
 
 -- Whether the watch stays, and what of it: the clause is true, or false; or it isn't watched here any more.
 abbrev pub IsVisit : View → Literal → ℕ → Visit → Type 0
-IsVisit t l i (visit.Keep b) = (b ∈ clause_at t i) × IsWatchedBy (clause_at t i) (opposite l) × IsSatisfied t (clause_at t i)
-IsVisit t l i (visit.Conflicting b) = (b ∈ clause_at t i) × IsWatchedBy (clause_at t i) (opposite l) × IsFalse t.trail (clause_at t i)
+IsVisit t l i (visit.Keep b) =
+    (b ∈ clause_at t i) × IsWatchedBy (clause_at t i) (opposite l) × IsSatisfied t (clause_at t i)
+IsVisit t l i (visit.Conflicting b) =
+    (b ∈ clause_at t i) × IsWatchedBy (clause_at t i) (opposite l) × IsFalse t.trail (clause_at t i)
 IsVisit t l i visit.Dropped = (j : ℕ) → j < 2 → literal_in (clause_at t i) j ≢ opposite l

@@ -37,7 +37,8 @@ IsWatchedBy c l = (j : ℕ) × (j < 2) × (literal_in c j ≡ l)
 
 -- The watch, in the list of x, names a clause and a literal of it, and the clause is watched by the opposite of x.
 abbrev pub IsKnownWatch : List StoredClause → Literal → Watch → Type 0
-IsKnownWatch ks x w = IsClauseRef ks w.cref × (w.blocking ∈ literals_at ks w.cref) × IsWatchedBy (literals_at ks w.cref) (opposite x)
+IsKnownWatch ks x w =
+    IsClauseRef ks w.cref × (w.blocking ∈ literals_at ks w.cref) × IsWatchedBy (literals_at ks w.cref) (opposite x)
 
 -- the watches name different clauses
 abbrev pub NameOnce : List Watch → Type 0
@@ -48,7 +49,8 @@ NameOnce ws = IsDistinct (map (λ (w : Watch). w.cref) ws)
 pub record IsWatching (W : Watches) (ks : List StoredClause) : Type 0 where
   pub known : (x : Literal) (w : Watch) → w ∈ watches_of W x → IsKnownWatch ks x w
   pub once : (x : Literal) → NameOnce (watches_of W x)
-  pub watched : (i j : ℕ) → IsClauseRef ks i → j < 2 → HasWatch (watches_of W (opposite (literal_in (literals_at ks i) j))) i
+  pub watched : (i j : ℕ) → IsClauseRef ks i → j < 2 →
+      HasWatch (watches_of W (opposite (literal_in (literals_at ks i) j))) i
 
 -- a literal of the clause is true
 abbrev pub IsSatisfied : View → Clause → Type 0
@@ -56,11 +58,14 @@ IsSatisfied s c = (k : ℕ) × (k < length s.trail) × (literal_at s k ∈ c)
 
 -- A literal of the clause is true, no later than at the level of place p: no decision stands behind p and not behind it.
 abbrev pub IsCovered : View → Clause → ℕ → Type 0
-IsCovered s c p = (k : ℕ) × (k < length s.trail) × (literal_at s k ∈ c) × ((j : ℕ) → j < length s.decisions → p < decision_at s j → k < decision_at s j)
+IsCovered s c p =
+    (k : ℕ) × (k < length s.trail) × (literal_at s k ∈ c)
+    × ((j : ℕ) → j < length s.decisions → p < decision_at s j → k < decision_at s j)
 
 -- Where one of a clause's first two literals is false by a literal before place q, the clause is true no later than at that literal's level.
 abbrev pub WatchesHoldTo : View → ℕ → Type 0
-WatchesHoldTo s q = (i j p : ℕ) → IsClauseRef s.clauses i → j < 2 → p < q → literal_at s p ≡ opposite (literal_in (clause_at s i) j) → IsCovered s (clause_at s i) p
+WatchesHoldTo s q = (i j p : ℕ) → IsClauseRef s.clauses i → j < 2 → p < q →
+    literal_at s p ≡ opposite (literal_in (clause_at s i) j) → IsCovered s (clause_at s i) p
 
 -- What a literal before place q implies by a clause of two literals is true no later than at its level.
 abbrev pub IsImpliedTo : View → ℕ → Type 0

@@ -130,7 +130,8 @@ impl<A: Allocator + Copy> BinaryClauses<A> {
     /// Takes from the literal's list what has a value, and all of it where the literal has one itself.
     fn simplify_list(&mut self, lit: Lit, values: &[Option<bool>])
         requires { lit < length self.old }
-        ensures { self.new ≡ slice_set self.old lit (unassigned_implied values.now lit (slice_index_or self.old lit [])) }
+        ensures { self.new
+            ≡ slice_set self.old lit (unassigned_implied values.now lit (slice_index_or self.old lit [])) }
     {
         let implied = self.implied_mut(lit);
         if has_no_value(values, lit) {

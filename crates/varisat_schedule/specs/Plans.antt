@@ -54,7 +54,14 @@ pub record PlannedCall : Type 0 where
 -- what the steps of the call are counted by
 abbrev pub setting_of : PlannedCall → CallSetting
 setting_of c =
-    record { variables = c.variables; scale = c.scale; first = c.begins.next_restart; term = pred c.begins.next_term; start = c.begins.steps }
+    record {
+      variables = c.variables;
+      scale = c.scale;
+      first = c.begins.next_restart;
+      term =
+          pred c.begins.next_term;
+      start = c.begins.steps;
+    }
 
 -- Whatever the scale was before the call, its steps that begin with a restart are exactly those at the call's restart points.
 abbrev pub RestartsAreAtPoints : Type 0
@@ -65,4 +72,5 @@ RestartsAreAtPoints =
 -- from the first plan on these are at 0 and the partial sums of the scale times the terms
 abbrev pub FirstRestartsAreAtSums : Type 0
 FirstRestartsAreAtSums =
-    (scale k : ℕ) → 0 < scale → k < 2 ^ 64 - 1 → IsDue (plan_after scale first_plan k) ↔ ((i : ℕ) × (k ≡ restart_point scale i))
+    (scale k : ℕ) → 0 < scale → k < 2 ^ 64 - 1 →
+    IsDue (plan_after scale first_plan k) ↔ ((i : ℕ) × (k ≡ restart_point scale i))

@@ -59,7 +59,8 @@ pub record KeepsAssumptions (s : Search) (v : Outcome) (x y : AssumptionParts) :
   pub user : y.user ≡ x.user
   pub user_core : y.user_core ≡ x.user_core
   pub part : y.working ⊆ x.working
-  pub implied : (held : List Clause) → Fits held s → (a : Assignment) → SatisfiesAll a held → MakesTrue a y.working → MakesTrue a x.working
+  pub implied : (held : List Clause) → Fits held s → (a : Assignment) → SatisfiesAll a held → MakesTrue a y.working →
+      MakesTrue a x.working
   pub model : (found : Assignment) → v ≡ Sat found → MakesTrue found y.working
   pub core : (c : List Literal) → v ≡ UnsatUnder c → (c ⊆ x.working) × (c ≢ [])
 
@@ -68,7 +69,8 @@ pub record TakesOutImplied (s : View) (x y : AssumptionParts) : Type 0 where
   pub user : y.user ≡ x.user
   pub user_core : y.user_core ≡ x.user_core
   pub part : y.working ⊆ x.working
-  pub implied : (held : List Clause) → ViewFits held s → (a : Assignment) → SatisfiesAll a held → MakesTrue a y.working → MakesTrue a x.working
+  pub implied : (held : List Clause) → ViewFits held s → (a : Assignment) → SatisfiesAll a held →
+      MakesTrue a y.working → MakesTrue a x.working
 
 -- Some assumption is false, and the core is one of assumptions.
 abbrev pub HasFailed : View → AssumptionParts → Type 0
@@ -90,7 +92,8 @@ pub record TakesOutTrue (values : List (Option Bool)) (level : ℕ) (x y : Assum
 -- the level's assumption, which isn't true, or none where none is left for the level
 abbrev pub IsNextAssumption : List (Option Bool) → ℕ → List Literal → Option Literal → Type 0
 IsNextAssumption values level working next =
-    MatchOption next (length working ≤ level) (λ l. (level < length working) × (l ≡ slice_index_or working level 0) × (IsMadeTrue values l → ⊥))
+    MatchOption next (length working ≤ level)
+    (λ l. (level < length working) × (l ≡ slice_index_or working level 0) × (IsMadeTrue values l → ⊥))
 
 -- What comes of the next assumption that isn't true: there is none, it is decided, or it is false.
 abbrev pub ComesToNext : View → View → AssumptionParts → EnqueueAssumption → Type 0

@@ -51,7 +51,8 @@ keeping_of s = record { clauses = s.clauses; binary = s.binary }
 abbrev pub IsKeptAsReason : Keeping → Keeping → Clause → Reason → Type 0
 IsKeptAsReason old new [] r = (new ≡ old) × (r ≡ reason.Unit)
 IsKeptAsReason old new (l ∷ []) r = (new ≡ old) × (r ≡ reason.Unit)
-IsKeptAsReason old new (l ∷ m ∷ []) r = (new ≡ record old { binary = with_pair old.binary l m }) × (r ≡ reason.Binary (m ∷ []))
+IsKeptAsReason old new (l ∷ m ∷ []) r =
+    (new ≡ record old { binary = with_pair old.binary l m }) × (r ≡ reason.Binary (m ∷ []))
 IsKeptAsReason old new (l ∷ m ∷ n ∷ c) r =
     (new.binary ≡ old.binary) × ((p : ℕ) × (h : Header) × (is_tier h.tier tier.Irred ≡ false)
     × AppendsClause old.clauses new.clauses (learned_at p h (l ∷ m ∷ n ∷ c)) × (r ≡ reason.Long p))

@@ -43,7 +43,8 @@ DecidesNext old new =
 
 -- One is decided; or none is left to decide, and no part but the activities of variables changes.
 abbrev pub DecidesIfLeft : {A : Type 0} → Context A → Context A → Bool → Type 0
-DecidesIfLeft old new made = MatchBool made (DecidesNext old new) ((new ≡ record old { vsids = new.vsids }) × IsTotal (view old))
+DecidesIfLeft old new made =
+    MatchBool made (DecidesNext old new) ((new ≡ record old { vsids = new.vsids }) × IsTotal (view old))
 
 -- the settings for which there are values are changed, and with them the decays that parts of the search keep a copy of
 abbrev pub with_settings : {A : Type 0} → SolverConfigUpdate → Context A → Context A
@@ -54,7 +55,8 @@ with_settings update x = record x {
 }
 
 -- Settings are changed, or the first whose value is out of its range is returned, and nothing changes.
-abbrev pub ChangesSettings : {A : Type 0} → SolverConfigUpdate → Context A → Context A → Result (Unit {0}) ConfigError → Type 0
+abbrev pub ChangesSettings : {A : Type 0} → SolverConfigUpdate → Context A → Context A → Result (Unit {0}) ConfigError →
+    Type 0
 ChangesSettings update old new r =
     MatchResult r
     (λ _. (first_bad update ≡ None) × (new ≡ with_settings update old))

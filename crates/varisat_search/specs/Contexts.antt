@@ -19,7 +19,8 @@ IsNotUnsat c = c.solver_state.sat_state ≢ verdict.Unsat
 
 -- the state of a solver without clauses
 abbrev pub first_state : SolverState
-first_state = record { sat_state = verdict.Unknown; formula_is_empty = true; solver_invoked = false; state_is_invalid = false }
+first_state =
+    record { sat_state = verdict.Unknown; formula_is_empty = true; solver_invoked = false; state_is_invalid = false }
 
 -- the schedule stays, and the settings that it goes by
 pub record KeepsSchedule {A : Type 0} (old new : Context A) : Type 0 where

@@ -48,16 +48,24 @@ pub record IsNextDecision (values : List (Option Bool)) (a : Activities) (v : �
   pub known : v < length a.activity
   pub unassigned : slice_index_or values v None ≡ None
   pub available : is_available a v ≡ true
-  pub greatest : (w : ℕ) → is_available a w ≡ true → slice_index_or values w None ≡ None → activity_of a w ≤ activity_of a v
+  pub greatest : (w : ℕ) → is_available a w ≡ true → slice_index_or values w None ≡ None →
+      activity_of a w ≤ activity_of a v
 
 -- Variables with a value were made unavailable, and the returned one, which has none. Where none is returned each available variable had a value.
 pub record TakesUnassigned (values : List (Option Bool)) (a b : Activities) (taken : Option ℕ) : Type 0 where
   pub rest : b ≡ record a { available = b.available }
   pub count : length b.available ≡ length a.available
   pub fewer : (v : ℕ) → is_available b v ≡ true → is_available a v ≡ true
-  pub open_stays : (v : ℕ) → is_available a v ≡ true → slice_index_or values v None ≡ None → (taken ≡ Some v) ⊎ (is_available b v ≡ true)
-  pub found : MatchOption taken ((v : ℕ) → is_available a v ≡ true → slice_index_or values v None ≢ None) (IsNextDecision values a)
+  pub open_stays : (v : ℕ) → is_available a v ≡ true → slice_index_or values v None ≡ None →
+      (taken ≡ Some v) ⊎ (is_available b v ≡ true)
+  pub found : MatchOption taken ((v : ℕ) → is_available a v ≡ true → slice_index_or values v None ≢ None)
+      (IsNextDecision values a)
 
 -- the variable has activity 0, and where it is `on` it is available
 abbrev pub initialized : ℕ → Bool → Activities → Activities
-initialized v on a = record a { activity = slice_set a.activity v 0; available = if on then slice_set a.available v true else a.available }
+initialized v on a =
+    record a {
+      activity = slice_set a.activity v 0;
+      available =
+          if on then slice_set a.available v true else a.available;
+    }

@@ -19,7 +19,8 @@ use Rattle.varisat_search.specs.Deletions.{unmarked_deletions}
 -- the store holds the context's clauses, and those that are reasons are marked
 abbrev pub MarksReasons : {A : Type 0} → Context A → Store → Type 0
 MarksReasons x marked =
-    HoldsClauses marked (length x.clause_alloc.words) (reasons_marked x.assignment.current x.impl_graph.nodes.items (stored_clauses x.clause_alloc))
+    HoldsClauses marked (length x.clause_alloc.words)
+    (reasons_marked x.assignment.current x.impl_graph.nodes.items (stored_clauses x.clause_alloc))
 
 -- Half of the Local clauses go, but for reasons. The lines delete these clauses, in the order in which they go.
 pub record DropsLocals {A : Type 0} (lines : List Line) (x y : Context A) : Type 0 where

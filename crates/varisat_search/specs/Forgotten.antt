@@ -16,11 +16,19 @@ AreStaying gone ls = (l : Literal) → l ∈ ls → leaves gone (variable_of l) 
 -- The variables that leave have no value any more, and their literals are not on the trail. Of what stays there only the places changed.
 pub record IsWithout (gone : List Bool) (s t : View) : Type 0 where
   pub nodes : AreRenumbered (staying gone s.trail) s.nodes t.nodes
-  pub rest : t ≡ record s { values = cleared gone None s.values; trail = staying gone s.trail; queue_head = length (staying gone s.trail); nodes = t.nodes }
+  pub rest : t
+      ≡ record s {
+        values = cleared gone None s.values;
+        trail = staying gone s.trail;
+        queue_head =
+            length (staying gone s.trail);
+        nodes = t.nodes;
+      }
 
 -- the variables that leave have activity 0 and are not available
 abbrev pub forgotten_activities : List Bool → Activities → Activities
-forgotten_activities gone a = record a { activity = cleared gone 0 a.activity; available = cleared gone false a.available }
+forgotten_activities gone a =
+    record a { activity = cleared gone 0 a.activity; available = cleared gone false a.available }
 
 -- the search without the literals of variables that leave
 abbrev pub search_without : List Bool → Search → Search
@@ -55,4 +63,5 @@ pub record FlagsAlso (P : List Clause) (old new : List Bool) : Type 0 where
 -- The flags of just those variables were set of which a literal implies others.
 pub record FlagsImplying (B : List (List Literal)) (old new : List Bool) : Type 0 where
   pub count : length new ≡ length old
-  pub flagged : (v : ℕ) → IsFlagged new v ↔ (IsFlagged old v ⊎ ((l m : Literal) × (m ∈ slice_index_or B l []) × (variable_of l ≡ v)))
+  pub flagged : (v : ℕ) →
+      IsFlagged new v ↔ (IsFlagged old v ⊎ ((l m : Literal) × (m ∈ slice_index_or B l []) × (variable_of l ≡ v)))

@@ -29,11 +29,21 @@ ChangesVariables x y = y ≡ record x {
 
 -- the trail, the values of its literals and their reasons
 abbrev pub ChangesTrail : {A : Type 0} → Context A → Context A → Type 0
-ChangesTrail x y = y ≡ record x { assignment = y.assignment; counters = y.counters; impl_graph = y.impl_graph; trail = y.trail }
+ChangesTrail x y =
+    y ≡ record x { assignment = y.assignment; counters = y.counters; impl_graph = y.impl_graph; trail = y.trail }
 
 -- these, and which variables are available
 abbrev pub ChangesDecisions : {A : Type 0} → Context A → Context A → Type 0
-ChangesDecisions x y = y ≡ record x { assignment = y.assignment; counters = y.counters; impl_graph = y.impl_graph; trail = y.trail; vsids = y.vsids }
+ChangesDecisions x y =
+    y
+    ≡ record x {
+      assignment = y.assignment;
+      counters = y.counters;
+      impl_graph = y.impl_graph;
+      trail = y.trail;
+      vsids =
+          y.vsids;
+    }
 
 -- these, and how many assumptions have a level
 abbrev pub ChangesDecided : {A : Type 0} → Context A → Context A → Type 0
@@ -59,7 +69,16 @@ ChangesAssumed x y = y ≡ record x {
 
 -- levels are undone
 abbrev pub ChangesLevels : {A : Type 0} → Context A → Context A → Type 0
-ChangesLevels x y = y ≡ record x { assignment = y.assignment; assumptions = y.assumptions; counters = y.counters; trail = y.trail; vsids = y.vsids }
+ChangesLevels x y =
+    y
+    ≡ record x {
+      assignment = y.assignment;
+      assumptions = y.assumptions;
+      counters = y.counters;
+      trail = y.trail;
+      vsids =
+          y.vsids;
+    }
 
 -- variables leave, and with them their activities and what was remembered of them
 abbrev pub ChangesForgotten : {A : Type 0} → List Bool → Context A → Context A → Type 0
@@ -135,7 +154,15 @@ ChangesTiers x y = y ≡ record x { clause_alloc = y.clause_alloc; clause_db = y
 
 -- the store's clauses and their watches
 abbrev pub ChangesStore : {A : Type 0} → Context A → Context A → Type 0
-ChangesStore x y = y ≡ record x { clause_alloc = y.clause_alloc; clause_db = y.clause_db; counters = y.counters; watchlists = y.watchlists }
+ChangesStore x y =
+    y
+    ≡ record x {
+      clause_alloc = y.clause_alloc;
+      clause_db = y.clause_db;
+      counters = y.counters;
+      watchlists =
+          y.watchlists;
+    }
 
 -- the places of the store's clauses too, and with them reasons
 abbrev pub ChangesPlaces : {A : Type 0} → Context A → Context A → Type 0
@@ -161,7 +188,16 @@ ChangesKept x y = y ≡ record x {
 
 -- a step begins, maybe with a restart
 abbrev pub ChangesRestarted : {A : Type 0} → Context A → Context A → Type 0
-ChangesRestarted x y = y ≡ record x { assignment = y.assignment; counters = y.counters; schedule = y.schedule; trail = y.trail; vsids = y.vsids }
+ChangesRestarted x y =
+    y
+    ≡ record x {
+      assignment = y.assignment;
+      counters = y.counters;
+      schedule = y.schedule;
+      trail = y.trail;
+      vsids =
+          y.vsids;
+    }
 
 -- the plan once a step has begun
 abbrev pub begun_plan : {A : Type 0} → Context A → Plan
@@ -193,11 +229,25 @@ ChangesReduced x y = y ≡ record x {
 
 -- a conflict is analysed, and there is room for as many variables as before
 abbrev pub ChangesAnalysis : {A : Type 0} → Context A → Context A → Type 0
-ChangesAnalysis x y = y ≡ record x { analyze_conflict = record y.analyze_conflict { var_count = x.analyze_conflict.var_count }; counters = y.counters }
+ChangesAnalysis x y =
+    y
+    ≡ record x {
+      analyze_conflict = record y.analyze_conflict { var_count = x.analyze_conflict.var_count };
+      counters =
+          y.counters;
+    }
 
 -- and variables are bumped
 abbrev pub ChangesAnalyzed : {A : Type 0} → Context A → Context A → Type 0
-ChangesAnalyzed x y = y ≡ record x { analyze_conflict = y.analyze_conflict; counters = y.counters; tmp_flags = y.tmp_flags; vsids = y.vsids }
+ChangesAnalyzed x y =
+    y
+    ≡ record x {
+      analyze_conflict = y.analyze_conflict;
+      counters = y.counters;
+      tmp_flags = y.tmp_flags;
+      vsids =
+          y.vsids;
+    }
 
 -- 2. Frames of functions that count nothing: the counters stay too.
 
@@ -208,13 +258,23 @@ ClearsFlags x y = y.tmp_flags.flags.items ≡ x.tmp_flags.flags.items
 -- clauses of the store are bumped
 abbrev pub ChangesBumped : {A : Type 0} → Context A → Context A → Type 0
 ChangesBumped x y =
-    (y ≡ record x { clause_activity = y.clause_activity; clause_alloc = y.clause_alloc; clause_db = y.clause_db; tmp_flags = y.tmp_flags })
+    (y ≡ record x {
+      clause_activity = y.clause_activity;
+      clause_alloc = y.clause_alloc;
+      clause_db =
+          y.clause_db;
+      tmp_flags = y.tmp_flags;
+    })
     × ClearsFlags x y
 
 -- a core is found
 abbrev pub ChangesCore : {A : Type 0} → Context A → Context A → Type 0
 ChangesCore x y =
-    (y ≡ record x { assumptions = record x.assumptions { failed_core = y.assumptions.failed_core }; tmp_flags = y.tmp_flags }) × ClearsFlags x y
+    (y ≡ record x {
+      assumptions = record x.assumptions { failed_core = y.assumptions.failed_core };
+      tmp_flags =
+          y.tmp_flags;
+    }) × ClearsFlags x y
 
 -- 3. What is the same after a function that changes the search, whichever parts that takes.
 
@@ -233,7 +293,8 @@ pub record SearchesOn {A R E : Type 0} (r : Result R E) (x y : Context A) : Type
 
 -- A step by the plan is counted where it succeeded. The settings stay.
 pub record CountsStep {A E : Type 0} (r : Result (Unit {0}) E) (x y : Context A) : Type 0 where
-  pub plan : MatchResult r (λ _. y.schedule ≡ next_plan x.solver_config.luby_restart_interval_scale x.schedule) (λ _. y.schedule.steps ≡ x.schedule.steps)
+  pub plan : MatchResult r (λ _. y.schedule ≡ next_plan x.solver_config.luby_restart_interval_scale x.schedule)
+      (λ _. y.schedule.steps ≡ x.schedule.steps)
   pub solver_config : y.solver_config ≡ x.solver_config
 
 -- The search has as many variables as before, and each but this one is decidable exactly where it was.

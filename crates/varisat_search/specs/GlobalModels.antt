@@ -12,7 +12,8 @@ value_or_unit values unit (Some v) = slice_index_or values v None
 
 -- the value of the global variable, where the solver variables have these: none where it is not live
 abbrev pub global_value : Tables → List (Option Bool) → ℕ → Option Bool
-global_value t values x = if (data_at t.kept x).deleted then None else value_or_unit values (data_at t.kept x).unit (at t.solvers.forward x)
+global_value t values x =
+    if (data_at t.kept x).deleted then None else value_or_unit values (data_at t.kept x).unit (at t.solvers.forward x)
 
 -- The model has the value of each global variable.
 pub record IsGlobalModel (t : Tables) (values model : List (Option Bool)) : Type 0 where

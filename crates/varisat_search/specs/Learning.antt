@@ -19,11 +19,13 @@ HasMet s x = AreVariablesAbove s.nodes (literals_among s.clauses x.involved) x.m
 -- These variables are bumped, and activities decay. Which variables are available is left open.
 abbrev pub BumpsVariables : {A : Type 0} → Context A → Context A → Type 0
 BumpsVariables x y =
-    (b : Activities) × BumpsInvolved (view x) y.analyze_conflict.involved x.vsids b × (y.vsids ≡ record b { available = y.vsids.available })
+    (b : Activities) × BumpsInvolved (view x) y.analyze_conflict.involved x.vsids b
+    × (y.vsids ≡ record b { available = y.vsids.available })
 
 -- the named clauses of the store are bumped by the levels at the conflict, and activities decay
 abbrev pub BumpsStored : {A : Type 0} → List Conflict → Context A → Context A → Type 0
-BumpsStored names x y = BumpsClauses x.impl_graph.nodes.items names x.clause_alloc y.clause_alloc x.clause_activity y.clause_activity
+BumpsStored names x y =
+    BumpsClauses x.impl_graph.nodes.items names x.clause_alloc y.clause_alloc x.clause_activity y.clause_activity
 
 -- The clauses that analysis went over are bumped in the store, and then the learned one has the glue of the conflict, and its tier.
 abbrev pub BumpsAndStores : {A : Type 0} → Context A → Context A → Type 0

@@ -38,25 +38,30 @@ HasFalseLiteral values c = (l : Literal) × (l ∈ c) × IsMadeTrue values (oppo
 -- Where the queue's head stands after a clause is kept: at the trail's first literal where a literal of the clause is false, so
 -- that propagation sees the clause under each literal of the trail, and else where it stood.
 abbrev pub IsHeadAfter : List (Option Bool) → Clause → ℕ → ℕ → Type 0
-IsHeadAfter values c before after = (HasFalseLiteral values c × (after ≡ 0)) ⊎ ((HasFalseLiteral values c → ⊥) × (after ≡ before))
+IsHeadAfter values c before after =
+    (HasFalseLiteral values c × (after ≡ 0)) ⊎ ((HasFalseLiteral values c → ⊥) × (after ≡ before))
 
 -- The empty clause, and a single literal that is false, give verdict Unsat. Another single literal is made true. A longer clause
 -- is kept, and the queue begins anew where a literal of it is false.
 abbrev pub IsAdded : View → View → Clause → SatState → SatState → Type 0
 IsAdded s t [] before after = (t ≡ s) × (after ≡ verdict.Unsat)
 IsAdded s t (l ∷ []) before after =
-    (IsTrueIn s (opposite l) × (t ≡ s) × (after ≡ verdict.Unsat)) ⊎ (IsFree s l × (t ≡ enqueued s l reason.Unit) × (after ≡ before))
+    (IsTrueIn s (opposite l) × (t ≡ s) × (after ≡ verdict.Unsat))
+    ⊎ (IsFree s l × (t ≡ enqueued s l reason.Unit) × (after ≡ before))
 IsAdded s t (l ∷ m ∷ []) before after =
-    IsHeadAfter s.values (l ∷ m ∷ []) s.queue_head t.queue_head × (t ≡ record s { binary = with_pair s.binary l m; queue_head = t.queue_head })
+    IsHeadAfter s.values (l ∷ m ∷ []) s.queue_head t.queue_head
+    × (t ≡ record s { binary = with_pair s.binary l m; queue_head = t.queue_head })
     × (after ≡ before)
 IsAdded s t (l ∷ m ∷ n ∷ c) before after =
-    (p : ℕ) × AppendsClause s.clauses t.clauses (loaded_at p (l ∷ m ∷ n ∷ c)) × IsHeadAfter s.values (l ∷ m ∷ n ∷ c) s.queue_head t.queue_head
+    (p : ℕ) × AppendsClause s.clauses t.clauses (loaded_at p (l ∷ m ∷ n ∷ c))
+    × IsHeadAfter s.values (l ∷ m ∷ n ∷ c) s.queue_head t.queue_head
     × (t ≡ record s { clauses = t.clauses; queue_head = t.queue_head }) × (after ≡ before)
 
 -- So the clause in `lits` is added, and what is remembered stays.
 abbrev pub AddsLoaded : {A : Type 0} → Context A → Context A → Type 0
 AddsLoaded x y =
-    IsAdded (view x) (view y) x.tmp_data.lits.items x.solver_state.sat_state y.solver_state.sat_state × (y.assignment.last ≡ x.assignment.last)
+    IsAdded (view x) (view y) x.tmp_data.lits.items x.solver_state.sat_state y.solver_state.sat_state
+    × (y.assignment.last ≡ x.assignment.last)
 
 -- A single literal is loaded: the kept clauses stay, and where nothing was decided the trail has at most this literal more, and the queue's head stays.
 pub record LoadsUnit (s t : View) (l : Literal) : Type 0 where
@@ -83,10 +88,12 @@ IsItsDeletion ordered c lines = (d : Clause) × (lines ≡ Delete d ∷ []) × S
 
 -- the lines that are due as a clause is loaded: its deletion, or none
 abbrev pub AreLoadLines : (Clause → Type 0) → Search → Clause → List Line → Type 0
-AreLoadLines ordered s c lines = (IsDeletedAtOnce s c × IsItsDeletion ordered c lines) ⊎ ((IsDeletedAtOnce s c → ⊥) × (lines ≡ []))
+AreLoadLines ordered s c lines =
+    (IsDeletedAtOnce s c × IsItsDeletion ordered c lines) ⊎ ((IsDeletedAtOnce s c → ⊥) × (lines ≡ []))
 
 -- The clause is loaded by the lines that are due, and `are` holds for them.
-pub record LoadsClause (ordered : Clause → Type 0) (are : List Line → Type 0) (s t : Search) (c : Clause) (v : Outcome) : Type 0 where
+pub record LoadsClause (ordered : Clause → Type 0) (are : List Line → Type 0) (s t : Search) (c : Clause)
+    (v : Outcome) : Type 0 where
   pub lines : List Line
   pub due : AreLoadLines ordered s c lines
   pub loads : Loads s t c v lines
@@ -94,4 +101,5 @@ pub record LoadsClause (ordered : Clause → Type 0) (are : List Line → Type 0
 
 -- so a context comes to another, with its verdict
 abbrev pub LoadsTo : {A : Type 0} → (Clause → Type 0) → (List Line → Type 0) → Clause → Context A → Context A → Type 0
-LoadsTo ordered are c x y = LoadsClause ordered are (search_of (view x)) (search_of (view y)) c (loaded_outcome y.solver_state.sat_state)
+LoadsTo ordered are c x y =
+    LoadsClause ordered are (search_of (view x)) (search_of (view y)) c (loaded_outcome y.solver_state.sat_state)

@@ -18,8 +18,11 @@ implied_units s = units_in s.nodes s.trail
 -- The variables of the literals keep their levels and their places, and no clause is their reason. No other node changes.
 pub record HaveUnits (ls : List Literal) (old new : List ImplNode) : Type 0 where
   pub count : length new ≡ length old
-  pub units : (l : Literal) → l ∈ ls → slice_index_or new (variable_of l) no_node ≡ record (slice_index_or old (variable_of l) no_node) { reason = reason.Unit }
-  pub others : (v : ℕ) → ((l : Literal) → l ∈ ls → variable_of l ≢ v) → slice_index_or new v no_node ≡ slice_index_or old v no_node
+  pub units : (l : Literal) → l ∈ ls →
+      slice_index_or new (variable_of l) no_node
+      ≡ record (slice_index_or old (variable_of l) no_node) { reason = reason.Unit }
+  pub others : (v : ℕ) → ((l : Literal) → l ∈ ls → variable_of l ≢ v) →
+      slice_index_or new v no_node ≡ slice_index_or old v no_node
 
 -- No clause is a literal's reason any more, and nothing else changes.
 pub record ProvesUnits (s t : View) : Type 0 where

@@ -23,4 +23,5 @@ pub record KeepsAssignment (s t : View) : Type 0 where
 -- what is remembered over a restart down to the level, where one is due, reductions that lose no value, and the step after them
 abbrev pub RestartsAndRemembers : Plan → ℕ → View → List Bool → List Bool → Type 0
 RestartsAndRemembers q level s old new =
-    (t u : View) × (between : List Bool) × RestartsIfDue q level s t × SavesIfDue q level s old between × KeepsAssignment t u × Remembers u between new
+    (t u : View) × (between : List Bool) × RestartsIfDue q level s t × SavesIfDue q level s old between
+    × KeepsAssignment t u × Remembers u between new

@@ -44,7 +44,8 @@ KeepsFixed s t = (fixed_literals t ≡ fixed_literals s) ⊎ HasRootNews t
 -- with one that is still to be propagated. Where a clause is false at level 0 it comes to Unsat.
 pub record FixesByLearning {A : Type 0} (x y : Context A) : Type 0 where
   pub keeps : (HasRootNews (view x) → ⊥) → y.solver_state.sat_state ≢ verdict.Unsat → KeepsFixed (view x) (view y)
-  pub refutes : x.trail.decisions ≡ [] → (conflict : Conflict) → IsConflicting (view x) conflict → y.solver_state.sat_state ≡ verdict.Unsat
+  pub refutes : x.trail.decisions ≡ [] → (conflict : Conflict) → IsConflicting (view x) conflict →
+      y.solver_state.sat_state ≡ verdict.Unsat
 
 -- Propagation came to its end or to a false clause, and each unit was proved, by one line for each that a clause implied.
 -- Then, unless a clause is false, the clauses were simplified: one that goes is deleted, and one that becomes shorter is
@@ -56,7 +57,8 @@ pub record SimplifiesRoot (lines : List Line) (s t : View) (end : Result (Unit {
   pub units : ProvesUnits propagated proved
   pub complete : MatchResult end (λ _. IsComplete (kept propagated) propagated.trail) (λ _. Unit {0})
   pub ends : MatchResult end
-      (λ _. IsSimplified proved t × (lines ≡ unit_lines (implied_units propagated) ++ (pair_lines proved ++ clause_lines proved)))
+      (λ _. IsSimplified proved t
+      × (lines ≡ unit_lines (implied_units propagated) ++ (pair_lines proved ++ clause_lines proved)))
       (λ conflict. (t ≡ proved) × IsConflicting t conflict × (lines ≡ unit_lines (implied_units propagated)))
 
 -- The search goes on and takes nothing back; clauses may go from it and become shorter, by lines for which `are` holds.
@@ -69,13 +71,16 @@ pub record GoesOnByLines {A : Type 0} (are : List Line → Type 0) (x y : Contex
   pub last : y.assignment.last ≡ x.assignment.last
 
 -- the root level is simplified, by lines for which `are` holds
-abbrev pub SimplifiesRootByLines : {A : Type 0} → (List Line → Type 0) → Context A → Context A → Result (Unit {0}) Conflict → Type 0
+abbrev pub SimplifiesRootByLines : {A : Type 0} → (List Line → Type 0) → Context A → Context A →
+    Result (Unit {0}) Conflict → Type 0
 SimplifiesRootByLines are x y end = GoesOnByLines (λ lines. SimplifiesRoot lines (view x) (view y) end × are lines) x y
 
 -- Where there are root news the root level is simplified, and else there is no line. In any case the search goes on by lines for which `are` holds.
-abbrev pub SimplifiesRootIfNews : {A : Type 0} → (List Line → Type 0) → Context A → Context A → Result (Unit {0}) Conflict → Type 0
+abbrev pub SimplifiesRootIfNews : {A : Type 0} → (List Line → Type 0) → Context A → Context A →
+    Result (Unit {0}) Conflict → Type 0
 SimplifiesRootIfNews are x y end = GoesOnByLines
-    (λ lines. (HasRootNews (view x) → SimplifiesRoot lines (view x) (view y) end) × ((HasRootNews (view x) → ⊥) → lines ≡ []) × are lines) x y
+    (λ lines. (HasRootNews (view x) → SimplifiesRoot lines (view x) (view y) end)
+    × ((HasRootNews (view x) → ⊥) → lines ≡ []) × are lines) x y
 
 -- The root level is simplified, and the step goes on from there: the lines are those of both, in turn.
 pub record SimplifiesThenSteps {A : Type 0} (lines : List Line) (x z : Context A) : Type 0 where
@@ -112,4 +117,5 @@ pub record IsRootSimplified (s : View) : Type 0 where
   pub undecided : s.decisions ≡ []
   pub propagated : IsPropagatedToEnd s
   pub proved : (k : ℕ) → k < length s.trail → (node_at s k).reason ≡ reason.Unit
-  pub unassigned : (c : Clause) → c ∈ kept s → (l : Literal) → l ∈ c → slice_index_or s.values (variable_of l) None ≡ None
+  pub unassigned : (c : Clause) → c ∈ kept s → (l : Literal) → l ∈ c →
+      slice_index_or s.values (variable_of l) None ≡ None

@@ -58,7 +58,8 @@ pub record IsSimplified (s t : View) : Type 0 where
   pub clauses : t.clauses ≡ left_long s.values s.clauses
   pub binary : t.binary ≡ with_pairs (without_assigned s.values s.binary) (left_pairs s.values s.clauses)
   pub rest : t ≡ record s { clauses = t.clauses; binary = t.binary }
-  pub unassigned : (c : Clause) → c ∈ kept t → (l : Literal) → l ∈ c → slice_index_or s.values (variable_of l) None ≡ None
+  pub unassigned : (c : Clause) → c ∈ kept t → (l : Literal) → l ∈ c →
+      slice_index_or s.values (variable_of l) None ≡ None
 
 -- the first literal comes before the other, and one of the two has a value
 abbrev pub is_gone_pair : List (Option Bool) → Literal → Literal → Bool
@@ -75,7 +76,8 @@ pair_lines s = lines_of_pairs s.values (pairs_from 0 s.binary)
 -- a clause with a true literal is deleted, and one with a false literal is so once what is left of it was added
 abbrev pub lines_of_clause : List (Option Bool) → Clause → List Line
 lines_of_clause values c =
-    if has_true values c then Delete c ∷ [] else (if are_unassigned values c then [] else Add (unassigned values c) ∷ Delete c ∷ [])
+    if has_true values c then Delete c ∷ []
+    else (if are_unassigned values c then [] else Add (unassigned values c) ∷ Delete c ∷ [])
 
 -- what becomes of each of the clauses, in turn
 abbrev pub lines_of_clauses : List (Option Bool) → List StoredClause → List Line

@@ -23,7 +23,8 @@ HasRoom t = (length t.users.forward ≤ variable_limit) × (length t.kept ≤ va
 abbrev pub HasRoomFor : List Literal → Tables → Type 0
 HasRoomFor [] t = Unit {0}
 HasRoomFor (l ∷ ls) t =
-    (variable_of l < variable_limit) × ((mid new : Tables) → IsNamed (variable_of l) t mid → new.users ≡ mid.users → new.kept ≡ mid.kept →
+    (variable_of l < variable_limit)
+    × ((mid new : Tables) → IsNamed (variable_of l) t mid → new.users ≡ mid.users → new.kept ≡ mid.kept →
     HasRoom mid × HasRoomFor ls new)
 
 -- Tables of variables and the search that has their solver variables.
@@ -53,15 +54,18 @@ pub record KeepsSeen {A : Type 0} (old new : Context A) : Type 0 where
 pub record HasUnitAgain {A : Type 0} (l : Literal) (old new : Context A) : Type 0 where
   pub unsat : old.solver_state.sat_state ≡ verdict.Unsat → KeepsSeen old new
   pub lines : IsNotUnsat old → Loads (search_of (view old)) (search_of (view new)) (l ∷ []) outcome.Unknown []
-  pub state : IsNotUnsat old → new.solver_state ≡ accepted_with (reopened_state old.solver_state.sat_state) old.solver_state
+  pub state : IsNotUnsat old →
+      new.solver_state ≡ accepted_with (reopened_state old.solver_state.sat_state) old.solver_state
   pub assumptions : IsNotUnsat old → new.assumptions ≡ record old.assumptions { levels = 0 }
 
 -- The global variable x has the solver variable v: it had it, it took it and has no unit, or it came back with its unit.
 pub data HasSolverVariable {A : Type 0} (x : ℕ) (old new : Searched A) (v : ℕ) : Type 0 where
   HadOne : at old.tables.solvers.forward x ≡ Some v → new ≡ old → HasSolverVariable x old new v
-  TookOne : at old.tables.solvers.forward x ≡ None → IsTaken old.tables new.tables x v → (data_at old.tables.kept x).unit ≡ None →
+  TookOne : at old.tables.solvers.forward x ≡ None → IsTaken old.tables new.tables x v →
+      (data_at old.tables.kept x).unit ≡ None →
       KeepsSeen old.context new.context → HasSolverVariable x old new v
-  CameBack : (b : Bool) → at old.tables.solvers.forward x ≡ None → IsTaken old.tables new.tables x v → (data_at old.tables.kept x).unit ≡ Some b →
+  CameBack : (b : Bool) → at old.tables.solvers.forward x ≡ None → IsTaken old.tables new.tables x v →
+      (data_at old.tables.kept x).unit ≡ Some b →
       HasUnitAgain (literal_of v b) old.context new.context → HasSolverVariable x old new v
 
 -- The name u was named, and its variable has the solver variable v.
@@ -80,15 +84,19 @@ pub record NameHasSolver {A : Type 0} (u : ℕ) (old new : Searched A) (v : ℕ)
 abbrev pub RemovesSolver : {A E : Type 0} → ℕ → Searched A → Searched A → Result ℕ E → Type 0
 RemovesSolver v old new r =
     MatchResult r
-    (λ global. IsDetached old.tables new.tables global v × (new.context ≡ record old.context { vsids = with_available v false old.context.vsids }))
+    (λ global. IsDetached old.tables new.tables global v
+    × (new.context ≡ record old.context { vsids = with_available v false old.context.vsids }))
     (λ _. new ≡ old)
 
 -- the names of the literals came to have solver variables in turn
 abbrev pub HaveSolversInTurn : {A : Type 0} → List Literal → Searched A → Searched A → Type 0
 HaveSolversInTurn [] old new = new ≡ old
-HaveSolversInTurn {A = A} (l ∷ ls) old new = (mid : Searched A) × (v : ℕ) × NameHasSolver (variable_of l) old mid v × HaveSolversInTurn ls mid new
+HaveSolversInTurn {A = A} (l ∷ ls) old new =
+    (mid : Searched A) × (v : ℕ) × NameHasSolver (variable_of l) old mid v × HaveSolversInTurn ls mid new
 
 -- Each literal of the second list is that of the first, in turn, over the variable to which the map leads.
 abbrev pub AreOver : (ℕ → Option ℕ) → List Literal → List Literal → Type 0
 AreOver f [] ms = ms ≡ []
-AreOver f (l ∷ ls) ms = (v : ℕ) × (rest : List Literal) × (f (variable_of l) ≡ Some v) × (ms ≡ literal_of v (polarity_of l) ∷ rest) × AreOver f ls rest
+AreOver f (l ∷ ls) ms =
+    (v : ℕ) × (rest : List Literal) × (f (variable_of l) ≡ Some v) × (ms ≡ literal_of v (polarity_of l) ∷ rest)
+    × AreOver f ls rest

@@ -37,4 +37,5 @@ HasNoRoom x = 2 ^ 32 ≤ length x.clause_alloc.words + 3 + length x.assignment.c
 -- room for a clause of all variables, and then there are as many variables as before.
 pub record EndsStep {A : Type 0} (r : Result (Unit {0}) StepError) (x y : Context A) : Type 0 where
   pub schedule : KeepsSchedule x y
-  pub full : IfErr r (λ error. error ≡ step.Full → HasNoRoom y × (length y.assignment.current ≡ length x.assignment.current))
+  pub full : IfErr r
+      (λ error. error ≡ step.Full → HasNoRoom y × (length y.assignment.current ≡ length x.assignment.current))

@@ -23,13 +23,16 @@ pub record IsCut (s t : View) (level : ℕ) : Type 0 where
   }
   pub count : length t.values ≡ length s.values
   pub gone : (v : ℕ) → LeavesFrom s (decision_at s level) v → slice_index_or t.values v None ≡ None
-  pub stays : (v : ℕ) → (LeavesFrom s (decision_at s level) v → ⊥) → slice_index_or t.values v None ≡ slice_index_or s.values v None
+  pub stays : (v : ℕ) → (LeavesFrom s (decision_at s level) v → ⊥) →
+      slice_index_or t.values v None ≡ slice_index_or s.values v None
 
 -- Backtracking saves the values: each variable that leaves the trail has the value that it had as its last, and each other one keeps its last.
 pub record Saves (s : View) (level : ℕ) (old new : List Bool) : Type 0 where
   pub count : length new ≡ length old
-  pub left : (v : ℕ) → LeavesFrom s (decision_at s level) v → slice_index_or s.values v None ≡ Some (slice_index_or new v false)
-  pub stays : (v : ℕ) → (LeavesFrom s (decision_at s level) v → ⊥) → slice_index_or new v false ≡ slice_index_or old v false
+  pub left : (v : ℕ) → LeavesFrom s (decision_at s level) v →
+      slice_index_or s.values v None ≡ Some (slice_index_or new v false)
+  pub stays : (v : ℕ) → (LeavesFrom s (decision_at s level) v → ⊥) →
+      slice_index_or new v false ≡ slice_index_or old v false
 
 -- What is remembered where all decisions are undone: nothing changes where there are none.
 abbrev pub SavesAll : View → List Bool → List Bool → Type 0
@@ -37,7 +40,8 @@ SavesAll s old new = (s.decisions ≡ [] → new ≡ old) × (0 < length s.decis
 
 -- what is remembered where the decisions above the level are undone: nothing changes where there are none
 abbrev pub SavesAbove : ℕ → View → List Bool → List Bool → Type 0
-SavesAbove level s old new = (length s.decisions ≤ level → new ≡ old) × (level < length s.decisions → Saves s level old new)
+SavesAbove level s old new =
+    (length s.decisions ≤ level → new ≡ old) × (level < length s.decisions → Saves s level old new)
 
 -- what is remembered where the search backtracks or stays
 abbrev pub SavesSome : View → List Bool → List Bool → Type 0

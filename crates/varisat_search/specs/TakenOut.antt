@@ -9,5 +9,6 @@ use Rattle.varisat_search.specs.AssumptionParts.{AssumptionParts}
 -- before its place are true, which are those that have levels.
 abbrev pub AreImpliedBefore : View → AssumptionParts → AssumptionParts → Type 0
 AreImpliedBefore s x y =
-    (held : List Clause) → ViewFits held s → (a : Assignment) → SatisfiesAll a held → MakesTrue a (take x.levels x.working)
+    (held : List Clause) → ViewFits held s → (a : Assignment) → SatisfiesAll a held →
+    MakesTrue a (take x.levels x.working)
     → (l : Literal) → l ∈ x.working → (l ∈ y.working) ⊎ (value a l ≡ true)

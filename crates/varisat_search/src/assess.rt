@@ -27,8 +27,11 @@ pub fn bump_involved_clauses<A: Allocator + Copy>(ctx: &mut Context<A>) -> Resul
     requires well { WellFormed (view ctx.old) }
     requires tracks { Tracks ctx.old.clause_db ctx.old.clause_alloc }
     requires clear { ctx.old.tmp_flags.flags.items ≡ replicate (2 * length ctx.old.assignment.current) false }
-    requires named { (f : Conflict) → f ∈ ctx.old.analyze_conflict.involved → NamesPlace (live_clauses ctx.old.clause_alloc) f }
-    requires assigned { (l : Literal) → l ∈ literals_among (live_clauses ctx.old.clause_alloc) ctx.old.analyze_conflict.involved → IsAssigned (view ctx.old) l }
+    requires named { (f : Conflict) → f ∈ ctx.old.analyze_conflict.involved →
+        NamesPlace (live_clauses ctx.old.clause_alloc) f }
+    requires assigned { (l : Literal) →
+        l ∈ literals_among (live_clauses ctx.old.clause_alloc) ctx.old.analyze_conflict.involved →
+        IsAssigned (view ctx.old) l }
     ensures undecided { ctx.old.trail.decisions ≡ [] → ctx.new ≡ ctx.old }
     ensures bumped { OnOk result (0 < length ctx.old.trail.decisions →
         BumpsStored ctx.old.analyze_conflict.involved ctx.old ctx.new) }

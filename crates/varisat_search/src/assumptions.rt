@@ -176,7 +176,8 @@ impl<A: Allocator + Copy> Assumptions<A> {
         requires well { WellFormed s }
         requires false_now { opposite failed ∈ s.trail }
         requires flags { flags.old.flags.items ≡ replicate (2 * length s.values) false }
-        ensures frame { (self.new ≡ record self.old { failed_core = self.new.failed_core }) × (flags.new.flags.items ≡ flags.old.flags.items) }
+        ensures frame { (self.new ≡ record self.old { failed_core = self.new.failed_core })
+            × (flags.new.flags.items ≡ flags.old.flags.items) }
         ensures core { OnOk result (ListsFailedCore s failed self.new.failed_core) }
     {
         let core = &mut self.failed_core;
@@ -220,7 +221,9 @@ pub fn set_assumptions<A: Allocator + Copy>(
     ensures seen { OnOk result (search_of (view ctx.new) ≡ search_of (view ctx.old)) }
     ensures keeps { KeepsScheduleAndVariables result ctx.old ctx.new }
     ensures last { OnOk result (SavesAll (view ctx.old) ctx.old.assignment.last ctx.new.assignment.last) }
-    ensures state { OnOk result (ctx.new.solver_state ≡ record ctx.old.solver_state { sat_state = assumed_state ctx.old.solver_state.sat_state }) }
+    ensures state { OnOk result
+        (ctx.new.solver_state
+        ≡ record ctx.old.solver_state { sat_state = assumed_state ctx.old.solver_state.sat_state }) }
     ensures undecided { OnOk result (ctx.new.trail.decisions ≡ []) }
 {
     let alloc = *ctx.assumptions.working.allocator();

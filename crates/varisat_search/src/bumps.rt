@@ -15,9 +15,14 @@ pub fn bump_involved<A: Allocator + Copy>(ctx: &mut Context<A>)
     requires ready { IsReady ctx.old }
     requires met { HasMet (view ctx.old) ctx.old.analyze_conflict }
     ensures undecided { ctx.old.trail.decisions ≡ [] → ctx.new ≡ ctx.old }
-    ensures bumps { 0 < length ctx.old.trail.decisions → BumpsInvolved (view ctx.old) ctx.old.analyze_conflict.involved ctx.old.vsids ctx.new.vsids }
+    ensures bumps { 0 < length ctx.old.trail.decisions →
+        BumpsInvolved (view ctx.old) ctx.old.analyze_conflict.involved ctx.old.vsids ctx.new.vsids }
     ensures entries { HasActivities (view ctx.new) ctx.new.vsids }
-    ensures frame { ctx.new ≡ record ctx.old { vsids = record ctx.old.vsids { activity = ctx.new.vsids.activity; increment = ctx.new.vsids.increment } } }
+    ensures frame { ctx.new
+        ≡ record ctx.old {
+          vsids =
+              record ctx.old.vsids { activity = ctx.new.vsids.activity; increment = ctx.new.vsids.increment };
+        } }
 {
     if ctx.trail.current_level() == 0 {
         return;

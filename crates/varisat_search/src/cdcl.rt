@@ -63,7 +63,8 @@ fn decide<A: Allocator + Copy>(
     ensures grows { OnOk result (GrowsTrail (view ctx.old) (view ctx.new)) }
     ensures fixed { OnOk result (FixesNone (view ctx.old) (view ctx.new)) }
     ensures taken { OnOk result (TakesOutImplied (view ctx.old) ctx.old.assumptions ctx.new.assumptions) }
-    ensures decided { IfOk result (λ decided. ComesToDecision (view ctx.old) (view ctx.new) ctx.new.assumptions decided) }
+    ensures decided { IfOk result
+        (λ decided. ComesToDecision (view ctx.old) (view ctx.new) ctx.new.assumptions decided) }
     ensures goes { SearchesOn result ctx.old ctx.new }
 {
     match enqueue_assumption(ctx)? {
@@ -125,15 +126,23 @@ fn keep_learned<A: Allocator + Copy>(
 ) -> Result<Reason, StoreError>
     requires redundant { is_tier header.tier tier.Irred ≡ false }
     requires live { header.deleted ≡ false }
-    requires listed { (l : Literal) → l ∈ ctx.old.analyze_conflict.clause → opposite l < length ctx.old.watchlists.lists }
+    requires listed { (l : Literal) → l ∈ ctx.old.analyze_conflict.clause →
+        opposite l < length ctx.old.watchlists.lists }
     requires paired { (l : Literal) → l ∈ ctx.old.analyze_conflict.clause → opposite l < length ctx.old.binary_clauses }
     requires tracks { Tracks ctx.old.clause_db ctx.old.clause_alloc }
     ensures tracks { OnOk result (Tracks ctx.new.clause_db ctx.new.clause_alloc) }
     ensures frame { ChangesClauses ctx.old ctx.new }
-    ensures reason { IfOk result (λ reason. IsKeptAsReason (keeping_of (view ctx.old)) (keeping_of (view ctx.new)) ctx.old.analyze_conflict.clause reason) }
-    ensures stored { IfOk result (λ reason. IsStoredAsReason ctx.old.clause_alloc ctx.new.clause_alloc header ctx.old.analyze_conflict.clause reason) }
-    ensures watched { IfOk result (λ reason. IsWatchedAsReason ctx.old.watchlists ctx.new.watchlists ctx.old.analyze_conflict.clause reason) }
-    ensures full { IfErr result (λ error. error ≡ StoreError.Full → 2 ^ 32 ≤ length ctx.new.clause_alloc.words + 3 + length ctx.old.analyze_conflict.clause) }
+    ensures reason { IfOk result
+        (λ reason.
+        IsKeptAsReason (keeping_of (view ctx.old)) (keeping_of (view ctx.new)) ctx.old.analyze_conflict.clause reason) }
+    ensures stored { IfOk result
+        (λ reason.
+        IsStoredAsReason ctx.old.clause_alloc ctx.new.clause_alloc header ctx.old.analyze_conflict.clause reason) }
+    ensures watched { IfOk result
+        (λ reason. IsWatchedAsReason ctx.old.watchlists ctx.new.watchlists ctx.old.analyze_conflict.clause reason) }
+    ensures full { IfErr result
+        (λ error. error ≡ StoreError.Full →
+        2 ^ 32 ≤ length ctx.new.clause_alloc.words + 3 + length ctx.old.analyze_conflict.clause) }
 {
     match ctx.analyze_conflict.clause() {
         [] | [_] => return Ok(Reason::Unit),
@@ -205,14 +214,16 @@ fn learn_from_conflict<A: Allocator + Copy, P: ProofTracer>(
     requires conflict { IsConflicting (view ctx.old) conflict }
     requires unknown { ctx.old.solver_state.sat_state ≡ SatState.Unknown }
     requires holds { AdmitsFor (P.holds proof.old) (search_of (view ctx.old)) }
-    ensures further { OnOk result (IsStepFurther (λ lines. AddOne lines × TakesLines P.takes proof.old lines proof.new) ctx.old ctx.new) }
+    ensures further { OnOk result
+        (IsStepFurther (λ lines. AddOne lines × TakesLines P.takes proof.old lines proof.new) ctx.old ctx.new) }
     // Above level 0 the variables of the clauses that the learned one came from are bumped, and activities decay.
     ensures bumps { OnOk result (0 < length ctx.old.trail.decisions → BumpsVariables ctx.old ctx.new) }
     // So are the clauses of the store among them, and the learned one gets the glue of the conflict, and its tier.
     ensures stored { OnOk result (0 < length ctx.old.trail.decisions → BumpsAndStores ctx.old ctx.new) }
     ensures involved { OnOk result (AreInvolved (view ctx.old) conflict ctx.new.analyze_conflict.involved) }
     ensures last { OnOk result (SavesSome (view ctx.old) ctx.old.assignment.last ctx.new.assignment.last) }
-    ensures fixed { OnOk result (IsNotUnsat ctx.new → (0 < length ctx.old.trail.decisions) × KeepsFixed (view ctx.old) (view ctx.new)) }
+    ensures fixed { OnOk result
+        (IsNotUnsat ctx.new → (0 < length ctx.old.trail.decisions) × KeepsFixed (view ctx.old) (view ctx.new)) }
     ensures ends { EndsStep result ctx.old ctx.new }
     ensures broken { IfErr result (λ error. BreaksOff P.breaks_off proof.old (step_faults error) proof.new) }
 {
@@ -249,9 +260,11 @@ pub fn simplify_root<A: Allocator + Copy, P: ProofTracer>(
     requires undecided { ctx.old.trail.decisions ≡ [] }
     requires holds { AdmitsFor (P.holds proof.old) (search_of (view ctx.old)) }
     // Simplification relies on the unit clauses, so that their lines come first.
-    ensures goes_on { IfOk result (λ end. SimplifiesRootByLines (λ lines. TakesLines P.takes proof.old lines proof.new) ctx.old ctx.new end) }
+    ensures goes_on { IfOk result
+        (λ end. SimplifiesRootByLines (λ lines. TakesLines P.takes proof.old lines proof.new) ctx.old ctx.new end) }
     ensures settled { IfOk result (λ end. MatchResult end (λ _. IsRootSimplified (view ctx.new)) (λ _. Unit {0})) }
-    ensures conflict { IfOk result (λ end. MatchResult end (λ _. Unit {0}) (λ conflict. IsConflicting (view ctx.new) conflict)) }
+    ensures conflict { IfOk result
+        (λ end. MatchResult end (λ _. Unit {0}) (λ conflict. IsConflicting (view ctx.new) conflict)) }
     // A clause that is false before is found.
     ensures finds { IfOk result (λ end. (c : Conflict) → IsConflicting (view ctx.old) c → end ≢ Ok tt) }
     ensures at_zero { OnOk result (ctx.new.trail.decisions ≡ []) }
@@ -285,11 +298,14 @@ fn simplify_root_if_news<A: Allocator + Copy, P: ProofTracer>(
 ) -> Result<Result<(), Conflict>, TraceError>
     requires ready { IsReady ctx.old }
     requires holds { AdmitsFor (P.holds proof.old) (search_of (view ctx.old)) }
-    ensures goes_on { IfOk result (λ end. SimplifiesRootIfNews (λ lines. TakesLines P.takes proof.old lines proof.new) ctx.old ctx.new end) }
+    ensures goes_on { IfOk result
+        (λ end. SimplifiesRootIfNews (λ lines. TakesLines P.takes proof.old lines proof.new) ctx.old ctx.new end) }
     ensures stays { IfOk result (λ end. (HasRootNews (view ctx.old) → ⊥) → (ctx.new ≡ ctx.old) × (end ≡ Ok tt)) }
-    ensures finds { IfOk result (λ end. ctx.old.trail.decisions ≡ [] → (c : Conflict) → IsConflicting (view ctx.old) c → end ≢ Ok tt) }
+    ensures finds { IfOk result
+        (λ end. ctx.old.trail.decisions ≡ [] → (c : Conflict) → IsConflicting (view ctx.old) c → end ≢ Ok tt) }
     ensures at_zero { IfOk result (λ end. end ≢ Ok tt → ctx.new.trail.decisions ≡ []) }
-    ensures conflict { IfOk result (λ end. MatchResult end (λ _. Unit {0}) (λ conflict. IsConflicting (view ctx.new) conflict)) }
+    ensures conflict { IfOk result
+        (λ end. MatchResult end (λ _. Unit {0}) (λ conflict. IsConflicting (view ctx.new) conflict)) }
     ensures frame { ChangesRootSimplified ctx.old ctx.new }
     ensures broken { IfErr result (λ error. BreaksOff P.breaks_off proof.old (faults_of error) proof.new) }
 {
@@ -325,7 +341,8 @@ fn find_and_learn<A: Allocator + Copy, P: ProofTracer>(
     ensures made { OnOk result (MakesStep
         (λ lines. AddOneIfUnknown lines ctx.new × TakesStep P.takes proof.old lines (outcome_at ctx.new) proof.new) ctx.old ctx.new) }
     ensures core { OnOk result (HasCoreIfFailed ctx.new) }
-    ensures fixed { OnOk result ((HasRootNews (view ctx.old) → ⊥) → IsNotUnsat ctx.new → KeepsFixed (view ctx.old) (view ctx.new)) }
+    ensures fixed { OnOk result
+        ((HasRootNews (view ctx.old) → ⊥) → IsNotUnsat ctx.new → KeepsFixed (view ctx.old) (view ctx.new)) }
     ensures ends { EndsStep result ctx.old ctx.new }
     ensures broken { IfErr result (λ error. BreaksOff P.breaks_off proof.old (step_faults error) proof.new) }
 {
@@ -352,7 +369,9 @@ pub fn conflict_step<A: Allocator + Copy, P: ProofTracer>(
     // The tracer may hold what fits the search.
     requires holds { AdmitsFor (P.holds proof.old) (search_of (view ctx.old)) }
     // It took the lines of the step, and then the core, where assumptions failed.
-    ensures made { OnOk result (SimplifiesAndSteps (λ lines. TakesStep P.takes proof.old lines (outcome_at ctx.new) proof.new) ctx.old ctx.new) }
+    ensures made { OnOk result
+        (SimplifiesAndSteps
+        (λ lines. TakesStep P.takes proof.old lines (outcome_at ctx.new) proof.new) ctx.old ctx.new) }
     ensures core { OnOk result (HasCoreIfFailed ctx.new) }
     ensures fixes { OnOk result (FixesByLearning ctx.old ctx.new) }
     ensures ends { EndsStep result ctx.old ctx.new }

@@ -121,7 +121,8 @@ pub fn set_var_count<A: Allocator + Copy>(
 ) -> Result<(), AllocError>
     requires { CanRaise count ctx.old }
     ensures raised { OnOk result (IsRaisedTo count ctx.old ctx.new) }
-    ensures remembered { (v : ℕ) → slice_index_or ctx.new.assignment.last v false ≡ slice_index_or ctx.old.assignment.last v false }
+    ensures remembered { (v : ℕ) →
+        slice_index_or ctx.new.assignment.last v false ≡ slice_index_or ctx.old.assignment.last v false }
     ensures added { OnOk result (AddsUnavailable count ctx.old ctx.new) }
     ensures frame { ChangesVariables ctx.old ctx.new }
 {

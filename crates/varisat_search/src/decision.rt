@@ -110,8 +110,11 @@ pub fn add_variables<A: Allocator + Copy>(
 ) -> Result<(), AllocError>
     requires { CanRaise count ctx.old }
     ensures raised { OnOk result (IsRaisedTo count ctx.old ctx.new) }
-    ensures decidable { OnOk result (AddsDecidable (length ctx.old.assignment.current) count (view ctx.old) ctx.old.vsids (view ctx.new) ctx.new.vsids) }
-    ensures remembered { (v : ℕ) → slice_index_or ctx.new.assignment.last v false ≡ slice_index_or ctx.old.assignment.last v false }
+    ensures decidable { OnOk result
+        (AddsDecidable (length ctx.old.assignment.current) count (view ctx.old) ctx.old.vsids
+        (view ctx.new) ctx.new.vsids) }
+    ensures remembered { (v : ℕ) →
+        slice_index_or ctx.new.assignment.last v false ≡ slice_index_or ctx.old.assignment.last v false }
     ensures frame { ChangesVariables ctx.old ctx.new }
 {
     let first = ctx.assignment.assignment().len();
@@ -128,9 +131,11 @@ pub fn remove_var<A: Allocator + Copy>(ctx: &mut Context<A>, var: Var)
     requires ready { IsReady ctx.old }
     requires known { var < length ctx.old.assignment.current }
     ensures removed { ctx.new ≡ record ctx.old { vsids = with_available var false ctx.old.vsids } }
-    ensures not_decidable { slice_index_or ctx.old.assignment.current var None ≡ None → IsDecidable (view ctx.new) ctx.new.vsids var → ⊥ }
+    ensures not_decidable { slice_index_or ctx.old.assignment.current var None ≡ None →
+        IsDecidable (view ctx.new) ctx.new.vsids var → ⊥ }
     ensures others { SameDecidableBut var (view ctx.old) ctx.old.vsids (view ctx.new) ctx.new.vsids }
-    ensures ready { IsUnmentioned (kept (view ctx.old)) var → AreNotOf ctx.old.assumptions.working var → IsReady ctx.new }
+    ensures ready { IsUnmentioned (kept (view ctx.old)) var → AreNotOf ctx.old.assumptions.working var →
+        IsReady ctx.new }
 {
     ctx.vsids.make_unavailable(var);
 }

@@ -43,7 +43,12 @@ fn renumber<A: Allocator + Copy>(impl_graph: &mut ImplGraph<A>, lits: &[Lit])
 fn forget_values<A: Allocator + Copy>(assignment: &mut Assignment<A>, gone: &[bool])
     requires count { length gone.now ≡ length assignment.old.current }
     requires small { length gone.now ≤ variable_limit }
-    ensures { assignment.new ≡ record { current = cleared gone.now None assignment.old.current; last = cleared gone.now false assignment.old.last } }
+    ensures { assignment.new
+        ≡ record {
+          current = cleared gone.now None assignment.old.current;
+          last =
+              cleared gone.now false assignment.old.last;
+        } }
 {
     for index in 0..gone.len() {
         let is_gone = gone[index];
@@ -82,10 +87,13 @@ pub fn detach_variables<A: Allocator + Copy>(ctx: &mut Context<A>, gone: &[bool]
     ensures dropped { IsWithout gone.now (view ctx.old) (view ctx.new) }
     ensures ready { IsReady ctx.new }
     ensures settled { IsRootSimplified (view ctx.new) }
-    ensures decidable { (v : ℕ) → IsDecidable (view ctx.new) ctx.new.vsids v ↔ (IsDecidable (view ctx.old) ctx.old.vsids v × (leaves gone.now v ≡ false)) }
+    ensures decidable { (v : ℕ) →
+        IsDecidable (view ctx.new) ctx.new.vsids v
+        ↔ (IsDecidable (view ctx.old) ctx.old.vsids v × (leaves gone.now v ≡ false)) }
     // What a proof holds still fits where the clauses that name the variables are left out of it.
     ensures seen { search_of (view ctx.new) ≡ search_without gone.now (search_of (view ctx.old)) }
-    ensures fits { (held : List Clause) → Fits held (search_of (view ctx.old)) → Fits (clauses_without gone.now held) (search_of (view ctx.new)) }
+    ensures fits { (held : List Clause) → Fits held (search_of (view ctx.old)) →
+        Fits (clauses_without gone.now held) (search_of (view ctx.new)) }
     ensures frame { ChangesForgotten gone.now ctx.old ctx.new }
 {
     let before = ctx.trail.trail().len();
@@ -110,7 +118,8 @@ fn flag_clause(flags: &mut [bool], lits: &[Lit])
 /// Sets the flags of the variables that clauses of the store name, where these are not deleted.
 fn flag_stored<A: Allocator + Copy>(flags: &mut [bool], clause_alloc: &ClauseAlloc<A>)
     requires sound { IsSound clause_alloc.now }
-    requires known { (c : Clause) → c ∈ literals_of (live_clauses clause_alloc.now) → (l : Literal) → l ∈ c → variable_of l < length flags.old }
+    requires known { (c : Clause) → c ∈ literals_of (live_clauses clause_alloc.now) → (l : Literal) → l ∈ c →
+        variable_of l < length flags.old }
     ensures { FlagsAlso (literals_of (live_clauses clause_alloc.now)) flags.old flags.new }
 {
     for cref in clauses_iter(clause_alloc) {

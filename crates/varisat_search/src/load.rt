@@ -44,7 +44,8 @@ fn collect_distinct<A: Allocator + Copy>(
     ensures distinct { OnOk result (IsDistinct ctx.new.tmp_data.lits.items) }
     ensures same { OnOk result (SameSet ctx.new.tmp_data.lits.items clause.now) }
     ensures tautology { IfOk result (λ found. IsTrue found ↔ IsTautology ctx.new.tmp_data.lits.items) }
-    ensures frame { (ctx.new ≡ record ctx.old { tmp_data = ctx.new.tmp_data; tmp_flags = ctx.new.tmp_flags }) × ClearsFlags ctx.old ctx.new }
+    ensures frame { (ctx.new ≡ record ctx.old { tmp_data = ctx.new.tmp_data; tmp_flags = ctx.new.tmp_flags })
+        × ClearsFlags ctx.old ctx.new }
 {
     let found = collect_flagged(&mut ctx.tmp_data.lits, &mut ctx.tmp_flags.flags, clause)?;
     Ok(found)
@@ -92,7 +93,8 @@ fn add_distinct<A: Allocator + Copy>(ctx: &mut Context<A>) -> Result<(), StoreEr
     ensures propagated { OnOk result (IsPropagated ctx.new.watchlists (view ctx.new)) }
     ensures tracks { OnOk result (Tracks ctx.new.clause_db ctx.new.clause_alloc) }
     ensures added { OnOk result (AddsLoaded ctx.old ctx.new) }
-    ensures full { IfErr result (λ error. error ≡ StoreError.Full → RefusesStoring (length ctx.old.tmp_data.lits.items) ctx.old ctx.new) }
+    ensures full { IfErr result
+        (λ error. error ≡ StoreError.Full → RefusesStoring (length ctx.old.tmp_data.lits.items) ctx.old ctx.new) }
 {
     let Some(first) = first_of(&ctx.tmp_data.lits) else {
         ctx.solver_state.sat_state = SatState::Unsat;
@@ -160,15 +162,20 @@ pub fn load_clause<A: Allocator + Copy, P: ProofTracer>(
     requires in_range { IsInRange ctx.old.assignment.current lits.now }
     requires decidable { AreDecidable (view ctx.old) ctx.old.vsids lits.now }
     ensures ready { OnOk result (IsReady ctx.new) }
-    ensures unsat { ctx.old.solver_state.sat_state ≡ SatState.Unsat → (result ≡ Ok tt) × (ctx.new ≡ ctx.old) × (proof.new ≡ proof.old) }
+    ensures unsat { ctx.old.solver_state.sat_state ≡ SatState.Unsat →
+        (result ≡ Ok tt) × (ctx.new ≡ ctx.old) × (proof.new ≡ proof.old) }
     // Under assumptions the verdict stays, unless it becomes Unsat.
     ensures lines { OnOk result (IsNotUnsat ctx.old →
         LoadsTo (P.in_order proof.old) (λ ls. TakesLines P.takes proof.old ls proof.new) lits.now ctx.old ctx.new) }
     ensures verdict { OnOk result (IsVerdictAfter ctx.old.solver_state.sat_state ctx.new.solver_state.sat_state) }
-    ensures assumptions { OnOk result (IsNotUnsat ctx.old → ctx.new.assumptions ≡ record ctx.old.assumptions { levels = 0 }) }
+    ensures assumptions { OnOk result
+        (IsNotUnsat ctx.old → ctx.new.assumptions ≡ record ctx.old.assumptions { levels = 0 }) }
     ensures keeps { OnOk result (KeepsVariables ctx.old ctx.new) }
-    ensures last { OnOk result (IsNotUnsat ctx.old → SavesAll (view ctx.old) ctx.old.assignment.last ctx.new.assignment.last) }
-    ensures state { OnOk result (IsNotUnsat ctx.old → ctx.new.solver_state ≡ accepted_with ctx.new.solver_state.sat_state ctx.old.solver_state) }
+    ensures last { OnOk result
+        (IsNotUnsat ctx.old → SavesAll (view ctx.old) ctx.old.assignment.last ctx.new.assignment.last) }
+    ensures state { OnOk result
+        (IsNotUnsat ctx.old →
+        ctx.new.solver_state ≡ accepted_with ctx.new.solver_state.sat_state ctx.old.solver_state) }
     ensures undecided { OnOk result (IsNotUnsat ctx.old → ctx.new.trail.decisions ≡ []) }
     ensures single { OnOk result ((l : Literal) → lits.now ≡ l ∷ [] → LoadsUnit (view ctx.old) (view ctx.new) l) }
     ensures ends { EndsStep result ctx.old ctx.new }
@@ -197,7 +204,8 @@ fn skip_unmentioned<A: Allocator + Copy>(ctx: &mut Context<A>, lit: Lit)
     requires head { slice_get ctx.old.trail.literals ctx.old.trail.queue_head ≡ Some lit }
     requires unmentioned { IsUnmentioned (kept (view ctx.old)) (variable_of lit) }
     ensures ready { IsReady ctx.new }
-    ensures frame { ctx.new ≡ record ctx.old { trail = record ctx.old.trail { queue_head = ctx.old.trail.queue_head + 1 } } }
+    ensures frame { ctx.new
+        ≡ record ctx.old { trail = record ctx.old.trail { queue_head = ctx.old.trail.queue_head + 1 } } }
 {
     ctx.trail.pop_queue();
 }
@@ -217,10 +225,13 @@ pub fn resurrect_unit<A: Allocator + Copy>(ctx: &mut Context<A>, lit: Lit) -> Re
         Loads (search_of (view ctx.old)) (search_of (view ctx.new)) (lit ∷ []) outcome.Unknown []) }
     ensures state { OnOk result (IsNotUnsat ctx.old →
         ctx.new.solver_state ≡ accepted_with (reopened_state ctx.old.solver_state.sat_state) ctx.old.solver_state) }
-    ensures assumptions { OnOk result (IsNotUnsat ctx.old → ctx.new.assumptions ≡ record ctx.old.assumptions { levels = 0 }) }
+    ensures assumptions { OnOk result
+        (IsNotUnsat ctx.old → ctx.new.assumptions ≡ record ctx.old.assumptions { levels = 0 }) }
     ensures keeps { KeepsScheduleAndVariables result ctx.old ctx.new }
     // Where all was propagated at level 0, all is.
-    ensures quiet { OnOk result (IsNotUnsat ctx.old → ctx.old.trail.decisions ≡ [] → IsPropagatedToEnd (view ctx.old) → IsPropagatedToEnd (view ctx.new)) }
+    ensures quiet { OnOk result
+        (IsNotUnsat ctx.old → ctx.old.trail.decisions ≡ [] → IsPropagatedToEnd (view ctx.old) →
+        IsPropagatedToEnd (view ctx.new)) }
 {
     if let SatState::Unsat = ctx.solver_state.sat_state {
         return Ok(());

@@ -69,7 +69,8 @@ pub fn mend_lists<A: Allocator + Copy>(
 )
     requires sound { IsSound clause_alloc.now }
     requires listed { (l : Literal) → l ∈ lits.now → l < length watchlists.old.lists }
-    requires places { (x : Literal) (w : Watch) → w ∈ watches_of watchlists.old x → IsClauseRef (stored_clauses clause_alloc.now) w.cref }
+    requires places { (x : Literal) (w : Watch) → w ∈ watches_of watchlists.old x →
+        IsClauseRef (stored_clauses clause_alloc.now) w.cref }
     ensures { MendsLists (live_clauses clause_alloc.now) lits.now watchlists.old watchlists.new }
 {
     'literals: for place in 0..lits.len() {

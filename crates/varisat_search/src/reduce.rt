@@ -30,7 +30,9 @@ pub fn reduce_locals<A: Allocator + Copy, P: ProofTracer>(
         (λ lines. DropsLocals lines ctx.old ctx.new × TakesLines P.takes proof.old lines proof.new)
         ctx.old ctx.new) }
     ensures off { OnOk result (ctx.new.watchlists.enabled ≡ false) }
-    ensures failed { OnErr result (MarksReasons ctx.old ctx.new.clause_alloc × (ctx.new ≡ record ctx.old { clause_alloc = ctx.new.clause_alloc })) }
+    ensures failed { OnErr result
+        (MarksReasons ctx.old ctx.new.clause_alloc
+        × (ctx.new ≡ record ctx.old { clause_alloc = ctx.new.clause_alloc })) }
     ensures frame { ChangesStore ctx.old ctx.new }
     ensures broken { IfErr result (λ error. BreaksOff P.breaks_off proof.old (faults_of error) proof.new) }
 {

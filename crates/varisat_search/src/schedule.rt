@@ -33,7 +33,8 @@ fn restart_if_due<A: Allocator + Copy>(ctx: &mut Context<A>)
     requires counted { ctx.old.schedule.steps < 2 ^ 64 - 1 }
     ensures ready { IsReady ctx.new }
     ensures restarted { RestartsIfDue ctx.old.schedule ctx.old.assumptions.levels (view ctx.old) (view ctx.new) }
-    ensures saved { SavesIfDue ctx.old.schedule ctx.old.assumptions.levels (view ctx.old) ctx.old.assignment.last ctx.new.assignment.last }
+    ensures saved { SavesIfDue ctx.old.schedule ctx.old.assumptions.levels
+        (view ctx.old) ctx.old.assignment.last ctx.new.assignment.last }
     ensures decidable { SameDecidable (view ctx.old) ctx.old.vsids (view ctx.new) ctx.new.vsids }
     ensures later { ctx.new.schedule.steps < ctx.new.schedule.next_restart }
     ensures frame { ChangesBegun ctx.old ctx.new }
@@ -68,7 +69,8 @@ fn reduce_locals_if_due<A: Allocator + Copy, P: ProofTracer>(
 /// Reduces the Mid clauses where the number of steps made is a multiple of the interval for it.
 fn reduce_mids_if_due<A: Allocator + Copy>(ctx: &mut Context<A>) -> Result<(), AllocError>
     requires { IsReady ctx.old }
-    ensures keeps { OnOk result (KeepsSearch (λ lines. ReducesMidsIfDue ctx.old ctx.new × (lines ≡ [])) ctx.old ctx.new) }
+    ensures keeps { OnOk result
+        (KeepsSearch (λ lines. ReducesMidsIfDue ctx.old ctx.new × (lines ≡ [])) ctx.old ctx.new) }
     ensures frame { ChangesTiers ctx.old ctx.new }
 {
     if ctx.schedule.steps() % ctx.solver_config.reduce_mids_interval() == 0 {
@@ -130,15 +132,18 @@ pub fn schedule_step<A: Allocator + Copy, P: ProofTracer>(
     requires counted { ctx.old.schedule.steps < 2 ^ 64 - 1 }
     ensures ready { OnOk result (IsReady ctx.new) }
     // The tracer took the lines of the step, in the order of its parts, and then the core, where assumptions failed.
-    ensures steps { OnOk result (StepsBySchedule (λ lines. TakesStep P.takes proof.old lines (outcome_at ctx.new) proof.new) ctx.old ctx.new) }
-    ensures assumes { OnOk result (KeepsAssumptions (search_of (view ctx.old)) (outcome_at ctx.new) ctx.old.assumptions ctx.new.assumptions) }
+    ensures steps { OnOk result
+        (StepsBySchedule (λ lines. TakesStep P.takes proof.old lines (outcome_at ctx.new) proof.new) ctx.old ctx.new) }
+    ensures assumes { OnOk result
+        (KeepsAssumptions (search_of (view ctx.old)) (outcome_at ctx.new) ctx.old.assumptions ctx.new.assumptions) }
     ensures core { OnOk result (HasCoreIfFailed ctx.new) }
     ensures rises { OnOk result (ctx.new.solver_state.sat_state ≡ SatState.Unknown →
         IsPlannedStep ctx.old.schedule (kinds (view ctx.old)) (kinds (view ctx.new))) }
     ensures keeps { OnOk result (KeepsVariables ctx.old ctx.new) }
     ensures last { OnOk result (RestartsAndRemembers ctx.old.schedule ctx.old.assumptions.levels
         (view ctx.old) ctx.old.assignment.last ctx.new.assignment.last) }
-    ensures state { OnOk result (ctx.new.solver_state ≡ record ctx.old.solver_state { sat_state = ctx.new.solver_state.sat_state }) }
+    ensures state { OnOk result
+        (ctx.new.solver_state ≡ record ctx.old.solver_state { sat_state = ctx.new.solver_state.sat_state }) }
     ensures counts { CountsStep result ctx.old ctx.new }
     // The store is full only where it has no room for a clause of all variables.
     ensures full { IfErr result (λ error. error ≡ StepError.Full → HasNoRoom ctx.new) }

@@ -38,7 +38,9 @@ pub fn initialize_solver_var<A: Allocator + Copy>(
     ensures ready { OnOk result (IsReady ctx.new) }
     ensures decidable { OnOk result (IsDecidable (view ctx.new) ctx.new.vsids solver) }
     ensures others { OnOk result (SameVariablesBut solver ctx.old ctx.new) }
-    ensures unit { OnOk result (MatchOption unit (KeepsSeen ctx.old ctx.new) (λ value. HasUnitAgain (literal_of solver value) ctx.old ctx.new)) }
+    ensures unit { OnOk result
+        (MatchOption unit (KeepsSeen ctx.old ctx.new)
+        (λ value. HasUnitAgain (literal_of solver value) ctx.old ctx.new)) }
     ensures schedule { KeepsSchedule ctx.old ctx.new }
 {
     make_available(ctx, solver);
@@ -59,7 +61,8 @@ pub fn solver_from_global<A: Allocator + Copy>(
     requires variables { HasVariables (searched_with variables.old ctx.old) }
     requires live { (data_at variables.old.kept global).deleted ≡ false }
     ensures variables { OnOk result (HasVariables (searched_with variables.new ctx.new)) }
-    ensures solver { IfOk result (HasSolverVariable global (searched_with variables.old ctx.old) (searched_with variables.new ctx.new)) }
+    ensures solver { IfOk result
+        (HasSolverVariable global (searched_with variables.old ctx.old) (searched_with variables.new ctx.new)) }
     ensures schedule { KeepsSchedule ctx.old ctx.new }
 {
     if let Some(solver) = variables.solver_from_global().get(global) {
@@ -82,7 +85,8 @@ pub fn solver_from_user<A: Allocator + Copy>(
     requires variables { HasVariables (searched_with variables.old ctx.old) }
     requires in_range { user < variable_limit }
     requires room { (mid : Tables) → IsNamed user variables.old mid → HasRoom mid }
-    ensures solver { IfOk result (NameHasSolver user (searched_with variables.old ctx.old) (searched_with variables.new ctx.new)) }
+    ensures solver { IfOk result
+        (NameHasSolver user (searched_with variables.old ctx.old) (searched_with variables.new ctx.new)) }
     ensures schedule { KeepsSchedule ctx.old ctx.new }
 {
     let global = global_from_user(variables, user)?;
@@ -102,8 +106,12 @@ pub fn solver_from_user_lits<A: Allocator + Copy>(
     requires variables { HasVariables (searched_with variables.old ctx.old) }
     requires room { HasRoomFor user_lits.now variables.old }
     ensures variables { OnOk result (HasVariables (searched_with variables.new ctx.new)) }
-    ensures in_turn { OnOk result (HaveSolversInTurn user_lits.now (searched_with variables.old ctx.old) (searched_with variables.new ctx.new)) }
-    ensures literals { OnOk result (AreOver (chain (at variables.new.users.forward) (at variables.new.solvers.forward)) user_lits.now solver_lits.new.items) }
+    ensures in_turn { OnOk result
+        (HaveSolversInTurn user_lits.now (searched_with variables.old ctx.old) (searched_with variables.new ctx.new)) }
+    ensures literals { OnOk result
+        (AreOver
+        (chain (at variables.new.users.forward)
+        (at variables.new.solvers.forward)) user_lits.now solver_lits.new.items) }
     ensures schedule { KeepsSchedule ctx.old ctx.new }
 {
     solver_lits.clear();
@@ -125,10 +133,14 @@ pub fn remove_solver_var<A: Allocator + Copy>(
     requires ready { IsReady ctx.old }
     requires known { solver < length ctx.old.assignment.current }
     requires taken { IsSome (at variables.old.solvers.backward solver) }
-    ensures removed { RemovesSolver solver (searched_with variables.old ctx.old) (searched_with variables.new ctx.new) result }
-    ensures not_decidable { OnOk result (slice_index_or ctx.old.assignment.current solver None ≡ None → IsDecidable (view ctx.new) ctx.new.vsids solver → ⊥) }
+    ensures removed { RemovesSolver solver (searched_with variables.old ctx.old)
+        (searched_with variables.new ctx.new) result }
+    ensures not_decidable { OnOk result
+        (slice_index_or ctx.old.assignment.current solver None ≡ None →
+        IsDecidable (view ctx.new) ctx.new.vsids solver → ⊥) }
     ensures others { OnOk result (SameDecidableBut solver (view ctx.old) ctx.old.vsids (view ctx.new) ctx.new.vsids) }
-    ensures ready { OnOk result (IsUnmentioned (kept (view ctx.old)) solver → AreNotOf ctx.old.assumptions.working solver → IsReady ctx.new) }
+    ensures ready { OnOk result
+        (IsUnmentioned (kept (view ctx.old)) solver → AreNotOf ctx.old.assumptions.working solver → IsReady ctx.new) }
 {
     let global = variables.detach_solver_var(solver)?;
     remove_var(ctx, solver);

@@ -65,7 +65,8 @@ impl SolverState {
 
     /// Notes that a clause was accepted: a model that was found may not satisfy it.
     pub fn accept_clause(&mut self)
-        ensures { self.new ≡ record self.old { sat_state = reopened_state self.old.sat_state; formula_is_empty = false } }
+        ensures { self.new
+            ≡ record self.old { sat_state = reopened_state self.old.sat_state; formula_is_empty = false } }
     {
         self.reopen();
         self.formula_is_empty = false;

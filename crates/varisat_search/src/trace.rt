@@ -30,7 +30,8 @@ pub fn trace_units<A: Allocator + Copy, P: ProofTracer>(
 ) -> Result<(), TraceError>
     requires inside { (l : Literal) → l ∈ lits.now → variable_of l < length impl_graph.now.nodes.items }
     requires able { CanTake (P.holds proof.old) (unit_lines (units_in impl_graph.now.nodes.items lits.now)) }
-    ensures { LogsLines P.takes P.breaks_off proof.old (unit_lines (units_in impl_graph.now.nodes.items lits.now)) result proof.new }
+    ensures { LogsLines P.takes P.breaks_off proof.old
+        (unit_lines (units_in impl_graph.now.nodes.items lits.now)) result proof.new }
 {
     for lit in lits {
         if impl_graph.reason(lit.var()).is_unit() {
@@ -69,7 +70,8 @@ fn trace_pairs_with<P: ProofTracer>(
     others: &[Lit],
 ) -> Result<(), TraceError>
     requires { CanTake (P.holds proof.old) (lines_of_pairs values.now (pairs_with first others.now)) }
-    ensures { LogsLines P.takes P.breaks_off proof.old (lines_of_pairs values.now (pairs_with first others.now)) result proof.new }
+    ensures { LogsLines P.takes P.breaks_off proof.old
+        (lines_of_pairs values.now (pairs_with first others.now)) result proof.new }
 {
     for other in others {
         if !is_gone_pair(values, first, *other) {
@@ -90,7 +92,8 @@ fn trace_each_pair<A: Allocator + Copy, P: ProofTracer>(
 ) -> Result<(), TraceError>
     requires small { length binary_clauses.now ≤ 0x2000_0000 }
     requires able { CanTake (P.holds proof.old) (lines_of_pairs values.now (pairs_from 0 binary_clauses.now)) }
-    ensures { LogsLines P.takes P.breaks_off proof.old (lines_of_pairs values.now (pairs_from 0 binary_clauses.now)) result proof.new }
+    ensures { LogsLines P.takes P.breaks_off proof.old
+        (lines_of_pairs values.now (pairs_from 0 binary_clauses.now)) result proof.new }
 {
     'lits: for code in 0..binary_clauses.len() {
         let lit = Lit::from_code(code);
@@ -127,7 +130,8 @@ fn trace_clause<A: Allocator + Copy, P: ProofTracer>(
 ) -> Result<(), TraceError>
     requires in_range { IsInRange assignment.now.current lits.now }
     requires able { CanTake (P.holds proof.old) (lines_of_clause assignment.now.current lits.now) }
-    ensures { LogsLines P.takes P.breaks_off proof.old (lines_of_clause assignment.now.current lits.now) result proof.new }
+    ensures { LogsLines P.takes P.breaks_off proof.old
+        (lines_of_clause assignment.now.current lits.now) result proof.new }
 {
     if is_satisfied(assignment, lits) {
         proof.add_step(&ProofStep::DeleteClause { clause: lits })?;
@@ -149,9 +153,12 @@ fn trace_clauses<A: Allocator + Copy, P: ProofTracer>(
     left: &mut Vec<Lit, A>,
 ) -> Result<(), TraceError>
     requires sound { IsSound clause_alloc.now }
-    requires in_range { (c : Clause) → c ∈ literals_of (live_clauses clause_alloc.now) → IsInRange assignment.now.current c }
-    requires able { CanTake (P.holds proof.old) (lines_of_clauses assignment.now.current (live_clauses clause_alloc.now)) }
-    ensures { LogsLines P.takes P.breaks_off proof.old (lines_of_clauses assignment.now.current (live_clauses clause_alloc.now)) result proof.new }
+    requires in_range { (c : Clause) → c ∈ literals_of (live_clauses clause_alloc.now) →
+        IsInRange assignment.now.current c }
+    requires able { CanTake (P.holds proof.old)
+        (lines_of_clauses assignment.now.current (live_clauses clause_alloc.now)) }
+    ensures { LogsLines P.takes P.breaks_off proof.old
+        (lines_of_clauses assignment.now.current (live_clauses clause_alloc.now)) result proof.new }
 {
     'clauses: for index in 0..clause_alloc.len() {
         let cref = clause_alloc.place(index);
@@ -171,8 +178,10 @@ pub fn trace_pairs<A: Allocator + Copy, P: ProofTracer>(
     binary_clauses: &BinaryClauses<A>,
 ) -> Result<(), TraceError>
     requires small { length binary_clauses.now ≤ 0x2000_0000 }
-    requires able { CanTake (P.holds proof.old) (lines_of_pairs assignment.now.current (pairs_from 0 binary_clauses.now)) }
-    ensures { LogsLines P.takes P.breaks_off proof.old (lines_of_pairs assignment.now.current (pairs_from 0 binary_clauses.now)) result proof.new }
+    requires able { CanTake (P.holds proof.old)
+        (lines_of_pairs assignment.now.current (pairs_from 0 binary_clauses.now)) }
+    ensures { LogsLines P.takes P.breaks_off proof.old
+        (lines_of_pairs assignment.now.current (pairs_from 0 binary_clauses.now)) result proof.new }
 {
     if !proof.is_active() {
         return Ok(());
@@ -190,9 +199,12 @@ pub fn trace_stored<A: Allocator + Copy, P: ProofTracer>(
     alloc: A,
 ) -> Result<(), TraceError>
     requires sound { IsSound clause_alloc.now }
-    requires in_range { (c : Clause) → c ∈ literals_of (live_clauses clause_alloc.now) → IsInRange assignment.now.current c }
-    requires able { CanTake (P.holds proof.old) (lines_of_clauses assignment.now.current (live_clauses clause_alloc.now)) }
-    ensures { LogsLines P.takes P.breaks_off proof.old (lines_of_clauses assignment.now.current (live_clauses clause_alloc.now)) result proof.new }
+    requires in_range { (c : Clause) → c ∈ literals_of (live_clauses clause_alloc.now) →
+        IsInRange assignment.now.current c }
+    requires able { CanTake (P.holds proof.old)
+        (lines_of_clauses assignment.now.current (live_clauses clause_alloc.now)) }
+    ensures { LogsLines P.takes P.breaks_off proof.old
+        (lines_of_clauses assignment.now.current (live_clauses clause_alloc.now)) result proof.new }
 {
     if !proof.is_active() {
         return Ok(());
@@ -212,7 +224,8 @@ pub fn trace_deletions<A: Allocator + Copy, P: ProofTracer>(
     requires sound { IsSound clause_alloc.now }
     requires listed { (p : ℕ) → p ∈ list.now → IsClauseRef (stored_clauses clause_alloc.now) p }
     requires able { CanTake (P.holds proof.old) (unmarked_deletions (stored_clauses clause_alloc.now) count list.now) }
-    ensures { LogsLines P.takes P.breaks_off proof.old (unmarked_deletions (stored_clauses clause_alloc.now) count list.now) result proof.new }
+    ensures { LogsLines P.takes P.breaks_off proof.old
+        (unmarked_deletions (stored_clauses clause_alloc.now) count list.now) result proof.new }
 {
     let mut left = count;
     'clauses: for cref in list {

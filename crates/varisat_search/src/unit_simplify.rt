@@ -49,10 +49,15 @@ pub fn prove_units<A: Allocator + Copy, P: ProofTracer>(
 ) -> Result<bool, TraceError>
     requires ready { IsReady ctx.old }
     requires holds { AdmitsFor (P.holds proof.old) (search_of (view ctx.old)) }
-    ensures found { IfOk result (λ found. IsTrue found ↔ ((ctx.old.trail.decisions ≡ []) × (0 < length ctx.old.trail.literals))) }
-    ensures proved { HoldsOrUnchanged result (ctx.old.trail.decisions ≡ [] → ProvesUnits (view ctx.old) (view ctx.new)) ctx.old ctx.new }
-    ensures proves { OnOk result (ctx.old.trail.decisions ≡ [] → ProvesTo (unit_lines (implied_units (view ctx.old))) ctx.old ctx.new) }
-    ensures takes { OnOk result (ctx.old.trail.decisions ≡ [] → TakesLines P.takes proof.old (unit_lines (implied_units (view ctx.old))) proof.new) }
+    ensures found { IfOk result
+        (λ found. IsTrue found ↔ ((ctx.old.trail.decisions ≡ []) × (0 < length ctx.old.trail.literals))) }
+    ensures proved { HoldsOrUnchanged result
+        (ctx.old.trail.decisions ≡ [] → ProvesUnits (view ctx.old) (view ctx.new)) ctx.old ctx.new }
+    ensures proves { OnOk result
+        (ctx.old.trail.decisions ≡ [] → ProvesTo (unit_lines (implied_units (view ctx.old))) ctx.old ctx.new) }
+    ensures takes { OnOk result
+        (ctx.old.trail.decisions ≡ [] →
+        TakesLines P.takes proof.old (unit_lines (implied_units (view ctx.old))) proof.new) }
     ensures stays { 0 < length ctx.old.trail.decisions → (ctx.new ≡ ctx.old) × (proof.new ≡ proof.old) }
     ensures ready { OnOk result (IsReady ctx.new) }
     ensures frame { ctx.new ≡ record ctx.old { impl_graph = ctx.new.impl_graph } }
@@ -80,7 +85,8 @@ fn shrink<A: Allocator + Copy>(alloc: &mut ClauseAlloc<A>, cref: ClauseRef, left
     requires place { IsClauseRef (stored_clauses alloc.old) cref }
     requires least { 3 ≤ length left.now }
     requires most { length left.now ≤ length (literals_at (stored_clauses alloc.old) cref) }
-    ensures { HoldsClauses alloc.new (length alloc.old.words) (with_shortened (stored_clauses alloc.old) cref left.now) }
+    ensures { HoldsClauses alloc.new (length alloc.old.words)
+        (with_shortened (stored_clauses alloc.old) cref left.now) }
 {
     write_front(alloc.lits_mut(cref), left);
     alloc.shorten(cref, left.len());
@@ -89,7 +95,8 @@ fn shrink<A: Allocator + Copy>(alloc: &mut ClauseAlloc<A>, cref: ClauseRef, left
 /// Whether a literal of the clause has a value.
 fn has_assigned<A: Allocator + Copy>(assignment: &Assignment<A>, lits: &[Lit]) -> bool
     requires { IsInRange assignment.now.current lits.now }
-    ensures { IsTrue result ↔ ((l : Literal) × (l ∈ lits.now) × (slice_index_or assignment.now.current (variable_of l) None ≢ None)) }
+    ensures { IsTrue result
+        ↔ ((l : Literal) × (l ∈ lits.now) × (slice_index_or assignment.now.current (variable_of l) None ≢ None)) }
 {
     for lit in lits {
         if !assignment.lit_is_unk(*lit) {
@@ -230,7 +237,8 @@ pub fn unit_simplify<A: Allocator + Copy, P: ProofTracer>(
     requires holds { AdmitsFor (P.holds proof.old) (search_of (view ctx.old)) }
     ensures simplified { OnOk result (IsSimplified (view ctx.old) (view ctx.new)) }
     ensures proves { OnOk result (ProvesTo (pair_lines (view ctx.old) ++ clause_lines (view ctx.old)) ctx.old ctx.new) }
-    ensures takes { OnOk result (TakesLines P.takes proof.old (pair_lines (view ctx.old) ++ clause_lines (view ctx.old)) proof.new) }
+    ensures takes { OnOk result
+        (TakesLines P.takes proof.old (pair_lines (view ctx.old) ++ clause_lines (view ctx.old)) proof.new) }
     ensures ready { OnOk result (IsReady ctx.new) }
     ensures decidable { OnOk result (SameDecidable (view ctx.old) ctx.old.vsids (view ctx.new) ctx.new.vsids) }
     ensures frame { ChangesSimplified ctx.old ctx.new }

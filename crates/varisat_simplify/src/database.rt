@@ -367,7 +367,8 @@ impl<A: Allocator + Copy> Database<A> {
     /// Places among which each live clause with the literal is. None if the clauses are not listed.
     pub fn places(&self, lit: Lit) -> Option<&[u32]>
         ensures even { length self.now.live ≡ length self.now.clauses }
-        ensures all { IfSome result (λ places. (k : ℕ) → IsLive self.now k → lit ∈ clause_at self.now k → k ∈ places.now) }
+        ensures all { IfSome result
+            (λ places. (k : ℕ) → IsLive self.now k → lit ∈ clause_at self.now k → k ∈ places.now) }
     {
         if !self.is_listed {
             return None;

@@ -18,7 +18,9 @@ pub(crate) fn push_lists<T: Drop, A: Allocator + Copy>(
     count: usize,
 ) -> Result<(), AllocError>
     requires { length lists.old.items ≤ count }
-    ensures { OnOk result (map (λ v. v.items) lists.new.items ≡ map (λ v. v.items) lists.old.items ++ replicate (count - length lists.old.items) []) }
+    ensures { OnOk result
+        (map (λ v. v.items) lists.new.items
+        ≡ map (λ v. v.items) lists.old.items ++ replicate (count - length lists.old.items) []) }
 {
     let old_count = lists.len();
     let mut added = 0;

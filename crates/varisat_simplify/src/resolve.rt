@@ -109,7 +109,8 @@ pub fn resolve<A: Allocator + Copy>(
     lit: Lit,
     out: &mut Vec<Lit, A>,
 ) -> Result<bool, AllocError>
-    ensures { IfOk result (λ b. MatchBool b (Resolves clause.now other.now lit out.new.items) (Clashes clause.now other.now lit)) }
+    ensures { IfOk result
+        (λ b. MatchBool b (Resolves clause.now other.now lit out.new.items) (Clashes clause.now other.now lit)) }
 {
     without(other, !lit, out)?;
     for one in clause {

@@ -67,7 +67,8 @@ pub record IsFlagged (old : List Bool) (v : ℕ) (new : List Bool) : Type 0 wher
 -- The variable is frozen.
 pub data Freezes (variable : ℤ) (g : Simplifier) (n : ℕ) (h : Simplifier) : Type 0 where
   Frozen : pos 1 ≤ℤ variable → variable_numbered variable < variable_limit → g.made ≡ None → n ≡ 0 →
-      IsFlagged g.frozen (variable_numbered variable) h.frozen → h ≡ record g { frozen = h.frozen } → Freezes variable g n h
+      IsFlagged g.frozen (variable_numbered variable) h.frozen → h ≡ record g { frozen = h.frozen } →
+      Freezes variable g n h
   Wrong : variable <ℤ pos 1 → IsRefused 14 g n h → Freezes variable g n h
   TooHigh : variable_limit ≤ variable_numbered variable → IsRefused 7 g n h → Freezes variable g n h
   TooLate : IsSome g.made → IsRefused 19 g n h → Freezes variable g n h
@@ -75,7 +76,8 @@ pub data Freezes (variable : ℤ) (g : Simplifier) (n : ℕ) (h : Simplifier) : 
 
 -- The clauses are simplified, once.
 pub data Simplifies (g : Simplifier) (n : ℕ) (h : Simplifier) : Type 0 where
-  Simplified : (m : Made) → IsSimplified g.given g.frozen m → g.made ≡ None → n ≡ 0 → h ≡ record g { made = Some m } → Simplifies g n h
+  Simplified : (m : Made) → IsSimplified g.given g.frozen m → g.made ≡ None → n ≡ 0 → h ≡ record g { made = Some m } →
+      Simplifies g n h
   TooLate : IsSome g.made → IsRefused 19 g n h → Simplifies g n h
   NoRoom : IsRefused 3 g n h → Simplifies g n h
 
@@ -106,7 +108,8 @@ pub record IsExtension (g : Simplifier) (m : Made) (ls : List Literal) (ws : Lis
 
 -- A model of the clauses that are left is extended to one of those that were given.
 pub data Extends (numbers : List ℤ) (g : Simplifier) (n : ℕ) (h : Simplifier) : Type 0 where
-  Extended : (m : Made) (ws : List Bool) → (pos 0 ∈ numbers → ⊥) → IsExtension g m (map literal_numbered numbers) ws → g.made ≡ Some m → n ≡ 0 →
+  Extended : (m : Made) (ws : List Bool) → (pos 0 ∈ numbers → ⊥) → IsExtension g m (map literal_numbered numbers) ws →
+      g.made ≡ Some m → n ≡ 0 →
       h ≡ record g { list = value_numbers ws } → Extends numbers g n h
   Zero : pos 0 ∈ numbers → IsRefused 14 g n h → Extends numbers g n h
   Nothing : g.made ≡ None → IsRefused 15 g n h → Extends numbers g n h

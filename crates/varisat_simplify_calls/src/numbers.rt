@@ -101,7 +101,8 @@ pub fn values_of<A: Allocator + Copy>(
 pub fn flag<A: Allocator + Copy>(flags: &mut Vec<bool, A>, place: usize) -> Result<(), AllocError>
     requires { place < 2 ^ 31 }
     ensures flagged { OnOk result (slice_index_or flags.new.items place false ≡ true) }
-    ensures others { OnOk result ((k : ℕ) → k ≢ place → slice_index_or flags.new.items k false ≡ slice_index_or flags.old.items k false) }
+    ensures others { OnOk result
+        ((k : ℕ) → k ≢ place → slice_index_or flags.new.items k false ≡ slice_index_or flags.old.items k false) }
     ensures refused { OnErr result (flags.new.items ≡ flags.old.items) }
 {
     if place >= flags.len() {

@@ -47,8 +47,11 @@ pub fn decide<W: ProofTarget, A: Allocator + Copy, S: ByteSource, E: Write, C: C
 ) -> Result<Report<A>, SolverError>
     requires faults { (S.input cnf.old).faults < 2 ^ 64 - 1 }
     requires room { CanCountFault W.taken target.old }
-    ensures decided { IfOk result (λ report. DecidesBy W.taken options.search (S.input cnf.old) (S.input cnf.new) target.old target.new (concluded report)) }
-    ensures fails { IfErr result (λ error. FailsFirst W.taken options target.old (S.input cnf.old) (S.input cnf.new) error) }
+    ensures decided { IfOk result
+        (λ report.
+        DecidesBy W.taken options.search (S.input cnf.old) (S.input cnf.new) target.old target.new (concluded report)) }
+    ensures fails { IfErr result
+        (λ error. FailsFirst W.taken options target.old (S.input cnf.old) (S.input cnf.new) error) }
 {
     if options.simplify && !matches!(options.search.format, ProofFormat::Marked) {
         decide_simplified(alloc, cnf, target, options.search, clock, err)
@@ -89,8 +92,11 @@ fn decide_simplified<W: ProofTarget, A: Allocator + Copy, S: ByteSource, E: Writ
     requires faults { (S.input cnf.old).faults < 2 ^ 64 - 1 }
     requires room { CanCountFault W.taken target.old }
     requires plain { has_marks options.format ≡ false }
-    ensures decided { IfOk result (λ report. DecidesBy W.taken options (S.input cnf.old) (S.input cnf.new) target.old target.new (concluded report)) }
-    ensures fails { IfErr result (λ error. FailsSimplified W.taken options target.old (S.input cnf.old) (S.input cnf.new) error) }
+    ensures decided { IfOk result
+        (λ report.
+        DecidesBy W.taken options (S.input cnf.old) (S.input cnf.new) target.old target.new (concluded report)) }
+    ensures fails { IfErr result
+        (λ error. FailsSimplified W.taken options target.old (S.input cnf.old) (S.input cnf.new) error) }
 {
     let formula = match DimacsParser::parse(alloc, cnf) {
         Ok(formula) => formula,
@@ -153,7 +159,13 @@ fn milliseconds_since<C: Clock>(start: io::Result<Instant>, clock: &C) -> u128 {
 }
 
 /// Tells how many of so many clauses are left, how many are saved, by which models are extended, and how long that took.
-fn print_simplified<E: Write>(err: &mut E, clauses: usize, left: usize, saved: usize, milliseconds: u128) {
+fn print_simplified<E: Write>(
+    err: &mut E,
+    clauses: usize,
+    left: usize,
+    saved: usize,
+    milliseconds: u128,
+) {
     // A writer that fails here leaves nothing to report.
     let _ = writeln!(
         err,
@@ -172,7 +184,9 @@ fn write_lead<W: ProofTarget, A: Allocator + Copy>(
     requires plain { has_marks format ≡ false }
     ensures led { IfOk result (λ _. TakesLead W.taken format target.old history.lines (Ok tt) target.new) }
     ensures room { IfOk result (λ _. CanCountFault W.taken target.new) }
-    ensures fails { IfErr result (λ error. (fault : WriteError) × TakesLead W.taken format target.old history.lines (Err fault) target.new × (error ≡ line_refusal fault)) }
+    ensures fails { IfErr result
+        (λ error. (fault : WriteError) × TakesLead W.taken format target.old history.lines (Err fault) target.new
+        × (error ≡ line_refusal fault)) }
 {
     let Some(target) = target else {
         return Ok(());
@@ -195,8 +209,14 @@ fn decide_formula<W: ProofTarget, A: Allocator + Copy, E: Write>(
     requires room { CanCountFault W.taken target.old }
     requires low { AreLow formula.clauses }
     requires few { length formula.clauses < 2 ^ 64 }
-    ensures decided { IfOk result (λ report. Concluded W.taken options.format (allowed_steps options.max_steps) formula.clauses target.old target.new (concluded report)) }
-    ensures fails { IfErr result (λ error. FailsOver W.taken (prepared W.taken options.format options.check options.max_steps target.old) formula.clauses error) }
+    ensures decided { IfOk result
+        (λ report.
+        Concluded W.taken options.format (allowed_steps options.max_steps) formula.clauses target.old target.new
+        (concluded report)) }
+    ensures fails { IfErr result
+        (λ error.
+        FailsOver W.taken
+        (prepared W.taken options.format options.check options.max_steps target.old) formula.clauses error) }
 {
     let mut solver: Solver<W, A> = new_solver(alloc, options.check);
     let report = decide_in(&mut solver, formula, target, options, err);
@@ -225,8 +245,14 @@ fn decide_in<W: ProofTarget, A: Allocator + Copy, E: Write>(
     requires room { CanCountFault W.taken target.old }
     requires low { AreLow formula.clauses }
     requires few { length formula.clauses < 2 ^ 64 }
-    ensures decided { IfOk result (λ report. Concluded W.taken options.format (allowed_steps options.max_steps) formula.clauses target.old target.new (concluded report)) }
-    ensures fails { IfErr result (λ error. FailsOver W.taken (prepared W.taken options.format options.check options.max_steps target.old) formula.clauses error) }
+    ensures decided { IfOk result
+        (λ report.
+        Concluded W.taken options.format (allowed_steps options.max_steps) formula.clauses target.old target.new
+        (concluded report)) }
+    ensures fails { IfErr result
+        (λ error.
+        FailsOver W.taken
+        (prepared W.taken options.format options.check options.max_steps target.old) formula.clauses error) }
 {
     prepare(solver, target.take(), options);
     solver.add_formula(&formula)?;
@@ -246,7 +272,8 @@ fn extend_report<A: Allocator + Copy>(
 ) -> Result<Report<A>, SolverError>
     requires { count ≤ 2 ^ 31 }
     ensures extended { IfOk result (λ all. concluded all ≡ conclusion_of_all stack.now count (concluded report)) }
-    ensures memory { IfErr result (λ error. (error ≡ SolverError.OutOfMemory) × ((model : List ℕ) × (concluded report ≡ Decided (Some model)))) }
+    ensures memory { IfErr result
+        (λ error. (error ≡ SolverError.OutOfMemory) × ((model : List ℕ) × (concluded report ≡ Decided (Some model)))) }
 {
     match report {
         Report::Decided(Some(model)) => match extend_model(alloc, stack, &model, count) {

@@ -18,7 +18,8 @@ fn write_plain<W: ProofTarget, A: Allocator + Copy>(
 ) -> Result<(), WriteError>
     requires room { (W.taken target.old).faults < 2 ^ 64 - 1 }
     requires plain { has_marks format ≡ false }
-    ensures { PutsLines (encoding_of format) (W.taken target.old) result (plain_lines (step_lines step.now)) (W.taken target.new) }
+    ensures { PutsLines (encoding_of format) (W.taken target.old) result (plain_lines (step_lines step.now))
+        (W.taken target.new) }
 {
     match format {
         ProofFormat::BinaryDrat => write_binary_step(target, buffer, step),
@@ -37,7 +38,8 @@ fn write_line<W: ProofTarget, A: Allocator + Copy>(
     requires room { (W.taken target.old).faults < 2 ^ 64 - 1 }
     requires plain { has_marks format ≡ false }
     requires within { line < length history.now.lines }
-    ensures { PutsLines (encoding_of format) (W.taken target.old) result (plain_line (slice_index_or history.now.lines line (Add [])) ∷ []) (W.taken target.new) }
+    ensures { PutsLines (encoding_of format) (W.taken target.old) result
+        (plain_line (slice_index_or history.now.lines line (Add [])) ∷ []) (W.taken target.new) }
 {
     let clause = history.lits(line);
     let step = if history.deletes(line) {
@@ -57,7 +59,8 @@ pub fn write_history<W: ProofTarget, A: Allocator + Copy>(
 ) -> Result<(), WriteError>
     requires room { (W.taken target.old).faults < 2 ^ 64 - 1 }
     requires plain { has_marks format ≡ false }
-    ensures { PutsLines (encoding_of format) (W.taken target.old) result (plain_lines history.now.lines) (W.taken target.new) }
+    ensures { PutsLines (encoding_of format) (W.taken target.old) result (plain_lines history.now.lines)
+        (W.taken target.new) }
 {
     for line in 0..history.line_count() {
         match write_line(target, buffer, format, history, line) {

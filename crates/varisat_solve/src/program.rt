@@ -11,7 +11,7 @@ use std::io::Write;
 use std::time::Clock;
 use varisat::io::{ByteSource, ProofTarget};
 pub use varisat::program::SolveOptions;
-use varisat::program::{print_report, status_of, print_fault};
+use varisat::program::{print_fault, print_report, status_of};
 
 /// Reads a DIMACS CNF text and decides it, as `varisat::program::solve_lines` does, but that the text's formula is simplified
 /// before it is searched, where that is wanted. A model is one of the text's formula, and a proof one from the text's clauses.
@@ -38,7 +38,8 @@ pub fn solve_lines<
     requires out_faults { (T.taken out.old).faults < 2 ^ 64 - 1 }
     // Deciding fails, and nothing is printed; or the source gave a whole text, which was decided if the steps allowed it, with
     // a proof in the target, and the outcome was printed, or a beginning of it where a call of `out` failed.
-    ensures outcome { SolvesFirst P.taken options (S.input cnf.old) (S.input cnf.new) proof.old proof.new (T.taken out.old) (T.taken out.new) result }
+    ensures outcome { SolvesFirst P.taken options (S.input cnf.old) (S.input cnf.new) proof.old proof.new
+        (T.taken out.old) (T.taken out.new) result }
     ensures truth { StatusIsTrue (S.input cnf.old) (S.input cnf.new) result }
 {
     match decide(alloc, cnf, proof, options, clock, err) {

@@ -70,7 +70,8 @@ fn log_clause<W: ProofTarget, A: Allocator + Copy>(
     clause: &[Lit],
 ) -> Result<(), StepError>
     requires { CanLog tracer.old.proof }
-    ensures logged { OnOk result (TakesGlobally (tracer_state tracer.old) (Accepts clause.now ∷ []) (tracer_state tracer.new)) }
+    ensures logged { OnOk result
+        (TakesGlobally (tracer_state tracer.old) (Accepts clause.now ∷ []) (tracer_state tracer.new)) }
     ensures broken { IfErr result (λ error. BreaksProof tracer.old.proof (step_faults error) tracer.new.proof) }
     ensures unstored { IfErr result (λ error. error ≢ StepError.Full) }
 {
@@ -84,7 +85,8 @@ fn log_assumptions<W: ProofTarget, A: Allocator + Copy>(
     list: &[Lit],
 ) -> Result<(), StepError>
     requires { CanLog tracer.old.proof }
-    ensures logged { OnOk result (TakesGlobally (tracer_state tracer.old) (Assumes list.now ∷ []) (tracer_state tracer.new)) }
+    ensures logged { OnOk result
+        (TakesGlobally (tracer_state tracer.old) (Assumes list.now ∷ []) (tracer_state tracer.new)) }
     ensures broken { IfErr result (λ error. BreaksProof tracer.old.proof (step_faults error) tracer.new.proof) }
     ensures unstored { IfErr result (λ error. error ≢ StepError.Full) }
 {
@@ -111,11 +113,13 @@ pub fn accept_user_clause<W: ProofTarget, A: Allocator + Copy>(
         record ctx.old.solver_state { sat_state = ctx.new.solver_state.sat_state; formula_is_empty = false }) }
     ensures schedule { KeepsSchedule ctx.old ctx.new }
     ensures logged { OnOk result (LogsSome tracer.old.proof tracer.new.proof) }
-    ensures accepted { OnOk result (RepresentsOnceAccepted clause.now (tracer_state tracer.old) ctx.old (tracer_state tracer.new) ctx.new) }
+    ensures accepted { OnOk result
+        (RepresentsOnceAccepted clause.now (tracer_state tracer.old) ctx.old (tracer_state tracer.new) ctx.new) }
     // What the target of an open proof has after an error.
     ensures broken { IfErr result (λ error. BreaksProof tracer.old.proof (step_faults error) tracer.new.proof) }
     ensures full { IfErr result (λ error. error ≡ StepError.Full → HasNoRoom ctx.new) }
-    ensures size { IfErr result (λ error. error ≡ StepError.Full → IsWithinIdentities clause.now (tracer_state tracer.old) ctx.old ctx.new) }
+    ensures size { IfErr result
+        (λ error. error ≡ StepError.Full → IsWithinIdentities clause.now (tracer_state tracer.old) ctx.old ctx.new) }
 {
     // A model that was found may not satisfy the clause.
     ctx.solver_state.reopen();
@@ -145,7 +149,8 @@ pub fn assume_list<W: ProofTarget, A: Allocator + Copy>(
     ensures state { OnOk result (KeepsValidity ctx.old.solver_state ctx.new.solver_state) }
     ensures schedule { KeepsSchedule ctx.old ctx.new }
     ensures logged { OnOk result (LogsSome tracer.old.proof tracer.new.proof) }
-    ensures assumed { OnOk result (RepresentsOnceAssumed list.now (tracer_state tracer.old) ctx.old (tracer_state tracer.new) ctx.new) }
+    ensures assumed { OnOk result
+        (RepresentsOnceAssumed list.now (tracer_state tracer.old) ctx.old (tracer_state tracer.new) ctx.new) }
     // What the target of an open proof has after an error. The clause store is not asked for room.
     ensures broken { IfErr result (λ error. BreaksProof tracer.old.proof (step_faults error) tracer.new.proof) }
     ensures unstored { IfErr result (λ error. error ≢ StepError.Full) }

@@ -17,7 +17,8 @@ pub(crate) fn carry_literals<A: Allocator + Copy>(
     lits: &[Lit],
     carried: &mut Vec<Lit, A>,
 ) -> Result<(), AllocError>
-    requires { (l : Literal) → l ∈ lits.now → (v : ℕ) × (chain (at first.now) (at second.now) (variable_of l) ≡ Some v) }
+    requires { (l : Literal) → l ∈ lits.now →
+        (v : ℕ) × (chain (at first.now) (at second.now) (variable_of l) ≡ Some v) }
     ensures { OnOk result (carried.new.items ≡ map (carry (chain (at first.now) (at second.now))) lits.now) }
 {
     carried.clear();

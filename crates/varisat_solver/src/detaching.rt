@@ -80,7 +80,8 @@ fn detach_solver_var<W: ProofTarget, A: Allocator + Copy>(
     solver: Var,
 ) -> Result<(), AllocError>
     requires { IsSome (at tracer.old.tables.solvers.backward solver) }
-    ensures dropped { OnOk result ((x : ℕ) × LosesSolverVar x solver (tracer_state tracer.old) (tracer_state tracer.new)) }
+    ensures dropped { OnOk result
+        ((x : ℕ) × LosesSolverVar x solver (tracer_state tracer.old) (tracer_state tracer.new)) }
     ensures opened { open_parts tracer.new.proof ≡ open_parts tracer.old.proof }
 {
     tracer.tables.prove_linked();
@@ -256,10 +257,12 @@ pub fn detach_fixed<W: ProofTarget, A: Allocator + Copy>(
     ensures count { OnOk result (length ctx.new.assignment.current ≡ length ctx.old.assignment.current) }
     ensures left { OnOk result (DetachesWhereNews ctx.old tracer.new.tables (view ctx.new)) }
     // Where none was to leave but with such news, none is now, unless a clause is false.
-    ensures leaves { OnOk result (DetachesInTime tracer.old.tables (view ctx.old) → HasDetached tracer.new.tables (view ctx.new)) }
+    ensures leaves { OnOk result
+        (DetachesInTime tracer.old.tables (view ctx.old) → HasDetached tracer.new.tables (view ctx.new)) }
     ensures calm { OnOk result (IsCalm (view ctx.new)) }
     // Parts of all clauses that were held are held still, but for variables that left.
-    ensures stands { OnOk result ((at : Turn) → ComesOnUndecided at 0 (tracer_state tracer.old) ctx.old (tracer_state tracer.new) ctx.new) }
+    ensures stands { OnOk result
+        ((at : Turn) → ComesOnUndecided at 0 (tracer_state tracer.old) ctx.old (tracer_state tracer.new) ctx.new) }
     // What the target of an open proof has after an error, which is never that the store is full.
     ensures broken { IfErr result (λ error. BreaksProof tracer.old.proof (step_faults error) tracer.new.proof) }
     ensures full { IfErr result (λ error. error ≢ StepError.Full) }

@@ -39,7 +39,8 @@ fn watermark_with<A: Allocator + Copy>(variables: &LinkedVariables<A>, clause: &
 
 /// Whether a literal of the clause is over the variable.
 fn has_var(clause: &[Lit], var: Var) -> bool
-    ensures { MatchBool result ((l : Literal) × (l ∈ clause.now) × (variable_of l ≡ var)) ((l : Literal) → l ∈ clause.now → variable_of l ≢ var) }
+    ensures { MatchBool result ((l : Literal) × (l ∈ clause.now) × (variable_of l ≡ var))
+        ((l : Literal) → l ∈ clause.now → variable_of l ≢ var) }
 {
     for lit in clause {
         if lit.index() == var.index() {
@@ -55,7 +56,8 @@ fn comes_alone<A: Allocator + Copy>(
     before: &[Lit],
     user: Var,
 ) -> bool
-    ensures { MatchBool result (ComesAlone variables.now before.now user) (ComesAlone variables.now before.now user → ⊥) }
+    ensures { MatchBool result (ComesAlone variables.now before.now user)
+        (ComesAlone variables.now before.now user → ⊥) }
 {
     if user.index() >= variables.user_watermark() {
         return false;
@@ -104,7 +106,8 @@ fn lacks_room<A: Allocator + Copy>(
     requires bounded { AreBounded variables.now }
     requires in_range { IsPastLimit clause.now → ⊥ }
     requires watermark { watermark ≡ (name_all clause.now (naming_of variables.now)).watermark }
-    ensures { MatchBool result (IsCrowded (name_all clause.now (naming_of variables.now))) (IsCrowded (name_all clause.now (naming_of variables.now)) → ⊥) }
+    ensures { MatchBool result (IsCrowded (name_all clause.now (naming_of variables.now)))
+        (IsCrowded (name_all clause.now (naming_of variables.now)) → ⊥) }
 {
     let rising = watermark - variables.user_watermark();
     let made = variables.global_watermark() + rising;
@@ -122,14 +125,16 @@ fn lacks_room<A: Allocator + Copy>(
 pub fn is_crowded<A: Allocator + Copy>(variables: &LinkedVariables<A>, clause: &[Lit]) -> bool
     requires bounded { AreBounded variables.now }
     requires in_range { IsPastLimit clause.now → ⊥ }
-    ensures { MatchBool result (IsCrowded (name_all clause.now (naming_of variables.now))) (IsCrowded (name_all clause.now (naming_of variables.now)) → ⊥) }
+    ensures { MatchBool result (IsCrowded (name_all clause.now (naming_of variables.now)))
+        (IsCrowded (name_all clause.now (naming_of variables.now)) → ⊥) }
 {
     lacks_room(variables, clause, watermark_with(variables, clause))
 }
 
 /// Whether the name is a witness.
 fn is_witness<A: Allocator + Copy>(variables: &LinkedVariables<A>, user: Var) -> bool
-    ensures { MatchBool result (IsWitness (naming_of variables.now) user) (IsWitness (naming_of variables.now) user → ⊥) }
+    ensures { MatchBool result (IsWitness (naming_of variables.now) user)
+        (IsWitness (naming_of variables.now) user → ⊥) }
 {
     variables.prove_linked();
     let Some(global) = variables.global_from_user().get(user) else {
@@ -168,7 +173,8 @@ fn scan_names<A: Allocator + Copy>(
     clause: &[Lit],
 ) -> (usize, Option<Var>)
     ensures watermark { result.0 ≡ (name_all clause.now (naming_of variables.now)).watermark }
-    ensures witness { MatchOption result.1 (NameNoWitness (naming_of variables.now) clause.now) (IsFirstWitness (naming_of variables.now) clause.now) }
+    ensures witness { MatchOption result.1 (NameNoWitness (naming_of variables.now) clause.now)
+        (IsFirstWitness (naming_of variables.now) clause.now) }
 {
     let mut watermark = variables.user_watermark();
     let mut first = None;

@@ -17,7 +17,8 @@ pub fn search<W: ProofTarget, A: Allocator + Copy, E: Write>(
     interval: Option<u64>,
     err: &mut E,
 ) -> Result<bool, SolverError>
-    ensures { (s : State) → Represents solver.old s → (t : State) × Solves by_state s result t × Represents solver.new t }
+    ensures { (s : State) → Represents solver.old s →
+        (t : State) × Solves by_state s result t × Represents solver.new t }
 {
     match interval {
         Some(interval) => search_in_rounds(solver, interval, err),
@@ -31,7 +32,8 @@ fn search_in_rounds<W: ProofTarget, A: Allocator + Copy, E: Write>(
     interval: u64,
     err: &mut E,
 ) -> Result<bool, SolverError>
-    ensures { (s : State) → Represents solver.old s → (t : State) × Solves by_state s result t × Represents solver.new t }
+    ensures { (s : State) → Represents solver.old s →
+        (t : State) × Solves by_state s result t × Represents solver.new t }
 {
     let max_steps = solver.max_steps();
     // A writer that fails here leaves nothing to report.

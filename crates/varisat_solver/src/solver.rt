@@ -197,7 +197,8 @@ fn list_model<A: Allocator + Copy>(
     values: &[Option<bool>],
 ) -> Result<Vec<Lit, A>, AllocError>
     requires { AreBounded variables.now }
-    ensures { IfOk result (λ list. list.items ≡ list_tables variables.now values.now 0 (length variables.now.users.forward)) }
+    ensures { IfOk result
+        (λ list. list.items ≡ list_tables variables.now values.now 0 (length variables.now.users.forward)) }
 {
     variables.prove_linked();
     let mut list = Vec::new(alloc);
@@ -465,7 +466,8 @@ impl<W: ProofTarget, A: Allocator + Copy> Solver<W, A> {
         ensures same { self.new.opened ≡ self.old.opened }
         ensures faults { returned_faults result ≡ 0 }
         ensures full { result ≢ SolverError.ClauseStoreFull }
-        ensures call { (s : State) → Represents self.old s → IsValid s → (t : State) × ReturnsFault by_state (Some fault) s (Err result) t × Represents self.new t }
+        ensures call { (s : State) → Represents self.old s → IsValid s →
+            (t : State) × ReturnsFault by_state (Some fault) s (Err result) t × Represents self.new t }
     {
         if let DimacsErrorKind::OutOfMemory = fault.kind {
             return invalidate(&mut self.ctx, SolverError::OutOfMemory);
@@ -480,7 +482,8 @@ impl<W: ProofTarget, A: Allocator + Copy> Solver<W, A> {
         requires { (S.input source.old).faults < 2 ^ 64 - 1 }
         ensures target { WritesOn self.old.opened result self.new.opened }
         ensures full { result ≡ Err SolverError.ClauseStoreFull → HasFullStore self.new }
-        ensures call { LeadsRepresented self.old (λ s t. AddsDimacs s (S.input source.old) result (S.input source.new) t) self.new }
+        ensures call { LeadsRepresented self.old
+            (λ s t. AddsDimacs s (S.input source.old) result (S.input source.new) t) self.new }
     {
         ensure_valid(&self.ctx)?;
         match read_clauses(self.alloc, source, self) {
@@ -593,7 +596,8 @@ impl<W: ProofTarget, A: Allocator + Copy> Solver<W, A> {
         ensures target { WritesOn self.old.opened result self.new.opened }
         ensures call { LeadsRepresented self.old (λ s t. Assumes s lits.now result t) self.new }
         // The target is asked last: where it fails the list is assumed already, so that there was memory for it.
-        ensures last { (cause : Error) → result ≡ Err (SolverError.ProofIoError cause) → self.new.assumed.user ≡ lits.now }
+        ensures last { (cause : Error) → result ≡ Err (SolverError.ProofIoError cause) →
+            self.new.assumed.user ≡ lits.now }
     {
         ensure_valid(&self.ctx)?;
         if self.tracer.proof.bars_assumptions() {
@@ -614,8 +618,10 @@ impl<W: ProofTarget, A: Allocator + Copy> Solver<W, A> {
     /// the solver is invalid; a proof that cannot be flushed is returned in place of spent steps.
     pub fn solve(&mut self) -> Result<bool, SolverError>
         ensures call { LeadsRepresented self.old (λ s t. Solves by_state s result t) self.new }
-        ensures satisfiable { result ≡ Ok true → (s : State) → Represents self.old s → IsSatisfiableWith s.clauses s.assumptions }
-        ensures unsatisfiable { result ≡ Ok false → (s : State) → Represents self.old s → IsSatisfiableWith s.clauses s.assumptions → ⊥ }
+        ensures satisfiable { result ≡ Ok true → (s : State) → Represents self.old s →
+            IsSatisfiableWith s.clauses s.assumptions }
+        ensures unsatisfiable { result ≡ Ok false → (s : State) → Represents self.old s →
+            IsSatisfiableWith s.clauses s.assumptions → ⊥ }
         ensures model { result ≡ Ok true → (s : State) → Represents self.new s → HasModel s }
         ensures core { result ≡ Ok false → (s : State) → Represents self.new s → HasCore s }
         // The target is as after the steps, but that a search is noted to have run under the proof.
@@ -656,8 +662,10 @@ impl<W: ProofTarget, A: Allocator + Copy> Solver<W, A> {
     /// true; none where that is known. Errors are those of `solve`, but for that of a flush.
     pub(crate) fn seek(&mut self) -> Result<bool, SolverError>
         ensures call { LeadsRepresented self.old (λ s t. Searches s result t) self.new }
-        ensures satisfiable { result ≡ Ok true → (s : State) → Represents self.old s → IsSatisfiableWith s.clauses s.assumptions }
-        ensures unsatisfiable { result ≡ Ok false → (s : State) → Represents self.old s → IsSatisfiableWith s.clauses s.assumptions → ⊥ }
+        ensures satisfiable { result ≡ Ok true → (s : State) → Represents self.old s →
+            IsSatisfiableWith s.clauses s.assumptions }
+        ensures unsatisfiable { result ≡ Ok false → (s : State) → Represents self.old s →
+            IsSatisfiableWith s.clauses s.assumptions → ⊥ }
         ensures model { result ≡ Ok true → (s : State) → Represents self.new s → HasModel s }
         ensures core { result ≡ Ok false → (s : State) → Represents self.new s → HasCore s }
         ensures target { WritesOn self.old.opened result self.new.opened }
@@ -689,9 +697,12 @@ impl<W: ProofTarget, A: Allocator + Copy> Solver<W, A> {
     /// The names in use in increasing order with the values that were found, if the last thing that was found out is
     /// that the clauses are satisfiable; else None, as in an invalid solver. Where memory runs out nothing changes.
     pub fn model(&self) -> Result<Option<Vec<Lit, A>>, AllocError>
-        ensures call { LeadsRepresented self.now (λ s t. ReturnsList (by_state.model s) s (returned_list result) t) self.now }
-        ensures completable { (m : List ℕ) → returned_list result ≡ Ok (Some m) → (s : State) → Represents self.now s → IsCompletableIn s m }
-        ensures absent { returned_list result ≡ Ok None → (s : State) → Represents self.now s → IsValid s → answer_of s.verdict ≡ Some true → ⊥ }
+        ensures call { LeadsRepresented self.now
+            (λ s t. ReturnsList (by_state.model s) s (returned_list result) t) self.now }
+        ensures completable { (m : List ℕ) → returned_list result ≡ Ok (Some m) → (s : State) → Represents self.now s →
+            IsCompletableIn s m }
+        ensures absent { returned_list result ≡ Ok None → (s : State) → Represents self.now s → IsValid s →
+            answer_of s.verdict ≡ Some true → ⊥ }
     {
         if self.ctx.solver_state.state_is_invalid {
             return Ok(None);
@@ -710,9 +721,12 @@ impl<W: ProofTarget, A: Allocator + Copy> Solver<W, A> {
     /// that was found out is that these are unsatisfiable under the assumptions; an empty list where the clauses alone
     /// are; else None, as in an invalid solver.
     pub fn failed_core(&self) -> Option<&[Lit]>
-        ensures call { LeadsRepresented self.now (λ s t. ReturnsList (by_state.core s) s (Ok (lent_list result)) t) self.now }
-        ensures fails { (core : List ℕ) → lent_list result ≡ Some core → (s : State) → Represents self.now s → IsNamedCore s core }
-        ensures absent { lent_list result ≡ None → (s : State) → Represents self.now s → IsValid s → answer_of s.verdict ≡ Some false → ⊥ }
+        ensures call { LeadsRepresented self.now
+            (λ s t. ReturnsList (by_state.core s) s (Ok (lent_list result)) t) self.now }
+        ensures fails { (core : List ℕ) → lent_list result ≡ Some core → (s : State) → Represents self.now s →
+            IsNamedCore s core }
+        ensures absent { lent_list result ≡ None → (s : State) → Represents self.now s → IsValid s →
+            answer_of s.verdict ≡ Some false → ⊥ }
     {
         if self.ctx.solver_state.state_is_invalid {
             return None;

@@ -39,8 +39,10 @@ fn begin<W: ProofTarget, A: Allocator + Copy>(
     requires stands { FitSome (undecided_spaces tracer.old.tables tracer.old.proof.checker ctx.old) }
     requires unknown { ctx.old.solver_state.sat_state ≡ SatState.Unknown }
     requires counted { ctx.old.schedule.steps < 2 ^ 64 - 1 }
-    ensures begins { OnOk result (BeginsSolverStep (tracer_state tracer.old) (tracer_state tracer.new) ctx.old ctx.new) }
-    ensures schedule { ctx.new.schedule ≡ step_begun ctx.old.solver_config.luby_restart_interval_scale ctx.old.schedule }
+    ensures begins { OnOk result
+        (BeginsSolverStep (tracer_state tracer.old) (tracer_state tracer.new) ctx.old ctx.new) }
+    ensures schedule { ctx.new.schedule
+        ≡ step_begun ctx.old.solver_config.luby_restart_interval_scale ctx.old.schedule }
     ensures later { ctx.new.schedule.steps < ctx.new.schedule.next_restart }
     ensures config { ctx.new.solver_config ≡ ctx.old.solver_config }
     ensures broken { IfErr result (λ error. BreaksProof tracer.old.proof (step_faults error) tracer.new.proof) }
@@ -59,8 +61,10 @@ fn name_core<A: Allocator + Copy>(
     literals: &mut Vec<Lit, A>,
 ) -> Result<(), AllocError>
     requires { (l : Literal) → l ∈ ctx.old.assumptions.failed_core → HasUser variables.now (variable_of l) }
-    ensures frame { ctx.new ≡ record ctx.old { assumptions = record ctx.old.assumptions { user_core = ctx.new.assumptions.user_core } } }
-    ensures named { OnOk result (ctx.new.assumptions.user_core ≡ named_literals variables.now ctx.old.assumptions.failed_core) }
+    ensures frame { ctx.new
+        ≡ record ctx.old { assumptions = record ctx.old.assumptions { user_core = ctx.new.assumptions.user_core } } }
+    ensures named { OnOk result
+        (ctx.new.assumptions.user_core ≡ named_literals variables.now ctx.old.assumptions.failed_core) }
 {
     carry_literals(
         variables.global_from_solver(),
@@ -87,7 +91,8 @@ fn named_conflict_step<W: ProofTarget, A: Allocator + Copy>(
     ensures schedule { KeepsSchedule ctx.old ctx.new }
     ensures broken { IfErr result (λ error. BreaksProof tracer.old.proof (step_faults error) tracer.new.proof) }
     ensures full { IfErr result (λ error. error ≡ StepError.Full → HasNoRoom ctx.new) }
-    ensures size { IfErr result (λ error. error ≡ StepError.Full → length ctx.new.assignment.current ≡ length ctx.old.assignment.current) }
+    ensures size { IfErr result
+        (λ error. error ≡ StepError.Full → length ctx.new.assignment.current ≡ length ctx.old.assignment.current) }
 {
     conflict_step(ctx, tracer)?;
     let SatState::UnsatUnderAssumptions = ctx.solver_state.sat_state else {
@@ -111,13 +116,15 @@ fn make_step<W: ProofTarget, A: Allocator + Copy>(
     requires unknown { ctx.old.solver_state.sat_state ≡ SatState.Unknown }
     requires counted { ctx.old.schedule.steps < 2 ^ 64 - 1 }
     ensures made { OnOk result (MakesSolverStep (tracer_state tracer.old) (tracer_state tracer.new) ctx.old ctx.new) }
-    ensures schedule { OnOk result (ctx.new.schedule ≡ next_plan ctx.old.solver_config.luby_restart_interval_scale ctx.old.schedule) }
+    ensures schedule { OnOk result
+        (ctx.new.schedule ≡ next_plan ctx.old.solver_config.luby_restart_interval_scale ctx.old.schedule) }
     ensures uncounted { OnErr result (ctx.new.schedule.steps ≡ ctx.old.schedule.steps) }
     ensures config { ctx.new.solver_config ≡ ctx.old.solver_config }
     // What the target of an open proof has after an error.
     ensures broken { IfErr result (λ error. BreaksProof tracer.old.proof (step_faults error) tracer.new.proof) }
     ensures full { IfErr result (λ error. error ≡ StepError.Full → HasNoRoom ctx.new) }
-    ensures size { IfErr result (λ error. error ≡ StepError.Full → length ctx.new.assignment.current ≡ length ctx.old.assignment.current) }
+    ensures size { IfErr result
+        (λ error. error ≡ StepError.Full → length ctx.new.assignment.current ≡ length ctx.old.assignment.current) }
 {
     begin(tracer, ctx, literals)?;
     named_conflict_step(tracer, ctx, literals)?;
@@ -141,14 +148,16 @@ pub fn find_verdict<W: ProofTarget, A: Allocator + Copy>(
     requires logs { CanLog tracer.old.proof }
     requires stands { FitSome (undecided_spaces tracer.old.tables tracer.old.proof.checker ctx.old) }
     requires unknown { ctx.old.solver_state.sat_state ≡ SatState.Unknown }
-    ensures found { IfOk result (λ found. FindsVerdict (tracer_state tracer.old) (tracer_state tracer.new) ctx.old ctx.new found) }
+    ensures found { IfOk result
+        (λ found. FindsVerdict (tracer_state tracer.old) (tracer_state tracer.new) ctx.old ctx.new found) }
     ensures counted { CountsStepsFrom max_steps ctx.old ctx.new (returned_verdict result) }
     ensures since { OnOk result (CountsOnSince ctx.old ctx.new) }
     ensures config { ctx.new.solver_config ≡ ctx.old.solver_config }
     // What the target of an open proof has after an error.
     ensures broken { IfErr result (λ error. BreaksProof tracer.old.proof (step_faults error) tracer.new.proof) }
     ensures full { IfErr result (λ error. error ≡ StepError.Full → HasNoRoom ctx.new) }
-    ensures size { IfErr result (λ error. error ≡ StepError.Full → length ctx.new.assignment.current ≡ length ctx.old.assignment.current) }
+    ensures size { IfErr result
+        (λ error. error ≡ StepError.Full → length ctx.new.assignment.current ≡ length ctx.old.assignment.current) }
 {
     ctx.solver_config.prove_in_range();
     let first = ctx.schedule.steps();

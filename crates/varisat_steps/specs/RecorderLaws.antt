@@ -41,5 +41,6 @@ breaks-behind x y z first second faults e ((n, f), g) = (
 )
 
 -- no fault comes at all
-pub breaks-idle : (x y : List Line) (entries : List Entry) (faults : ℕ) → true ≡ false → BreaksOffAt x entries faults y → faults ≡ 0
+pub breaks-idle : (x y : List Line) (entries : List Entry) (faults : ℕ) → true ≡ false →
+    BreaksOffAt x entries faults y → faults ≡ 0
 breaks-idle x y entries faults h b = b.1

@@ -41,7 +41,8 @@ faults_of Memory = 0
 faults_of (Target cause) = 1
 
 -- What taking a step's entries returns and leaves: they were taken, or a tracer that is active broke off in them.
-abbrev pub LogsStep : {Q : Type 0} → Bool → (Q → List Entry → Q → Type 0) → (Q → List Entry → ℕ → Q → Type 0) → Q → List Entry →
+abbrev pub LogsStep : {Q : Type 0} → Bool → (Q → List Entry → Q → Type 0) → (Q → List Entry → ℕ → Q → Type 0) → Q →
+    List Entry →
     Result (Unit {0}) TraceError → Q → Type 0
 LogsStep active takes breaks x entries (Ok u) y = takes x entries y
 LogsStep active takes breaks x entries (Err e) y = (active ≡ true) × breaks x entries (faults_of e) y
@@ -51,7 +52,8 @@ abbrev pub BreaksOff : {Q : Type 0} → (Q → List Entry → ℕ → Q → Type
 BreaksOff breaks x faults y = (entries : List Entry) × breaks x entries faults y
 
 -- What handing lines on returns and leaves: they were taken, or the tracer broke off in some.
-abbrev pub LogsLines : {Q : Type 0} → (Q → List Entry → Q → Type 0) → (Q → List Entry → ℕ → Q → Type 0) → Q → List Line →
+abbrev pub LogsLines : {Q : Type 0} → (Q → List Entry → Q → Type 0) → (Q → List Entry → ℕ → Q → Type 0) → Q →
+    List Line →
     Result (Unit {0}) TraceError → Q → Type 0
 LogsLines takes breaks x lines (Ok u) y = TakesLines takes x lines y
 LogsLines takes breaks x lines (Err e) y = BreaksOff breaks x (faults_of e) y

@@ -65,7 +65,11 @@ with_available v b a = record a { available = slice_set a.available v b }
 -- the same with more variables, of activity 0 and not available
 abbrev pub raised_to : ℕ → Activities → Activities
 raised_to count a =
-    record a { activity = a.activity ++ replicate (count - length a.activity) 0; available = a.available ++ replicate (count - length a.activity) false }
+    record a {
+      activity = a.activity ++ replicate (count - length a.activity) 0;
+      available =
+          a.available ++ replicate (count - length a.activity) false;
+    }
 
 -- an available variable, and none has a greater activity
 pub record IsGreatest (a : Activities) (v : ℕ) : Type 0 where
@@ -75,7 +79,9 @@ pub record IsGreatest (a : Activities) (v : ℕ) : Type 0 where
 
 -- None where no variable is available, and else a greatest, which becomes unavailable
 abbrev pub TakesGreatest : Activities → Option ℕ → Activities → Type 0
-TakesGreatest a taken b = MatchOption taken (((v : ℕ) → is_available a v ≡ false) × (b ≡ a)) (λ v. IsGreatest a v × (b ≡ with_available v false a))
+TakesGreatest a taken b =
+    MatchOption taken (((v : ℕ) → is_available a v ≡ false) × (b ≡ a))
+    (λ v. IsGreatest a v × (b ≡ with_available v false a))
 
 -- how many variables are available
 abbrev pub available_count : Activities → Count

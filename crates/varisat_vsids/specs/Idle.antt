@@ -14,11 +14,13 @@ pub record AreIdleOutside (activity : List ℕ) (standing available blocks : Lis
   pub block_count : length blocks ≡ length activity
   pub within : cursor ≤ length activity
   pub inside : (v : ℕ) → slice_index_or standing v false ≡ true → slice_index_or available v false ≡ true
-  pub outside : (v : ℕ) → slice_index_or available v false ≡ true → slice_index_or standing v false ≡ false → CanIdle activity blocks cursor v
+  pub outside : (v : ℕ) → slice_index_or available v false ≡ true → slice_index_or standing v false ≡ false →
+      CanIdle activity blocks cursor v
 
 -- each variable of the list is in a block that may have one
 abbrev pub AreInBlocks : List Bool → List Bool → Type 0
-AreInBlocks available blocks = (v : ℕ) → slice_index_or available v false ≡ true → slice_index_or blocks (v / 64) false ≡ true
+AreInBlocks available blocks = (v : ℕ) → slice_index_or available v false ≡ true →
+    slice_index_or blocks (v / 64) false ≡ true
 
 -- no variable before the place is available
 abbrev pub IsNoneBefore : List Bool → ℕ → Type 0

@@ -28,7 +28,8 @@ fn exchange(heap: &mut [Var], position: &mut [u32], i: usize, j: usize)
     ensures at_first { slice_index heap.new i ≡ slice_index heap.old j }
     ensures at_second { slice_index heap.new j ≡ slice_index heap.old i }
     ensures elsewhere { (k : ℕ) → k ≢ i → k ≢ j → slice_index heap.new k ≡ slice_index heap.old k }
-    ensures position { position.new ≡ slice_set (slice_set position.old (slice_index heap.old i) j) (slice_index heap.old j) i }
+    ensures position { position.new
+        ≡ slice_set (slice_set position.old (slice_index heap.old i) j) (slice_index heap.old j) i }
 {
     position[heap[i].index()] = j as u32;
     position[heap[j].index()] = i as u32;
@@ -101,7 +102,8 @@ fn rise(activity: &[u64], heap: &mut [Var], position: &mut [u32], len: usize, at
     requires at { at < len }
     ensures at { result < len }
     ensures heap { IsHeapUnder activity.now heap.new position.new len result }
-    ensures children { IsNoChildGreater (key activity.now heap.old) len at → IsNoChildGreater (key activity.now heap.new) len result }
+    ensures children { IsNoChildGreater (key activity.now heap.old) len at →
+        IsNoChildGreater (key activity.now heap.new) len result }
     ensures available { availability len position.new ≡ availability len position.old }
 {
     let var = heap[at];
@@ -148,7 +150,8 @@ pub fn enter_risen(
     requires heap { IsHeapBut activity.now heap.old position.old len (slice_index position.old var) }
     requires children { IsNoChildGreater (key activity.now heap.old) len (slice_index position.old var) }
     ensures heap { IsHeap activity.now heap.new position.new result }
-    ensures enters { enters ≡ true → availability result position.new ≡ slice_set (availability len position.old) var true }
+    ensures enters { enters ≡ true →
+        availability result position.new ≡ slice_set (availability len position.old) var true }
     ensures stays { enters ≡ false → availability result position.new ≡ availability len position.old }
 {
     let place = position[var.index()] as usize;
@@ -187,7 +190,8 @@ pub fn take_out(activity: &[u64], heap: &mut [Var], position: &mut [u32], len: u
     requires heap { IsHeap activity.now heap.old position.old len }
     requires place { place < len }
     ensures heap { IsHeap activity.now heap.new position.new (len - 1) }
-    ensures available { availability (len - 1) position.new ≡ slice_set (availability len position.old) (slice_index heap.old place) false }
+    ensures available { availability (len - 1) position.new
+        ≡ slice_set (availability len position.old) (slice_index heap.old place) false }
 {
     // The last one takes its place. As it comes from another branch it may belong above that place as well as below it.
     let last = len - 1;
@@ -204,7 +208,8 @@ pub fn put_in(activity: &[u64], heap: &mut [Var], position: &mut [u32], len: usi
     requires behind { len ≤ place }
     requires place { place < length heap.old }
     ensures heap { IsHeap activity.now heap.new position.new (len + 1) }
-    ensures available { availability (len + 1) position.new ≡ slice_set (availability len position.old) (slice_index heap.old place) true }
+    ensures available { availability (len + 1) position.new
+        ≡ slice_set (availability len position.old) (slice_index heap.old place) true }
 {
     exchange(heap, position, place, len);
     rise(activity, heap, position, len + 1, len);

@@ -39,7 +39,8 @@ use Rattle.varisat.specs.promises.Pasts.{Findings, Past, IsPastJournal, by_answe
 -- free one does, which is the one above them.
 abbrev pub NamesStayInOrder : Type 0
 NamesStayInOrder =
-    AreInOrder 0 no_names × ((n : ℕ) (m : Naming) (ls : List Literal) → AreInOrder n m → AreInOrder (count_with n ls) (name_all ls m))
+    AreInOrder 0 no_names
+    × ((n : ℕ) (m : Naming) (ls : List Literal) → AreInOrder n m → AreInOrder (count_with n ls) (name_all ls m))
     × ((n : ℕ) (m : Naming) (u : ℕ) → AreInOrder n m → IsLeastFree m u → (u ≡ n) × AreInOrder (n + 1) (name_one u m))
 
 -- A clause that is deleted and added again is no step, unless it is one that may delete learned clauses.
@@ -50,7 +51,8 @@ AgainIsNoStep =
 
 -- names in order carry literals over them to themselves
 abbrev pub NamesAreIdentities : Type 0
-NamesAreIdentities = (n : ℕ) (m : Naming) (ls : List Literal) → AreInOrder n m → AreNamesInUse m ls → map (through_names m) ls ≡ ls
+NamesAreIdentities = (n : ℕ) (m : Naming) (ls : List Literal) → AreInOrder n m → AreNamesInUse m ls →
+    map (through_names m) ls ≡ ls
 
 -- where names are in order a clause is accepted and a list assumed as it is given
 abbrev pub GivenIsAccepted : Type 0
@@ -60,18 +62,21 @@ GivenIsAccepted =
 
 -- and it is refused for its names only where one of these is past the limit
 abbrev pub CrowdedIsPastLimit : Type 0
-CrowdedIsPastLimit = (n : ℕ) (m : Naming) (ls : List Literal) → AreInOrder n m → n ≤ variable_limit → IsCrowded (name_all ls m) → IsPastLimit ls
+CrowdedIsPastLimit = (n : ℕ) (m : Naming) (ls : List Literal) → AreInOrder n m → n ≤ variable_limit →
+    IsCrowded (name_all ls m) → IsPastLimit ls
 
 -- Where a call of `solve` finds a core, propagation over what is held then conflicts with it: the core was logged last.
 abbrev pub CoresAreLogged : Type 0
 CoresAreLogged =
-    (s t : State) (b : Bool) (core : List Literal) (held : List Clause) → ReturnsVerdict by_state s b t → s.verdict ≡ Unknown →
+    (s t : State) (b : Bool) (core : List Literal) (held : List Clause) → ReturnsVerdict by_state s b t →
+    s.verdict ≡ Unknown →
     t.verdict ≡ UnsatUnderAssumptions core → Leads [] t.logged held → Conflicts held core
 
 -- Where a call logs a core last, a marked proof of what was logged ends with its line.
 abbrev pub CoresAreWritten : Type 0
 CoresAreWritten =
-    (n : ℕ) (before after : List Entry) (more : LogsMore n before after) (core : List Literal) (variables : ℕ → Option ℕ) (bytes : List ℕ)
+    (n : ℕ) (before after : List Entry) (more : LogsMore n before after) (core : List Literal)
+    (variables : ℕ → Option ℕ) (bytes : List ℕ)
     → EndWithCore core more.entries → bytes ≡ logged_bytes Marked (entries_over variables after)
     → (front : List ℕ) × (bytes ≡ front ++ line_text (line_of_kind Fails (map (carry variables) core)))
 

@@ -27,7 +27,8 @@ FitNoStory calls answers = AreAnswered (λ source. source) empty_story calls ans
 -- a model
 pub record WrongModels : Type 0 where
   -- leaves out a name
-  pub left_out : (c m : Literals) → c.items ≡ 0 ∷ [] → m.items ≡ [] → FitNoStory (call.AddClause c ∷ call.Solve ∷ call.Model ∷ [])
+  pub left_out : (c m : Literals) → c.items ≡ 0 ∷ [] → m.items ≡ [] →
+      FitNoStory (call.AddClause c ∷ call.Solve ∷ call.Model ∷ [])
       (answer.AddClause (Ok tt) ∷ answer.Solve (Ok true) ∷ answer.Model (Ok (Some m)) ∷ [])
   -- does not come
   pub missing : FitNoStory (call.Solve ∷ call.Model ∷ []) (answer.Solve (Ok true) ∷ answer.Model (Ok None) ∷ [])
@@ -44,19 +45,22 @@ pub record WrongCores : Type 0 where
   -- has an assumption that has no part in it
   pub another : (c a core : Literals) → c.items ≡ 1 ∷ [] → a.items ≡ 0 ∷ 2 ∷ [] → core.items ≡ 2 ∷ [] →
       FitNoStory (call.AddClause c ∷ call.Assume a ∷ call.Solve ∷ call.FailedCore ∷ [])
-      (answer.AddClause (Ok tt) ∷ answer.Assume (Ok tt) ∷ answer.Solve (Ok false) ∷ answer.FailedCore (Ok (Some core)) ∷ [])
+      (answer.AddClause (Ok tt) ∷ answer.Assume (Ok tt) ∷ answer.Solve (Ok false) ∷ answer.FailedCore
+      (Ok (Some core)) ∷ [])
   -- does not come
   pub missing : (c : Literals) → FitNoStory (call.AddClause c ∷ call.Solve ∷ call.FailedCore ∷ [])
       (answer.AddClause (Ok tt) ∷ answer.Solve (Ok false) ∷ answer.FailedCore (Ok None) ∷ [])
 
 -- true, though a clause was forgotten that was given alone, in a list, or in a text: `1 0`, `-1 0`; and false, for no reason
 pub record WrongVerdicts : Type 0 where
-  pub clause : (c d : Literals) → c.items ≡ 0 ∷ [] → d.items ≡ 1 ∷ [] → FitNoStory (call.AddClause c ∷ call.AddClause d ∷ call.Solve ∷ [])
+  pub clause : (c d : Literals) → c.items ≡ 0 ∷ [] → d.items ≡ 1 ∷ [] →
+      FitNoStory (call.AddClause c ∷ call.AddClause d ∷ call.Solve ∷ [])
       (answer.AddClause (Ok tt) ∷ answer.AddClause (Ok tt) ∷ answer.Solve (Ok true) ∷ [])
   pub formula : (f : Formula) → f.clauses ≡ (0 ∷ []) ∷ (1 ∷ []) ∷ [] →
       FitNoStory (call.AddFormula f ∷ call.Solve ∷ []) (answer.AddFormula (Ok tt) ∷ answer.Solve (Ok true) ∷ [])
   pub text : (source back : Input) → source.given ≡ [] → back.given ≡ 49 ∷ 32 ∷ 48 ∷ 10 ∷ 45 ∷ 49 ∷ 32 ∷ 48 ∷ 10 ∷ [] →
-      FitNoStory (call.AddDimacsCnf source ∷ call.Solve ∷ []) (answer.AddDimacsCnf (Ok tt) back ∷ answer.Solve (Ok true) ∷ [])
+      FitNoStory (call.AddDimacsCnf source ∷ call.Solve ∷ [])
+      (answer.AddDimacsCnf (Ok tt) back ∷ answer.Solve (Ok true) ∷ [])
   pub satisfiable : (c : Literals) → c.items ≡ 0 ∷ [] →
       FitNoStory (call.AddClause c ∷ call.Solve ∷ []) (answer.AddClause (Ok tt) ∷ answer.Solve (Ok false) ∷ [])
   -- but for assumptions that were replaced
@@ -72,7 +76,8 @@ pub record WrongCalls : Type 0 where
   pub ended : (c : Literals) (b : Bool) →
       FitNoStory (call.AddClause c ∷ call.Solve ∷ []) (answer.AddClause (Err OutOfMemory) ∷ answer.Solve (Ok b) ∷ [])
   pub ended_model : (c m : Literals) →
-      FitNoStory (call.AddClause c ∷ call.Model ∷ []) (answer.AddClause (Err OutOfMemory) ∷ answer.Model (Ok (Some m)) ∷ [])
+      FitNoStory (call.AddClause c ∷ call.Model ∷ [])
+      (answer.AddClause (Err OutOfMemory) ∷ answer.Model (Ok (Some m)) ∷ [])
 
 -- all of them
 abbrev pub WrongAnswersFitNoStory : Type 0

@@ -50,7 +50,13 @@ abbrev pub with_clause : Clause → Story → Story
 with_clause c s =
     let m : Naming = name_all c s.naming in
     let d : Clause = map (through_names m) c in
-    record s { naming = m; clauses = s.clauses ++ d ∷ []; mentioned = s.mentioned ++ map variable_of d; found = reopened s.found }
+    record s {
+      naming = m;
+      clauses = s.clauses ++ d ∷ [];
+      mentioned = s.mentioned ++ map variable_of d;
+      found =
+          reopened s.found;
+    }
 
 -- the names of the list are named, and it is assumed over their identities, in place of the one before: nothing that was found stands
 abbrev pub with_assumptions : List Literal → Story → Story
@@ -86,7 +92,8 @@ pub data Accepts (s : Story) (c : Clause) (t : Story) : Type 0 where
 -- clauses are accepted in turn, up to the first that is refused
 abbrev pub AcceptsAll : Story → List Clause → Result (Unit {0}) SolverError → Story → Type 0
 AcceptsAll s [] r t = (r ≡ Ok tt) × (t ≡ s)
-AcceptsAll s (c ∷ cs) r t = ((mid : Story) × Accepts s c mid × AcceptsAll mid cs r t) ⊎ ((e : SolverError) × (r ≡ Err e) × IsRefused s e t)
+AcceptsAll s (c ∷ cs) r t =
+    ((mid : Story) × Accepts s c mid × AcceptsAll mid cs r t) ⊎ ((e : SolverError) × (r ≡ Err e) × IsRefused s e t)
 
 -- a valid solver does this, and an invalid one refuses the call, also where there is no clause
 abbrev pub IfValid : Story → Result (Unit {0}) SolverError → Type 0 → Story → Type 0
@@ -96,7 +103,8 @@ IfValid s r does t = ((s.valid ≡ true) × does) ⊎ ((r ≡ Err Invalid) × Is
 
 -- these clauses ended in what a source gave meanwhile: all that its text gives, or the first of them
 abbrev pub GaveClauses : Input → List Clause → Input → Type 0
-GaveClauses old cs new = ((reading : Reading) × GivesReading old reading new × (reading.clauses ≡ cs)) ⊎ GivesFirst old cs new
+GaveClauses old cs new =
+    ((reading : Reading) × GivesReading old reading new × (reading.clauses ≡ cs)) ⊎ GivesFirst old cs new
 
 -- what is returned at the end of a text: its fault, if it has one, or that memory ran out in the reader
 abbrev pub EndsText : Option DimacsError → Story → Result (Unit {0}) SolverError → Story → Type 0
@@ -104,10 +112,13 @@ EndsText None s r t = (r ≡ Ok tt) × (t ≡ s)
 EndsText (Some fault) s r t = ((r ≡ Err (Dimacs fault)) × (t ≡ s)) ⊎ ((r ≡ Err OutOfMemory) × (t ≡ ended s))
 
 -- all clauses that a text gives are accepted, and then its end is returned; or one of those that ended is refused
-pub data AcceptsText (s : Story) (old : Input) (r : Result (Unit {0}) SolverError) (new : Input) (t : Story) : Type 0 where
-  ToItsEnd : (reading : Reading) (mid : Story) → GivesReading old reading new → AcceptsAll s reading.clauses (Ok tt) mid →
+pub data AcceptsText (s : Story) (old : Input) (r : Result (Unit {0}) SolverError) (new : Input)
+    (t : Story) : Type 0 where
+  ToItsEnd : (reading : Reading) (mid : Story) → GivesReading old reading new →
+      AcceptsAll s reading.clauses (Ok tt) mid →
       EndsText reading.fault mid r t → AcceptsText s old r new t
-  ToARefusal : (cs : List Clause) (e : SolverError) → GaveClauses old cs new → r ≡ Err e → AcceptsAll s cs r t → AcceptsText s old r new t
+  ToARefusal : (cs : List Clause) (e : SolverError) → GaveClauses old cs new → r ≡ Err e → AcceptsAll s cs r t →
+      AcceptsText s old r new t
 
 -- 4. What `solve`, `model` and `failed_core` return.
 
@@ -126,7 +137,9 @@ IsTrueModel s (Some model) = (s.valid ≡ true) × IsCompletable s.naming s.clau
 -- where no answer false stands, and always from an invalid solver.
 abbrev pub IsTrueCore : Story → Option (List Literal) → Type 0
 IsTrueCore s None = s.found ≢ Some false
-IsTrueCore s (Some core) = (s.valid ≡ true) × AreNamesInUse s.naming core × IsFailedCore s.clauses s.assumptions (map (through_names s.naming) core)
+IsTrueCore s (Some core) =
+    (s.valid ≡ true) × AreNamesInUse s.naming core
+    × IsFailedCore s.clauses s.assumptions (map (through_names s.naming) core)
 
 -- 5. The answers of all calls.
 
@@ -134,15 +147,21 @@ IsTrueCore s (Some core) = (s.valid ≡ true) × AreNamesInUse s.naming core × 
 abbrev pub IsAnswered : {W S A : Type 0} → (S → Input) → Story → Call W S A → Answer W S A → Story → Type 0
 IsAnswered seen s (call.AddClause c) (answer.AddClause r) t = Outcome (λ _. Accepts s c.items) s r t
 IsAnswered seen s (call.AddFormula f) (answer.AddFormula r) t = IfValid s r (AcceptsAll s f.clauses r t) t
-IsAnswered seen s (call.AddDimacsCnf source) (answer.AddDimacsCnf r back) t = IfValid s r (AcceptsText s (seen source) r (seen back) t) t
+IsAnswered seen s (call.AddDimacsCnf source) (answer.AddDimacsCnf r back) t =
+    IfValid s r (AcceptsText s (seen source) r (seen back) t) t
 IsAnswered seen s (call.Assume list) (answer.Assume r) t = Outcome (λ _ u. u ≡ with_assumptions list.items s) s r t
-IsAnswered seen s call.Solve (answer.Solve r) t = Outcome (λ b u. IsTrueAnswer s b × (u ≡ record s { found = Some b })) s r t
+IsAnswered seen s call.Solve (answer.Solve r) t =
+    Outcome (λ b u. IsTrueAnswer s b × (u ≡ record s { found = Some b })) s r t
 IsAnswered seen s call.Model (answer.Model r) t = IfOk (returned_list r) (IsTrueModel s) × (t ≡ s)
 IsAnswered seen s call.FailedCore (answer.FailedCore r) t = IfOk (returned_list r) (IsTrueCore s) × (t ≡ s)
-IsAnswered seen s call.NewVar (answer.NewVar r) t = Outcome (λ u x. IsLeastFree s.naming u × (x ≡ with_names (name_one u s.naming) s)) s r t
-IsAnswered seen s (call.SampleVar u) (answer.SampleVar r) t = Outcome (λ _ x. x ≡ with_names (set_mode u Sample (name_one u s.naming)) s) s r t
-IsAnswered seen s (call.WitnessVar u) (answer.WitnessVar r) t = Outcome (λ _ x. x ≡ with_names (set_mode u Witness (name_one u s.naming)) s) s r t
-IsAnswered seen s (call.HideVar u) (answer.HideVar r) t = Outcome (λ _ x. x ≡ with_names (free_name u (name_one u s.naming)) s) s r t
+IsAnswered seen s call.NewVar (answer.NewVar r) t =
+    Outcome (λ u x. IsLeastFree s.naming u × (x ≡ with_names (name_one u s.naming) s)) s r t
+IsAnswered seen s (call.SampleVar u) (answer.SampleVar r) t =
+    Outcome (λ _ x. x ≡ with_names (set_mode u Sample (name_one u s.naming)) s) s r t
+IsAnswered seen s (call.WitnessVar u) (answer.WitnessVar r) t =
+    Outcome (λ _ x. x ≡ with_names (set_mode u Witness (name_one u s.naming)) s) s r t
+IsAnswered seen s (call.HideVar u) (answer.HideVar r) t =
+    Outcome (λ _ x. x ≡ with_names (free_name u (name_one u s.naming)) s) s r t
 IsAnswered seen s call.ObserveInternalVars (answer.ObserveInternalVars r) t =
     Outcome (λ us x. (m : Naming) × AreShown us.items s.naming m × (x ≡ with_names m s)) s r t
 IsAnswered seen s (call.Config u) (answer.Config r) t = Outcome (λ _ x. x ≡ s) s r t

@@ -97,4 +97,5 @@ pub record StatusIsTrue (old new : Input) (status : ℕ) : Type 0 where
   pub ended : status ≢ fault_status → new.ended ≡ true
   pub fine : (text : List ℕ) → new.given ≡ old.given ++ text → status ≢ fault_status → (dimacs text).fault ≡ None
   pub satisfiable : (text : List ℕ) → new.given ≡ old.given ++ text → status ≡ 10 → IsSatisfiable (dimacs text).clauses
-  pub unsatisfiable : (text : List ℕ) → new.given ≡ old.given ++ text → status ≡ 20 → IsSatisfiable (dimacs text).clauses → ⊥
+  pub unsatisfiable : (text : List ℕ) → new.given ≡ old.given ++ text → status ≡ 20 →
+      IsSatisfiable (dimacs text).clauses → ⊥

@@ -8,5 +8,6 @@ use Rattle.varisat.specs.declared.session.Answer.{Answer}
 
 -- Where the past was p, the calls in turn may get the answers in turn, one each. `seen` gives a source's input, and `taken` what a
 -- target took.
-abbrev pub AreTrue : {W S A : Type 0} → (S → Input) → (W → Taken) → Past → List (Call W S A) → List (Answer W S A) → Type 0
+abbrev pub AreTrue : {W S A : Type 0} → (S → Input) → (W → Taken) → Past → List (Call W S A) → List (Answer W S A) →
+    Type 0
 AreTrue seen taken p calls answers = (q : Past) × MakesInTurn by_answers seen taken p calls answers q

@@ -96,7 +96,8 @@ BeginsList text = (take 4 text ≡ codes "add ") ⊎ (take 7 text ≡ codes "ass
 
 -- the text means that one setting is changed, as the update does
 abbrev pub MeansUpdate : List ℕ → SolverConfigUpdate → Type 0
-MeansUpdate text update = (field : ConfigField) × (value : ℕ) × (update ≡ update_of field value) × MeansCommand text (Config field value)
+MeansUpdate text update =
+    (field : ConfigField) × (value : ℕ) × (update ≡ update_of field value) × MeansCommand text (Config field value)
 
 -- no two commands are spelled alike
 abbrev pub MeansOneCommand : Type 0

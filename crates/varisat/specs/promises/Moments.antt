@@ -13,6 +13,7 @@ abbrev pub HasFewSteps : {V : Type 0} → Known V → Type 0
 HasFewSteps s = IsValid s → AreFew (length s.counted) s.ledger.since
 
 -- So it is at each moment of the run, which is behind the first k calls, for each k.
-abbrev pub HasFewStepsAlong : {V W S A : Type 0} → Verdicts V → (S → Input) → (W → Taken) → Known V → List (Call W S A) → List (Answer W S A) → Type 0
+abbrev pub HasFewStepsAlong : {V W S A : Type 0} → Verdicts V → (S → Input) → (W → Taken) → Known V →
+    List (Call W S A) → List (Answer W S A) → Type 0
 HasFewStepsAlong {V} by seen taken s calls answers =
     (k : ℕ) (t : Known V) → MakesInTurn by seen taken s (take k calls) (take k answers) t → HasFewSteps t

@@ -60,23 +60,27 @@ pub data LogsFalse (p : Past) (logged : List Entry) (q : Past) : Type 0 where
 -- leave. False is returned only if none does, and where nothing is assumed propagation over what is held then conflicts.
 abbrev pub IsAnswer : Past → Bool → List Entry → Past → Type 0
 IsAnswer p true logged q =
-    (q.verdict ≡ record p.verdict { has_model = true; has_core = false }) × IsSatisfiableWith p.clauses p.assumptions × AreDerived logged
+    (q.verdict ≡ record p.verdict { has_model = true; has_core = false }) × IsSatisfiableWith p.clauses p.assumptions
+    × AreDerived logged
 IsAnswer p false logged q =
-    (q.verdict ≡ record p.verdict { has_model = false; has_core = true }) × (IsSatisfiableWith p.clauses p.assumptions → ⊥) × LogsFalse p logged q
+    (q.verdict ≡ record p.verdict { has_model = false; has_core = true })
+    × (IsSatisfiableWith p.clauses p.assumptions → ⊥) × LogsFalse p logged q
     × (p.assumptions ≡ [] → LogsConflict q.logged)
 
 -- A model is returned where one was found last: exactly the names in use, such that some assignment agrees with it through the names and
 -- satisfies the clauses and the assumptions.
 abbrev pub MayReturnModel : Past → Option (List Literal) → Type 0
 MayReturnModel p None = p.verdict.has_model ≡ false
-MayReturnModel p (Some model) = (p.verdict.has_model ≡ true) × IsCompletable p.naming p.clauses p.assumptions p.counted model
+MayReturnModel p (Some model) =
+    (p.verdict.has_model ≡ true) × IsCompletable p.naming p.clauses p.assumptions p.counted model
 
 -- A core is returned where `solve` returned false last: literals of names in use, which these carry to some of the assumptions that no
 -- assignment makes true together with the clauses.
 abbrev pub MayReturnCore : Past → Option (List Literal) → Type 0
 MayReturnCore p None = p.verdict.has_core ≡ false
 MayReturnCore p (Some core) =
-    (p.verdict.has_model ≡ false) × AreNamesInUse p.naming core × IsFailedCore p.clauses p.assumptions (map (through_names p.naming) core)
+    (p.verdict.has_model ≡ false) × AreNamesInUse p.naming core
+    × IsFailedCore p.clauses p.assumptions (map (through_names p.naming) core)
 
 -- What calls and answers say of verdicts. A clause is taken without a change only once no assignment satisfies those before it. A call
 -- of `solve` makes no step only where a model or a core was found last, or that is so. Behind each call what was logged is a journal of

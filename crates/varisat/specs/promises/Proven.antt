@@ -37,7 +37,8 @@ CanCountFault taken (Some target) = (taken target).faults < 2 ^ 64 - 1
 
 -- the settings by which a file is decided, where they are others than those of a new solver, with a limit of steps, or none
 abbrev pub file_update : Option ℕ → SolverConfigUpdate
-file_update limit = record no_update { reduce_locals_interval = Some 2000; luby_restart_interval_scale = Some 64; max_steps = limit }
+file_update limit =
+    record no_update { reduce_locals_interval = Some 2000; luby_restart_interval_scale = Some 64; max_steps = limit }
 
 -- the state of a new solver with these, and with a checker inside or none
 abbrev pub configured : Bool → Option ℕ → State
@@ -46,13 +47,15 @@ configured check limit = with_update (file_update limit) (new_state check)
 -- the same where a proof was opened, if there is a target for it
 abbrev pub prepared : {W : Type 0} → (W → Taken) → ProofFormat → Bool → Option ℕ → Option W → State
 prepared taken format check limit None = configured check limit
-prepared taken format check limit (Some target) = count_anew (with_proof (Some (first_proof format (taken target))) (configured check limit))
+prepared taken format check limit (Some target) =
+    count_anew (with_proof (Some (first_proof format (taken target))) (configured check limit))
 
 -- What a solver in the state s comes to as it is asked: a model that it returns, that there is none, or that its steps are spent.
 abbrev pub Concludes : State → Conclusion → State → Type 0
 Concludes s Unknown t = Solves by_state s (Err Interrupted) t
 Concludes s (Decided None) t = Solves by_state s (Ok false) t
-Concludes s (Decided (Some model)) t = Solves by_state s (Ok true) t × ReturnsList (by_state.model t) t (Ok (Some model)) t
+Concludes s (Decided (Some model)) t =
+    Solves by_state s (Ok true) t × ReturnsList (by_state.model t) t (Ok (Some model)) t
 
 -- The same with the errors: those of the search, and out of memory also where a model was found that could not be listed.
 abbrev pub Reports : {A : Type 0} → State → Result (Report A) SolverError → State → Type 0
@@ -65,11 +68,13 @@ Reports s (Err e) t = Solves by_state s (Err e) t
 -- from the clauses, and refute them where the conclusion is that they have no model. DRAT has just these lines. Marked text gives
 -- clauses as they are, in order, and no assumptions, and is right from no clause. They are all, or the first ones where these have
 -- no model.
-pub record IsProven (format : ProofFormat) (clauses : List Clause) (conclusion : Conclusion) (old new : Taken) : Type 0 where
+pub record IsProven (format : ProofFormat) (clauses : List Clause) (conclusion : Conclusion)
+    (old new : Taken) : Type 0 where
   pub logged : List Entry
   pub bytes : new.bytes ≡ old.bytes ++ logged_bytes format logged
   pub faults : new.faults ≡ old.faults
-  pub plain : has_marks format ≡ false → logged_bytes format logged ≡ lines_written (encoding_of format) (plain_lines (lines_of logged))
+  pub plain : has_marks format ≡ false →
+      logged_bytes format logged ≡ lines_written (encoding_of format) (plain_lines (lines_of logged))
   pub in_range : AreInRange (logged_lines (Text true) logged)
   pub derives : IsDerivation clauses (lines_of logged)
   pub refutes : conclusion ≡ Decided None → Refutes clauses (lines_of logged)
@@ -80,10 +85,12 @@ pub record IsProven (format : ProofFormat) (clauses : List Clause) (conclusion :
   pub marked : IsMarkedDerivation logged given [] (conclusion ≡ Decided None)
 
 -- so it is of the target that comes back, which is none where there was none
-abbrev pub IsProvenIf : {W : Type 0} → (W → Taken) → ProofFormat → List Clause → Conclusion → Option W → Option W → Type 0
+abbrev pub IsProvenIf : {W : Type 0} → (W → Taken) → ProofFormat → List Clause → Conclusion → Option W → Option W →
+    Type 0
 IsProvenIf taken format clauses conclusion None back = back ≡ None
 IsProvenIf taken format clauses conclusion (Some target) None = ⊥
-IsProvenIf taken format clauses conclusion (Some target) (Some back) = IsProven format clauses conclusion (taken target) (taken back)
+IsProvenIf taken format clauses conclusion (Some target) (Some back) =
+    IsProven format clauses conclusion (taken target) (taken back)
 
 -- The text that a source gave is decided, and the target has a proof of that, where there is one.
 pub record DecidesProven {W : Type 0} (taken : W → Taken) (format : ProofFormat) (max_steps : ℕ) (old new : Input)
@@ -95,20 +102,26 @@ pub record DecidesProven {W : Type 0} (taken : W → Taken) (format : ProofForma
 -- lists the model that it found; or as its proof is closed.
 pub data Fails {W : Type 0} (taken : W → Taken) (s : State) (old new : Input) (e : SolverError) : Type 0 where
   AsRead : (t : State) → AddsDimacs s old (Err e) new t → Fails taken s old new e
-  AsSearched : (t u : State) → AddsDimacs s old (Ok tt) new t → Solves by_state t (Err e) u → e ≢ Interrupted → Fails taken s old new e
-  AsListed : (t u : State) → AddsDimacs s old (Ok tt) new t → Solves by_state t (Ok true) u → e ≡ OutOfMemory → Fails taken s old new e
-  AsClosed : (t u v : State) (c : Conclusion) (back : W) → AddsDimacs s old (Ok tt) new t → Concludes t c u → ClosesProof taken u (Err (e, back)) v →
+  AsSearched : (t u : State) → AddsDimacs s old (Ok tt) new t → Solves by_state t (Err e) u → e ≢ Interrupted →
+      Fails taken s old new e
+  AsListed : (t u : State) → AddsDimacs s old (Ok tt) new t → Solves by_state t (Ok true) u → e ≡ OutOfMemory →
+      Fails taken s old new e
+  AsClosed : (t u v : State) (c : Conclusion) (back : W) → AddsDimacs s old (Ok tt) new t → Concludes t c u →
+      ClosesProof taken u (Err (e, back)) v →
       Fails taken s old new e
 
 -- the text is decided as the options ask
-abbrev pub DecidesBy : {W : Type 0} → (W → Taken) → SolveOptions → Input → Input → Option W → Option W → Conclusion → Type 0
+abbrev pub DecidesBy : {W : Type 0} → (W → Taken) → SolveOptions → Input → Input → Option W → Option W → Conclusion →
+    Type 0
 DecidesBy taken o old new target back conclusion =
     DecidesProven taken o.format (allowed_steps o.max_steps) old new target back conclusion
 
 -- so it is, to a conclusion of this status
-abbrev pub DecidesWithStatus : {W : Type 0} → (W → Taken) → SolveOptions → Input → Input → Option W → Option W → ℕ → Type 0
+abbrev pub DecidesWithStatus : {W : Type 0} → (W → Taken) → SolveOptions → Input → Input → Option W → Option W → ℕ →
+    Type 0
 DecidesWithStatus taken o old new target back status =
-    (conclusion : Conclusion) × DecidesBy taken o old new target back conclusion × (status ≡ conclusion_status conclusion)
+    (conclusion : Conclusion) × DecidesBy taken o old new target back conclusion
+    × (status ≡ conclusion_status conclusion)
 
 -- deciding the text fails with the error, by a new solver that has settings, a checker and a proof as the options ask
 abbrev pub FailsBy : {W : Type 0} → (W → Taken) → SolveOptions → Option W → Input → Input → SolverError → Type 0
@@ -116,7 +129,8 @@ FailsBy taken o target old new e = Fails taken (prepared taken o.format o.check 
 
 -- the conclusion is printed with its status, or a beginning of it where a call of the target fails
 abbrev pub Prints : Conclusion → ℕ → Taken → Taken → Type 0
-Prints conclusion status before printed = EndsPrinting (conclusion_status conclusion) (conclusion_text conclusion) status before printed
+Prints conclusion status before printed =
+    EndsPrinting (conclusion_status conclusion) (conclusion_text conclusion) status before printed
 
 -- What the program's `solve` comes to: deciding fails, nothing is printed, and the status is that of a fault; or the text is decided, and
 -- the conclusion is printed.
@@ -124,4 +138,5 @@ abbrev pub SolvesText : {W : Type 0} → (W → Taken) → SolveOptions → Inpu
     Taken → Taken → ℕ → Type 0
 SolvesText taken o old new target back before printed status =
     ((error : SolverError) × FailsBy taken o target old new error × (status ≡ fault_status) × (printed ≡ before))
-    ⊎ ((conclusion : Conclusion) × DecidesBy taken o old new target back conclusion × Prints conclusion status before printed)
+    ⊎ ((conclusion : Conclusion) × DecidesBy taken o old new target back conclusion
+    × Prints conclusion status before printed)

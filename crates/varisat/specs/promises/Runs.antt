@@ -15,7 +15,8 @@ abbrev pub MakesCall : {W S A : Type 0} → (S → Input) → (W → Taken) → 
 MakesCall seen taken s c a t = Makes by_state seen taken s c a t
 
 -- The calls in turn may get the answers in turn, one each, and lead from one state to the other.
-abbrev pub Run : {W S A : Type 0} → (S → Input) → (W → Taken) → State → List (Call W S A) → List (Answer W S A) → State → Type 0
+abbrev pub Run : {W S A : Type 0} → (S → Input) → (W → Taken) → State → List (Call W S A) → List (Answer W S A) →
+    State → Type 0
 Run seen taken s calls answers t = MakesInTurn by_state seen taken s calls answers t
 
 -- what was found last, in a solver that is valid

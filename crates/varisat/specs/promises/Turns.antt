@@ -16,10 +16,12 @@ use Rattle.varisat.specs.declared.session.Answer.TheVariants as answer
 module _ {V : Type 0} (by : Verdicts V) where
   -- From s the call may get the answer and lead to t. `seen` gives a source's input, as it was given and as it is given back,
   -- and `taken` what a target took.
-  abbrev pub Makes : {W S A : Type 0} → (S → Input) → (W → Taken) → Known V → Call W S A → Answer W S A → Known V → Type 0
+  abbrev pub Makes : {W S A : Type 0} → (S → Input) → (W → Taken) → Known V → Call W S A → Answer W S A → Known V →
+      Type 0
   Makes seen taken s (call.AddClause c) (answer.AddClause r) t = TakesOne by s c.items r t
   Makes seen taken s (call.AddFormula f) (answer.AddFormula r) t = AddsList by s f.clauses r t
-  Makes seen taken s (call.AddDimacsCnf source) (answer.AddDimacsCnf r back) t = AddsText by s (seen source) r (seen back) t
+  Makes seen taken s (call.AddDimacsCnf source) (answer.AddDimacsCnf r back) t =
+      AddsText by s (seen source) r (seen back) t
   Makes seen taken s call.NewVar (answer.NewVar r) t = MakesVar s r t
   Makes seen taken s (call.SampleVar u) (answer.SampleVar r) t = SetsMode Sample s u r t
   Makes seen taken s (call.WitnessVar u) (answer.WitnessVar r) t = SetsMode Witness s u r t
@@ -39,7 +41,8 @@ module _ {V : Type 0} (by : Verdicts V) where
   Makes seen taken s _ _ t = ⊥
 
   -- the calls in turn get the answers in turn, one each, and lead to t; behind each of them what `holds` says is so
-  abbrev pub MakesInTurn : {W S A : Type 0} → (S → Input) → (W → Taken) → Known V → List (Call W S A) → List (Answer W S A) → Known V → Type 0
+  abbrev pub MakesInTurn : {W S A : Type 0} → (S → Input) → (W → Taken) → Known V → List (Call W S A) →
+      List (Answer W S A) → Known V → Type 0
   MakesInTurn seen taken s [] [] t = t ≡ s
   MakesInTurn seen taken s (c ∷ cs) (a ∷ answers) t =
       (mid : Known V) × Makes seen taken s c a mid × by.holds mid × MakesInTurn seen taken mid cs answers t

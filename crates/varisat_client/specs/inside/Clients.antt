@@ -84,5 +84,6 @@ pub data KeepsModel (r : SearchEnd) (g h : Client) : Type 0 where
 pub data KeepsCore (r : SearchEnd) (g h : Client) : Type 0 where
   Refused : RunsOutOfMemory r h → KeepsCore r g h
   Kept : (core : List Literal) → r ≡ end.Unsatisfiable →
-      ((s : State) → Represents g.solver s → AreNamesInUse s.naming core × IsFailedCore s.clauses s.assumptions (map (through_names s.naming) core)) →
+      ((s : State) → Represents g.solver s →
+      AreNamesInUse s.naming core × IsFailedCore s.clauses s.assumptions (map (through_names s.naming) core)) →
       IsSetOf core h.core → h ≡ record g { core = h.core } → KeepsCore r g h

@@ -29,7 +29,8 @@ is_zero (negsuc n) = false
 -- what is given once the call was made
 abbrev pub give : Call → Given → Given
 give (call.Add n) g =
-    if is_zero n then record g { clauses = g.clauses ++ g.clause ∷ []; clause = [] } else record g { clause = g.clause ++ literal_numbered n ∷ [] }
+    if is_zero n then record g { clauses = g.clauses ++ g.clause ∷ []; clause = [] }
+    else record g { clause = g.clause ++ literal_numbered n ∷ [] }
 give (call.Assume n) g = if is_zero n then g else record g { assumptions = g.assumptions ++ literal_numbered n ∷ [] }
 give call.Begin g = record g { assumed = g.assumptions; assumptions = [] }
 give _ g = g

@@ -32,7 +32,19 @@ pub record Past : Type 0 where
 -- before the first call
 abbrev pub empty_past : Past
 empty_past =
-    record { refusal = None; clauses = []; clause = []; assumptions = []; assumed = []; model = []; core = []; counted = []; steps = 0; limit = 2 ^ 64 - 1 }
+    record {
+      refusal = None;
+      clauses = [];
+      clause = [];
+      assumptions = [];
+      assumed = [];
+      model = [];
+      core = [];
+      counted =
+          [];
+      steps = 0;
+      limit = 2 ^ 64 - 1;
+    }
 
 -- a call was refused, and each one is from then on
 abbrev pub refuse : Refusal → Past → Past
@@ -54,19 +66,22 @@ count ls p = record p { counted = join_counted p.counted (map variable_of ls) }
 pub data AddsNumber (n : ℤ) (p q : Past) : Type 0 where
   PutRefused : n ≢ pos 0 → Refuses [] false p q → AddsNumber n p q
   EndRefused : n ≡ pos 0 → Refuses p.clause true p q → AddsNumber n p q
-  Ended : n ≡ pos 0 → p.refusal ≡ None → q ≡ record (count p.clause p) { clauses = p.clauses ++ p.clause ∷ []; clause = [] } → AddsNumber n p q
+  Ended : n ≡ pos 0 → p.refusal ≡ None →
+      q ≡ record (count p.clause p) { clauses = p.clauses ++ p.clause ∷ []; clause = [] } → AddsNumber n p q
   Put : n ≢ pos 0 → p.refusal ≡ None → q ≡ record p { clause = p.clause ++ literal_numbered n ∷ [] } → AddsNumber n p q
 
 -- A number that is not 0 is put behind the assumptions for the next search, and 0 does nothing.
 pub data AssumesNumber (n : ℤ) (p q : Past) : Type 0 where
   Refused : n ≢ pos 0 → Refuses [] false p q → AssumesNumber n p q
   Nothing : n ≡ pos 0 → q ≡ p → AssumesNumber n p q
-  Put : n ≢ pos 0 → p.refusal ≡ None → q ≡ record p { assumptions = p.assumptions ++ literal_numbered n ∷ [] } → AssumesNumber n p q
+  Put : n ≢ pos 0 → p.refusal ≡ None → q ≡ record p { assumptions = p.assumptions ++ literal_numbered n ∷ [] } →
+      AssumesNumber n p q
 
 -- The assumptions that were given are those of the search that begins, and none is given for the next one yet.
 pub data Begins (p q : Past) : Type 0 where
   Refused : Refuses p.assumptions false p q → Begins p q
-  Begun : p.refusal ≡ None → q ≡ record (count p.assumptions p) { assumed = p.assumptions; assumptions = [] } → Begins p q
+  Begun : p.refusal ≡ None → q ≡ record (count p.assumptions p) { assumed = p.assumptions; assumptions = [] } →
+      Begins p q
 
 -- One call of a search may make so many steps from now on. This is refused only once another call was.
 pub data LimitsSteps (steps : ℕ) (p q : Past) : Type 0 where
@@ -94,7 +109,8 @@ pub data IsSearchEnd (r : SearchEnd) (p q : Past) : Type 0 where
       q ≡ record p { model = q.model; steps = q.steps } → IsSearchEnd r p q
   Unsatisfiable : r ≡ end.Unsatisfiable → p.refusal ≡ None → IsFailedCore p.clauses p.assumed q.core → MakesFew p q →
       q ≡ record p { core = q.core; steps = q.steps } → IsSearchEnd r p q
-  Interrupted : r ≡ end.Interrupted → p.refusal ≡ None → (q.steps ≡ p.steps + p.limit) ⊎ (q.steps ≡ 2 ^ 64 - 1) → MakesFew p q →
+  Interrupted : r ≡ end.Interrupted → p.refusal ≡ None → (q.steps ≡ p.steps + p.limit) ⊎ (q.steps ≡ 2 ^ 64 - 1) →
+      MakesFew p q →
       q ≡ record p { steps = q.steps } → IsSearchEnd r p q
 
 -- A number is returned where its literal is true in the last model, the opposite number where that is, and else 0: so it is for 0, for
@@ -102,7 +118,8 @@ pub data IsSearchEnd (r : SearchEnd) (p q : Past) : Type 0 where
 pub data ReturnsValue (n r : ℤ) (p : Past) : Type 0 where
   True : r ≡ n → p.refusal ≡ None → literal_numbered n ∈ p.model → ReturnsValue n r p
   False : r ≡ pos 0 -ℤ n → p.refusal ≡ None → opposite (literal_numbered n) ∈ p.model → ReturnsValue n r p
-  Unknown : r ≡ pos 0 → (literal_numbered n ∈ p.model → ⊥) → (opposite (literal_numbered n) ∈ p.model → ⊥) → ReturnsValue n r p
+  Unknown : r ≡ pos 0 → (literal_numbered n ∈ p.model → ⊥) → (opposite (literal_numbered n) ∈ p.model → ⊥) →
+      ReturnsValue n r p
   Outside : r ≡ pos 0 → (n ≡ pos 0) ⊎ (n ≡ negsuc (2 ^ 31 - 1)) → ReturnsValue n r p
   Refused : r ≡ pos 0 → p.refusal ≢ None → ReturnsValue n r p
 

@@ -11,7 +11,8 @@ same_formula f g = (f.var_count == g.var_count) && pointwise (pointwise ◌==◌
 
 -- this is an equivalence
 pub same_equivalence : IsEquivalence same_formula
-same_equivalence = and_equiv (on_equiv (λ f. f.var_count) nat_eq_equiv) (on_equiv (λ f. f.clauses) (lists_equiv nat_list_eq_equiv))
+same_equivalence =
+    and_equiv (on_equiv (λ f. f.var_count) nat_eq_equiv) (on_equiv (λ f. f.clauses) (lists_equiv nat_list_eq_equiv))
 
 -- and so what `PartialEq` asks for
 pub same_laws : IsPartialEquivalence same_formula

@@ -51,7 +51,9 @@ is_none w = not w.minus && is_empty w.digits
 
 -- the token with one byte more
 abbrev pub after_byte : Word → ℕ → Word
-after_byte w b = if is_none w && (b == 45) then record { minus = true; digits = Empty } else record { minus = w.minus; digits = after_digit w.digits b }
+after_byte w b =
+    if is_none w && (b == 45) then record { minus = true; digits = Empty }
+    else record { minus = w.minus; digits = after_digit w.digits b }
 
 -- the token with several bytes more
 abbrev pub word_from : Word → List ℕ → Word

@@ -131,7 +131,10 @@ token_items n ts = map (λ t. Token n (meaning t)) ts
 abbrev pub line_items : Bool → ℕ → List ℕ → List Item
 line_items ended n [] = []
 line_items ended n (b ∷ bs) =
-    if b == 99 then [] else (if b == 112 then header_items ended n (header_of (tokens true (b ∷ bs))) else token_items n (tokens ended (b ∷ bs)))
+    if b == 99 then []
+    else
+    (if b == 112 then header_items ended n (header_of (tokens true (b ∷ bs)))
+    else token_items n (tokens ended (b ∷ bs)))
 
 -- line numbers and counts stay at 2^64-1 once they are there
 abbrev pub next : ℕ → ℕ
@@ -190,7 +193,8 @@ after_token r n End =
     }
 after_token r n (Literal l) =
     if is_one_too_many r.header r.begun r.count then failed r n ClauseCount else (
-    if is_above r.header (l / 2 + 1) then failed r n VarCount else record r { begun = r.begun ++ l ∷ []; highest = max r.highest (l / 2 + 1) })
+    if is_above r.header (l / 2 + 1) then failed r n VarCount
+    else record r { begun = r.begun ++ l ∷ []; highest = max r.highest (l / 2 + 1) })
 
 -- a header or a token of a clause came before
 abbrev pub is_started : Option Sizes → ℕ → List ℕ → Bool
@@ -199,9 +203,11 @@ is_started header count begun = is_some header || nat_lt 0 count || not (is_none
 -- a header may come once, before the first clause token
 abbrev pub after_header : Reading → ℕ → Heading → Reading
 after_header r n Malformed = failed r n InvalidHeader
-after_header r n Oversized = if is_started r.header r.count r.begun then failed r n InvalidHeader else failed r n LiteralTooLarge
+after_header r n Oversized =
+    if is_started r.header r.count r.begun then failed r n InvalidHeader else failed r n LiteralTooLarge
 after_header r n (Sized s) =
-    if is_started r.header r.count r.begun then failed r n InvalidHeader else record r { header = Some s; highest = max r.highest s.vars }
+    if is_started r.header r.count r.begun then failed r n InvalidHeader
+    else record r { header = Some s; highest = max r.highest s.vars }
 
 -- what an item makes of the reading
 abbrev pub after : Reading → Item → Reading

@@ -32,7 +32,8 @@ MakesVars makes_var old vs new = FoldsTo (λ s v t. makes_var s (Ok v) t) old vs
 
 -- of n variables one was refused, with this error, once those before it were made
 abbrev pub RefusesOneOf : {F E : Type 0} → ℕ → (F → Result ℕ E → F → Type 0) → F → E → F → Type 0
-RefusesOneOf {F} n makes_var old e new = (vs : List ℕ) × (s : F) × MakesVars makes_var old vs s × (length vs < n) × makes_var s (Err e) new
+RefusesOneOf {F} n makes_var old e new =
+    (vs : List ℕ) × (s : F) × MakesVars makes_var old vs s × (length vs < n) × makes_var s (Err e) new
 
 -- the literals' variables are below the count
 abbrev pub AllBelow : ℕ → List Literal → Type 0

@@ -15,7 +15,8 @@ use Rattle.varisat_formula.specs.promises.Rest.{Progress, begin, gives_from, dim
 pub data EndsInFault (p : Progress) (piece : List ℕ) (q : Progress) (e : DimacsError) (rise : ℕ) : Type 0 where
   PieceHasFault : AdvancesBy p piece q → q.reading.fault ≡ Some e → rise ≡ 0 → EndsInFault p piece q e rise
   PieceWantsRoom : RunsOutIn p piece q → q.reading.fault ≡ Some e → rise ≡ 0 → EndsInFault p piece q e rise
-  SourceFailed : q.reading ≡ gives_from (BreaksOff Io) p [] → e ≡ failing p → piece ≡ [] → rise ≡ 1 → EndsInFault p piece q e rise
+  SourceFailed : q.reading ≡ gives_from (BreaksOff Io) p [] → e ≡ failing p → piece ≡ [] → rise ≡ 1 →
+      EndsInFault p piece q e rise
 
 -- the reader took the next piece of the source: true, or false at its end, or a fault
 pub record TakesPiece (s : Input) (p : Progress) (r : Result Bool DimacsError) (t : Input) (q : Progress) : Type 0 where
@@ -39,19 +40,23 @@ pub record RunsOutAt (front rest : List ℕ) (t : Input) : Type 0 where
 -- what a text gives, over what a source gave meanwhile
 pub data GivesReading (s : Input) (reading : Reading) (t : Input) : Type 0 where
   -- the source ended, and this is the whole text
-  Whole : (text : List ℕ) → Reads s text t → HasEnded t → t.faults ≡ s.faults → reading ≡ dimacs text → GivesReading s reading t
+  Whole : (text : List ℕ) → Reads s text t → HasEnded t → t.faults ≡ s.faults → reading ≡ dimacs text →
+      GivesReading s reading t
   -- the text has a fault, whatever comes behind
-  FaultInText : (text : List ℕ) → Reads s text t → t.faults ≡ s.faults → ((rest : List ℕ) → dimacs (text ++ rest) ≡ reading) →
+  FaultInText : (text : List ℕ) → Reads s text t → t.faults ≡ s.faults →
+      ((rest : List ℕ) → dimacs (text ++ rest) ≡ reading) →
       reading.fault ≢ None → GivesReading s reading t
   -- the source failed behind the text
-  TextFailed : (text : List ℕ) → Reads s text t → t.faults ≡ s.faults + 1 → reading ≡ broken Io text → GivesReading s reading t
+  TextFailed : (text : List ℕ) → Reads s text t → t.faults ≡ s.faults + 1 → reading ≡ broken Io text →
+      GivesReading s reading t
   -- memory ran out in the reader behind this front of it
   ReaderRanOut : (front rest : List ℕ) → Reads s (front ++ rest) t → RunsOutAt front rest t → t.faults ≡ s.faults →
       reading ≡ broken OutOfMemory front → GivesReading s reading t
 
 -- the formula or the fault is what was read
 abbrev pub ReturnsReading : Reading → Result Formula DimacsError → Type 0
-ReturnsReading reading (Ok f) = (f ≡ record { var_count = reading.highest; clauses = reading.clauses }) × (reading.fault ≡ None)
+ReturnsReading reading (Ok f) =
+    (f ≡ record { var_count = reading.highest; clauses = reading.clauses }) × (reading.fault ≡ None)
 ReturnsReading reading (Err e) = reading.fault ≡ Some e
 
 -- the formula or the fault is what the text gives
@@ -79,7 +84,8 @@ pub record Calling (F P E : Type 0) : Type 1 where
   pub made : DimacsError → E → Type 0
 
 -- what reading goes by with a function that may change what it keeps, and that is lent the reader
-abbrev pub reading_with : {F P E : Type 0} → (P → Progress) → Mut F (MutBor P × Unit {0}) (Result (Unit {0}) E × (MutBor P × Unit {0})) →
+abbrev pub reading_with : {F P E : Type 0} → (P → Progress) →
+    Mut F (MutBor P × Unit {0}) (Result (Unit {0}) E × (MutBor P × Unit {0})) →
     (DimacsError → E → Type 0) → Calling F P E
 reading_with progress function made = record { progress = progress; calls = CalledAtMut function; made = made }
 

@@ -29,11 +29,14 @@ word_items n w = if is_none w then [] else Token n (word_says w) ∷ []
 -- the tokens of the rest of a line, the first of which goes on
 abbrev pub plain_rest : Bool → ℕ → Word → List ℕ → List Item
 plain_rest ended n w [] = if ended then word_items n w else []
-plain_rest ended n w (b ∷ bs) = if is_blank b then word_items n w ++ plain_rest ended n no_word bs else plain_rest ended n (after_byte w b) bs
+plain_rest ended n w (b ∷ bs) =
+    if is_blank b then word_items n w ++ plain_rest ended n no_word bs else plain_rest ended n (after_byte w b) bs
 
 -- behind the first byte of a line
 abbrev pub start_place : ℕ → ParserState
-start_place b = if b == 99 then Comment else (if b == 112 then Header Name else (if is_blank b then Plain no_word else Plain (after_byte no_word b)))
+start_place b =
+    if b == 99 then Comment
+    else (if b == 112 then Header Name else (if is_blank b then Plain no_word else Plain (after_byte no_word b)))
 
 -- the items of the line that the reader is in, whose rest is given
 abbrev pub line_rest : Bool → ℕ → ParserState → List ℕ → List Item
@@ -55,7 +58,9 @@ rest_items ended n place (line ∷ more ∷ rest) = line_rest true n place line 
 -- what the text gives; a text that is over gives no more
 abbrev pub gives_from : Ending → Progress → List ℕ → Reading
 gives_from ending p rest =
-    if p.over then p.reading else close ending (read p.reading (rest_items (is_whole ending) p.line p.place (lines rest))) (last_line p.line (lines rest))
+    if p.over then p.reading
+    else close ending (read p.reading (rest_items (is_whole ending) p.line p.place (lines rest)))
+    (last_line p.line (lines rest))
 
 -- what a whole text gives whose rest this is
 abbrev pub dimacs_from : Progress → List ℕ → Reading

@@ -20,8 +20,10 @@ pub record GivesFirst (old : Input) (clauses : List Clause) (new : Input) : Type
 module _ {S E : Type 0} (takes : S → List Clause → Result (Unit {0}) E → S → Type 0) where
   -- a sink took the clauses in some calls, of which the last returned r, and those before it Ok
   pub data TakesInTurn : S → List Clause → Result (Unit {0}) E → S → Type 0 where
-    InOne : {s t : S} {clauses : List Clause} {r : Result (Unit {0}) E} → takes s clauses r t → TakesInTurn s clauses r t
-    InMore : {s t : S} {clauses : List Clause} {r : Result (Unit {0}) E} (first rest : List Clause) (mid : S) → first ++ rest ≡ clauses →
+    InOne : {s t : S} {clauses : List Clause} {r : Result (Unit {0}) E} → takes s clauses r t →
+        TakesInTurn s clauses r t
+    InMore : {s t : S} {clauses : List Clause} {r : Result (Unit {0}) E} (first rest : List Clause) (mid : S) →
+        first ++ rest ≡ clauses →
         takes s first (Ok tt) mid → TakesInTurn mid rest r t → TakesInTurn s clauses r t
 
   -- it took all clauses that a text gives, and the text's fault is returned, if there is one
@@ -34,5 +36,6 @@ module _ {S E : Type 0} (takes : S → List Clause → Result (Unit {0}) E → S
   -- it refused one of these clauses, which are all that a text gives, or the first of them
   pub record RefusesClause (old : Input) (s : S) (e : E) (new : Input) (t : S) : Type 0 where
     pub clauses : List Clause
-    pub given : ((reading : Reading) × GivesReading old reading new × (reading.clauses ≡ clauses)) ⊎ GivesFirst old clauses new
+    pub given : ((reading : Reading) × GivesReading old reading new × (reading.clauses ≡ clauses))
+        ⊎ GivesFirst old clauses new
     pub takes_some : TakesInTurn s clauses (Err e) t

@@ -39,5 +39,6 @@ ReadsBack f =
 -- the text was appended; or a beginning of it, and there was one fault
 abbrev pub Puts : {E : Type 0} → Taken → Result (Unit {0}) E → List ℕ → Taken → Type 0
 Puts old r text new =
-    MatchResult r (λ _. (new.bytes ≡ old.bytes ++ text) × (new.faults ≡ old.faults)) (λ _. ((n : ℕ) × (new.bytes ≡ old.bytes ++ take n text))
+    MatchResult r (λ _. (new.bytes ≡ old.bytes ++ text) × (new.faults ≡ old.faults))
+    (λ _. ((n : ℕ) × (new.bytes ≡ old.bytes ++ take n text))
     × (new.faults ≡ old.faults + 1))

@@ -46,8 +46,10 @@ pub trait PieceReader<A: Allocator + Copy>: Drop {
         F: Drop,
         requires few { (S.input source.old).faults < 2 ^ 64 - 1 }
         requires callable { (state : F) (x : _) → F.pre state x }
-        ensures ok { IfOk result (Finishes (reading_with progress F.FnMut E.from_gives) (S.input source.old) f (S.input source.new)) }
-        ensures err { IfErr result (Refuses (reading_with progress F.FnMut E.from_gives) (S.input source.old) f (S.input source.new)) }
+        ensures ok { IfOk result
+            (Finishes (reading_with progress F.FnMut E.from_gives) (S.input source.old) f (S.input source.new)) }
+        ensures err { IfErr result
+            (Refuses (reading_with progress F.FnMut E.from_gives) (S.input source.old) f (S.input source.new)) }
     {
         let mut parser = Self::begin_in(alloc);
         let mut buffer = [0; PIECE];

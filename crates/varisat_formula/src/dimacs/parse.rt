@@ -76,8 +76,10 @@ pub fn read_clauses<S: ByteSource, T: ClauseSink, A: Allocator + Copy>(
     sink: &mut T,
 ) -> Result<Option<DimacsError>, T::Error>
     requires { (S.input source.old).faults < 2 ^ 64 - 1 }
-    ensures taken { IfOk result (λ fault. TakesText T.takes (S.input source.old) sink.old fault (S.input source.new) sink.new) }
-    ensures refused { IfErr result (λ e. RefusesClause T.takes (S.input source.old) sink.old e (S.input source.new) sink.new) }
+    ensures taken { IfOk result
+        (λ fault. TakesText T.takes (S.input source.old) sink.old fault (S.input source.new) sink.new) }
+    ensures refused { IfErr result
+        (λ e. RefusesClause T.takes (S.input source.old) sink.old e (S.input source.new) sink.new) }
 {
     let mut parser = DimacsParser::new_in(alloc);
     let mut buffer = [0; PIECE];

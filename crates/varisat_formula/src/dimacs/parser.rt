@@ -62,9 +62,11 @@ impl<A: Allocator + Copy> DimacsParser<A> {
     /// Reads the token that ends here, if there is one.
     fn end_token(&mut self, word: Word) -> Result<(), AllocError>
         requires { self.old.reading.fault ≡ None }
-        ensures ok { OnOk result (self.new ≡ record self.old { reading = read self.old.reading (word_items self.old.line word) }) }
+        ensures ok { OnOk result
+            (self.new ≡ record self.old { reading = read self.old.reading (word_items self.old.line word) }) }
         ensures refused { OnErr result (self.new ≡ self.old) }
-        ensures wants { OnErr result (KeepsToken self.old.reading (read self.old.reading (word_items self.old.line word))) }
+        ensures wants { OnErr result
+            (KeepsToken self.old.reading (read self.old.reading (word_items self.old.line word))) }
     {
         if !word.is_none() {
             self.reader.token(self.line, word.meaning())?;
@@ -90,7 +92,8 @@ impl<A: Allocator + Copy> DimacsParser<A> {
     /// Ends the line.
     fn end_line(&mut self) -> Result<(), AllocError>
         requires { self.old.reading.fault ≡ None }
-        ensures ok { OnOk result (self.new ≡ record self.old { line = next self.old.line; place = Start; reading = line_ended self.old }) }
+        ensures ok { OnOk result
+            (self.new ≡ record self.old { line = next self.old.line; place = Start; reading = line_ended self.old }) }
         ensures refused { OnErr result (self.new ≡ self.old) }
         ensures wants { OnErr result (WantsRoom self.old) }
     {
@@ -351,7 +354,8 @@ impl<A: Allocator + Copy> DimacsParser<A> {
     pub fn take_formula(&mut self) -> CnfFormula<A>
         ensures formula { result ≡ record { var_count = self.old.reading.highest; clauses = self.old.reading.clauses } }
         ensures frame { self.new ≡ record self.old { reading = record self.old.reading { clauses = [] } } }
-        ensures later { (ending : Ending) (text : List ℕ) → gives_from ending self.old text ≡ with_front result.clauses (gives_from ending self.new text) }
+        ensures later { (ending : Ending) (text : List ℕ) →
+            gives_from ending self.old text ≡ with_front result.clauses (gives_from ending self.new text) }
     {
         self.reader.take()
     }

@@ -112,7 +112,14 @@ impl<A: Allocator + Copy> Reader<A> {
     // Most tokens end no clause, and are read in registers.
     #[inline(never)]
     fn end_clause(&mut self) -> Result<(), AllocError>
-        ensures ok { OnOk result (self.new ≡ record self.old { clauses = self.old.clauses ++ self.old.begun ∷ []; begun = []; count = next self.old.count }) }
+        ensures ok { OnOk result
+            (self.new
+            ≡ record self.old {
+              clauses = self.old.clauses ++ self.old.begun ∷ [];
+              begun = [];
+              count =
+                  next self.old.count;
+            }) }
         ensures refused { OnErr result (self.new ≡ self.old) }
     {
         self.formula.add_counted_clause(self.begun.as_slice())?;
@@ -132,7 +139,13 @@ impl<A: Allocator + Copy> Reader<A> {
 
     /// Takes a literal into the open clause, unless memory runs out: then nothing changes.
     fn literal(&mut self, literal: Lit) -> Result<(), AllocError>
-        ensures ok { OnOk result (self.new ≡ record self.old { begun = self.old.begun ++ literal ∷ []; highest = max self.old.highest (literal / 2 + 1) }) }
+        ensures ok { OnOk result
+            (self.new
+            ≡ record self.old {
+              begun = self.old.begun ++ literal ∷ [];
+              highest =
+                  max self.old.highest (literal / 2 + 1);
+            }) }
         ensures refused { OnErr result (self.new ≡ self.old) }
     {
         match self.begun.push(literal) {
@@ -162,7 +175,8 @@ impl<A: Allocator + Copy> Reader<A> {
     pub fn literal_with_room(&mut self, allowed: u64, token: LiteralToken) -> bool
         requires allows { Allows self.old allowed }
         requires some { 0 < token.number }
-        ensures taken { IsTrue result → (line : ℕ) → self.new ≡ after_token self.old line (word_says (a_number token.minus token.number)) }
+        ensures taken { IsTrue result → (line : ℕ) →
+            self.new ≡ after_token self.old line (word_says (a_number token.minus token.number)) }
         ensures same { result ≡ false → self.new ≡ self.old }
         ensures fine { self.new.fault ≡ self.old.fault }
         ensures allows { Allows self.new allowed }

@@ -89,7 +89,8 @@ const LONGEST: usize = 11;
 pub fn literal_at(bytes: &[u8], at: usize) -> Option<LiteralToken>
     requires { at ≤ length bytes.now }
     ensures within { IfSome result (λ t. (at < t.end) × (t.end < length bytes.now)) }
-    ensures word { IfSome result (λ t. GoesOnTo no_word (take (t.end - at) (drop at bytes.now)) (a_number t.minus t.number)) }
+    ensures word { IfSome result
+        (λ t. GoesOnTo no_word (take (t.end - at) (drop at bytes.now)) (a_number t.minus t.number)) }
     ensures some { IfSome result (λ t. 0 < t.number) }
     ensures first { IfSome result (λ t. slice_index bytes.now at ≤ 57) }
     ensures space { IfSome result (λ t. slice_index bytes.now t.end ≡ 32) }

@@ -81,7 +81,8 @@ pub fn write_dimacs<W: ProofTarget, A: Allocator + Copy>(
 ) -> io::Result<()>
     requires { (W.taken target.old).faults < 2 ^ 64 - 1 }
     ensures whole { OnOk result ((W.taken target.new).bytes ≡ (W.taken target.old).bytes ++ formula_text formula.now) }
-    ensures begun { OnErr result ((n : ℕ) × ((W.taken target.new).bytes ≡ (W.taken target.old).bytes ++ take n (formula_text formula.now))) }
+    ensures begun { OnErr result
+        ((n : ℕ) × ((W.taken target.new).bytes ≡ (W.taken target.old).bytes ++ take n (formula_text formula.now))) }
     ensures quiet { OnOk result ((W.taken target.new).faults ≡ (W.taken target.old).faults) }
     ensures fault { OnErr result ((W.taken target.new).faults ≡ (W.taken target.old).faults + 1) }
     ensures read_back { formula.now.var_count ≤ variable_limit → ReadsBack formula.now }

@@ -51,7 +51,8 @@ pub trait ExtendFormula {
 
     /// Makes a variable, and returns its positive literal.
     fn new_lit(&mut self) -> Result<Lit, Self::Error>
-        ensures { MatchResult result (λ l. (v : ℕ) × makes_var self.old (Ok v) self.new × (l ≡ literal_of v true)) (λ e. makes_var self.old (Err e) self.new) }
+        ensures { MatchResult result (λ l. (v : ℕ) × makes_var self.old (Ok v) self.new × (l ≡ literal_of v true))
+            (λ e. makes_var self.old (Err e) self.new) }
     {
         let var = self.new_var()?;
         Ok(var.positive())
@@ -76,7 +77,9 @@ pub fn new_vars<F: ExtendFormula, const N: usize>(formula: &mut F) -> Result<[Va
 
 /// Makes variables as `new_vars` does, and returns their positive literals.
 pub fn new_lits<F: ExtendFormula, const N: usize>(formula: &mut F) -> Result<[Lit; N], F::Error>
-    ensures ok { IfOk result (λ ls. (vs : List ℕ) × MakesVars F.makes_var formula.old vs formula.new × (ls ≡ map (λ v. literal_of v true) vs)) }
+    ensures ok { IfOk result
+        (λ ls. (vs : List ℕ) × MakesVars F.makes_var formula.old vs formula.new
+        × (ls ≡ map (λ v. literal_of v true) vs)) }
     ensures err { IfErr result (λ e. RefusesOneOf N F.makes_var formula.old e formula.new) }
 {
     let vars = match new_vars::<F, N>(formula) {
@@ -129,7 +132,8 @@ fn append_clause<A: Allocator + Copy>(
 ) -> Result<(), AllocError>
     ensures lengths { OnOk result (lengths.new.items ≡ lengths.old.items ++ length clause.now ∷ []) }
     ensures literals { OnOk result (literals.new.items ≡ literals.old.items ++ clause.now) }
-    ensures refused { OnErr result ((lengths.new.items ≡ lengths.old.items) × (literals.new.items ≡ literals.old.items)) }
+    ensures refused { OnErr result
+        ((lengths.new.items ≡ lengths.old.items) × (literals.new.items ≡ literals.old.items)) }
 {
     // The length's room first: once the literals are in, nothing can fail.
     lengths.reserve(1)?;
@@ -197,7 +201,8 @@ impl<A: Allocator + Copy> CnfFormula<A> {
 
     /// Takes a clause. The error is `Memory`, and then nothing changes.
     pub fn add_clause(&mut self, literals: &[Lit]) -> Result<(), FormulaError>
-        ensures { MatchResult result (λ _. self.new ≡ with_one_more self.old literals.now) (λ e. (e ≡ Memory) × (self.new ≡ self.old)) }
+        ensures { MatchResult result (λ _. self.new ≡ with_one_more self.old literals.now)
+            (λ e. (e ≡ Memory) × (self.new ≡ self.old)) }
     {
         let needed = variables_of(literals);
         append_clause(&mut self.lengths, &mut self.literals, literals)?;

@@ -40,7 +40,8 @@ impl<A: Allocator + Copy> Model for CutTarget<A> {
 impl<A: Allocator + Copy> CutTarget<A> {
     /// An empty target of which no call fails. It takes no memory.
     pub fn new_in(alloc: A) -> CutTarget<A>
-        ensures { result ≡ record { bytes = []; faults = 0; puts = 0; flushes = 0; failing_put = 0; failing_flush = 0; part = 0 } }
+        ensures { result
+            ≡ record { bytes = []; faults = 0; puts = 0; flushes = 0; failing_put = 0; failing_flush = 0; part = 0 } }
     {
         CutTarget {
             bytes: Vec::new(alloc),
@@ -121,7 +122,8 @@ impl<A: Allocator + Copy> ProofTarget for CutTarget<A> {
         ensures begun { OnErr result ((n : ℕ) × (self.new.bytes ≡ self.old.bytes ++ take n bytes.now)) }
         ensures quiet { OnOk result (self.new.faults ≡ self.old.faults) }
         ensures fault { OnErr result (self.new.faults ≡ self.old.faults + 1) }
-        ensures counts { self.new ≡ record self.old { bytes = self.new.bytes; faults = self.new.faults; puts = counted self.old.puts } }
+        ensures counts { self.new
+            ≡ record self.old { bytes = self.new.bytes; faults = self.new.faults; puts = counted self.old.puts } }
         ensures cut { OnOk result (counted self.old.puts ≢ self.old.failing_put) }
         ensures part { counted self.old.puts ≡ self.old.failing_put → TakesPart self.old bytes.now self.new }
         ensures none { OnErr result (counted self.old.puts ≢ self.old.failing_put → self.new.bytes ≡ self.old.bytes) }
@@ -198,7 +200,18 @@ impl<'a> Model for CutSource<'a> {
 impl<'a> CutSource<'a> {
     /// The source of the text, in pieces that fill each buffer, of which no call fails.
     pub fn new(text: &'a [u8]) -> CutSource<'a>
-        ensures { result ≡ record { text = text.now; place = 0; first = 0; size = 2 ^ 64 - 1; fills = 0; failing_fill = 0; faults = 0; ended = false } }
+        ensures { result
+            ≡ record {
+              text = text.now;
+              place = 0;
+              first = 0;
+              size = 2 ^ 64 - 1;
+              fills = 0;
+              failing_fill = 0;
+              faults =
+                  0;
+              ended = false;
+            } }
     {
         CutSource {
             text,

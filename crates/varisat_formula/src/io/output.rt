@@ -79,7 +79,8 @@ impl<W: Write + Drop> ProofTarget for IoTarget<W> {
         ensures begun { OnErr result ((n : ℕ) × (self.new.bytes ≡ self.old.bytes ++ take n bytes.now)) }
         ensures quiet { OnOk result (self.new.faults ≡ self.old.faults) }
         ensures fault { OnErr result (self.new.faults ≡ self.old.faults + 1) }
-        ensures writes { (n : ℕ) × (self.new.bytes ≡ self.old.bytes ++ take n bytes.now) × Appends self.old.contents self.new.contents (take n bytes.now) }
+        ensures writes { (n : ℕ) × (self.new.bytes ≡ self.old.bytes ++ take n bytes.now)
+            × Appends self.old.contents self.new.contents (take n bytes.now) }
     {
         let (done, outcome) = write_bytes(&mut self.writer, bytes);
         self.history = self.history.then(&Part {

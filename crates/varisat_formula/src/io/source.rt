@@ -60,7 +60,8 @@ impl<R: Read + Drop> Model for ReadSource<R> {
 impl<R: Read + Drop> ReadSource<R> {
     /// The source of what the reader still has. It takes no memory.
     pub fn new(reader: R) -> ReadSource<R>
-        ensures { result ≡ record { given = []; left = R.remaining reader; pieces = 2 ^ 64 - 1; faults = 0; ended = false } }
+        ensures { result
+            ≡ record { given = []; left = R.remaining reader; pieces = 2 ^ 64 - 1; faults = 0; ended = false } }
     {
         ReadSource {
             reader,

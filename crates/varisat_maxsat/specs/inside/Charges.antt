@@ -49,7 +49,8 @@ pub record IsSplit (core : List Literal) (charges kept failed : List Charge) : T
 -- The problem was brought down to clauses, charges, and literals with a weight each. Its variables are those below n, and new ones
 -- are those from there to m. What satisfies the hard clauses goes on to the new variables at no more than its cost; and what
 -- satisfies the new clauses satisfies the hard ones, and costs no more than it is charged.
-pub record Reduces (H : List Clause) (S : List Soft) (n m : ℕ) (P : List Clause) (charges : List Charge) (pending : List Literal) (w bound : ℕ) : Type 0 where
+pub record Reduces (H : List Clause) (S : List Soft) (n m : ℕ) (P : List Clause) (charges : List Charge)
+    (pending : List Literal) (w bound : ℕ) : Type 0 where
   pub named : n ≤ m
   pub hard_below : ClausesAreBelow n H
   pub soft_below : SoftAreBelow n S
@@ -57,8 +58,10 @@ pub record Reduces (H : List Clause) (S : List Soft) (n m : ℕ) (P : List Claus
   pub charges_below : ChargesAreBelow m charges
   pub pending_below : AreBelow m pending
   pub lower : (a : Assignment) → SatisfiesAll a H →
-      (b : Assignment) × AgreeBelow n a b × SatisfiesAll b P × (bound + charged b charges + weighed b w pending ≤ cost a S)
-  pub upper : (a : Assignment) → SatisfiesAll a P → SatisfiesAll a H × (cost a S ≤ bound + charged a charges + weighed a w pending)
+      (b : Assignment) × AgreeBelow n a b × SatisfiesAll b P
+      × (bound + charged b charges + weighed b w pending ≤ cost a S)
+  pub upper : (a : Assignment) → SatisfiesAll a P →
+      SatisfiesAll a H × (cost a S ≤ bound + charged a charges + weighed a w pending)
 
 -- The opposites of the charges' literals are assumed, at least of those whose weight is no less than the threshold.
 pub record AreAssumed (threshold : ℕ) (charges : List Charge) (assumed : List Literal) : Type 0 where

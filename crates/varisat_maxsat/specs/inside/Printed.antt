@@ -19,15 +19,18 @@ optimum_text cost values = codes "o " ++ decimal cost ++ codes "\ns OPTIMUM FOUN
 -- The text was printed, with this status; or a beginning of it, with the status of a fault.
 abbrev pub Prints : List ℕ → ℕ → Taken → Taken → ℕ → Type 0
 Prints text status old new result =
-    ((new.bytes ≡ old.bytes ++ text) × (result ≡ status)) ⊎ ((n : ℕ) × (new.bytes ≡ old.bytes ++ take n text) × (result ≡ 2))
+    ((new.bytes ≡ old.bytes ++ text) × (result ≡ status))
+    ⊎ ((n : ℕ) × (new.bytes ≡ old.bytes ++ take n text) × (result ≡ 2))
 
 -- What is printed of a problem: an optimum; or that no assignment satisfies its hard clauses; or that a limit was met.
 pub data Answers (p : Problem) (old new : Taken) (result : ℕ) : Type 0 where
-  Optimum : (cost : ℕ) (values : List Bool) → IsOptimum p cost values → Prints (optimum_text cost values) 30 old new result → Answers p old new result
+  Optimum : (cost : ℕ) (values : List Bool) → IsOptimum p cost values →
+      Prints (optimum_text cost values) 30 old new result → Answers p old new result
   Unsatisfiable : (IsSatisfiable p.hard → ⊥) → Prints (codes "s UNSATISFIABLE\n") 20 old new result → Answers p old new result
   Unknown : Prints (codes "s UNKNOWN\n") 0 old new result → Answers p old new result
 
 -- What is printed of a text: what it is of its problem; or nothing, where the text has a fault, or memory ran out for it.
 pub data AnswersText (text : List ℕ) (old new : Taken) (result : ℕ) : Type 0 where
   Read : (r : Reading) → wcnf text ≡ Ok r → Answers r.problem old new result → AnswersText text old new result
-  Refused : (e : WcnfError) → (e.fault ≡ OutOfMemory) ⊎ (wcnf text ≡ Err e) → new ≡ old → result ≡ 2 → AnswersText text old new result
+  Refused : (e : WcnfError) → (e.fault ≡ OutOfMemory) ⊎ (wcnf text ≡ Err e) → new ≡ old → result ≡ 2 →
+      AnswersText text old new result

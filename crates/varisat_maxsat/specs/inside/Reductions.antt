@@ -83,9 +83,11 @@ Ends false p r = IsSatisfiable p.hard → ⊥
 
 -- A clause was given as far as these literals.
 pub record GivesSoFar (g : Client) (ls : List Literal) (h : Client) : Type 0 where
-  pub far : (p : Past) → IsReady g p → (q : Past) × RepresentsPast h q × (q.refusal ≡ None → q ≡ record p { clause = ls })
+  pub far : (p : Past) → IsReady g p →
+      (q : Past) × RepresentsPast h q × (q.refusal ≡ None → q ≡ record p { clause = ls })
 
 -- Assumptions were given for these charges.
 pub record AssumesSoFar (g : Client) (threshold : ℕ) (charges : List Charge) (h : Client) : Type 0 where
-  pub far : (p : Past) → IsReady g p → (q : Past) × (ls : List Literal) × AreAssumed threshold charges ls × RepresentsPast h q
+  pub far : (p : Past) → IsReady g p →
+      (q : Past) × (ls : List Literal) × AreAssumed threshold charges ls × RepresentsPast h q
       × (q.refusal ≡ None → q ≡ record p { assumptions = ls })

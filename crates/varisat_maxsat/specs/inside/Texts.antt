@@ -43,12 +43,15 @@ pub record Reading : Type 0 where
 -- a hard clause more
 abbrev pub after_hard : Reading → Result Clause WcnfFault → Result Reading WcnfFault
 after_hard r (Err f) = Err f
-after_hard r (Ok c) = Ok (record r { problem = record (with_hard c r.problem) { variables = max r.problem.variables (variables_of c) } })
+after_hard r (Ok c) =
+    Ok (record r { problem = record (with_hard c r.problem) { variables = max r.problem.variables (variables_of c) } })
 
 -- a soft clause more
 abbrev pub after_soft : ℕ → Reading → Result Clause WcnfFault → Result Reading WcnfFault
 after_soft w r (Err f) = Err f
-after_soft w r (Ok c) = Ok (record r { problem = record (with_soft w c r.problem) { variables = max r.problem.variables (variables_of c) } })
+after_soft w r (Ok c) =
+    Ok
+    (record r { problem = record (with_soft w c r.problem) { variables = max r.problem.variables (variables_of c) } })
 
 -- whether a clause of the weight is hard
 abbrev pub is_hard : Option ℕ → ℕ → Bool
@@ -62,7 +65,8 @@ after_weight (Some w) r c = if is_hard r.top w then after_hard r c else after_so
 
 -- A header: how many variables and clauses there are, and the weight from which on a clause is hard, if it names one.
 abbrev pub heading_by : Option ℕ → Option ℕ → Option (Option ℕ) → Result Heading WcnfFault
-heading_by (Some v) (Some count) (Some top) = if nat_lt variable_limit v then Err fault.VariableLimit else Ok (record { variables = v; top = top })
+heading_by (Some v) (Some count) (Some top) =
+    if nat_lt variable_limit v then Err fault.VariableLimit else Ok (record { variables = v; top = top })
 heading_by (Some v) (Some count) None = Err fault.Header
 heading_by (Some v) None top = Err fault.Header
 heading_by None count top = Err fault.Header
@@ -89,7 +93,8 @@ heading_of (name ∷ v ∷ count ∷ ws) =
 -- what a header makes of the reading
 abbrev pub after_heading : Reading → Result Heading WcnfFault → Result Reading WcnfFault
 after_heading r (Err f) = Err f
-after_heading r (Ok h) = Ok (record { problem = record r.problem { variables = max r.problem.variables h.variables }; top = h.top })
+after_heading r (Ok h) =
+    Ok (record { problem = record r.problem { variables = max r.problem.variables h.variables }; top = h.top })
 
 -- a word that begins with `c`
 abbrev pub is_comment : List ℕ → Bool

@@ -22,7 +22,8 @@ number_or_zero (Some x) = x
 module _ (A : RattleType) (alloc : Ghosts A.Denot) where
   -- the pairs of a name space
   abbrev pub lends_pairs : MutBor NamePairs → VarBiMapMut A.Denot → Fml
-  lends_pairs s r = follows (names_row A alloc) (map_row A alloc) s.ghost_name r.map.ghost_name (λ w. record s.now { pairs = w })
+  lends_pairs s r =
+      follows (names_row A alloc) (map_row A alloc) s.ghost_name r.map.ghost_name (λ w. record s.now { pairs = w })
 
   -- what is kept of the global variable x
   abbrev pub lends_data_at : MutBor DataList → ℕ → MutBor VarData → Fml
@@ -30,16 +31,21 @@ module _ (A : RattleType) (alloc : Ghosts A.Denot) where
 
   -- the map between names and global variables
   abbrev pub lends_users : MutBor VariableParts → VarBiMapMut A.Denot → Fml
-  lends_users s r = follows (the_row A alloc) (map_row A alloc) s.ghost_name r.map.ghost_name (λ w. record s.now { tables = record s.now.tables { users = w } })
+  lends_users s r =
+      follows (the_row A alloc) (map_row A alloc) s.ghost_name r.map.ghost_name
+      (λ w. record s.now { tables = record s.now.tables { users = w } })
 
   -- the map between solver variables and global variables
   abbrev pub lends_solvers : MutBor VariableParts → VarBiMapMut A.Denot → Fml
   lends_solvers s r =
-      follows (the_row A alloc) (map_row A alloc) s.ghost_name r.map.ghost_name (λ w. record s.now { tables = record s.now.tables { solvers = turned w } })
+      follows (the_row A alloc) (map_row A alloc) s.ghost_name r.map.ghost_name
+      (λ w. record s.now { tables = record s.now.tables { solvers = turned w } })
 
   -- what is kept of the global variable x
   abbrev pub lends_data : MutBor VariableParts → ℕ → MutBor VarData → Fml
-  lends_data s x r = Lends (the_row A alloc) data_row s r (λ w. record s.now { tables = record s.now.tables { kept = slice_set s.now.tables.kept x w } })
+  lends_data s x r =
+      Lends (the_row A alloc) data_row s r
+      (λ w. record s.now { tables = record s.now.tables { kept = slice_set s.now.tables.kept x w } })
 
   -- what is kept of the global variable that has the solver variable v
   abbrev pub lends_data_of_solver : MutBor VariableParts → ℕ → MutBor VarData → Fml

@@ -47,7 +47,8 @@ greatest_value MaxSteps = 2 ^ 64 - 1
 -- each setting is within its range
 pub record AreSettingsInRange (s : Settings) : Type 0 where
   pub vsids_decay : (least_value VsidsDecay ≤ s.vsids_decay) × (s.vsids_decay ≤ greatest_value VsidsDecay)
-  pub clause_activity_decay : (least_value ClauseActivityDecay ≤ s.clause_activity_decay) × (s.clause_activity_decay ≤ greatest_value ClauseActivityDecay)
+  pub clause_activity_decay : (least_value ClauseActivityDecay ≤ s.clause_activity_decay)
+      × (s.clause_activity_decay ≤ greatest_value ClauseActivityDecay)
   pub reduce_locals_interval : least_value ReduceLocalsInterval ≤ s.reduce_locals_interval
   pub reduce_mids_interval : least_value ReduceMidsInterval ≤ s.reduce_mids_interval
   pub luby_restart_interval_scale : least_value LubyRestartIntervalScale ≤ s.luby_restart_interval_scale
@@ -96,7 +97,9 @@ first_refused ((f, false) ∷ tests) = Some f
 -- The first setting that the update would put out of its range, in the order of the settings. The last one takes any value.
 abbrev pub first_bad : SolverConfigUpdate → Option ConfigField
 first_bad u =
-    first_refused ((VsidsDecay, may_take VsidsDecay u.vsids_decay) ∷ (ClauseActivityDecay, may_take ClauseActivityDecay u.clause_activity_decay) ∷
+    first_refused
+    ((VsidsDecay, may_take VsidsDecay u.vsids_decay) ∷
+    (ClauseActivityDecay, may_take ClauseActivityDecay u.clause_activity_decay) ∷
     (ReduceLocalsInterval, may_take ReduceLocalsInterval u.reduce_locals_interval) ∷
     (ReduceMidsInterval, may_take ReduceMidsInterval u.reduce_mids_interval) ∷
     (LubyRestartIntervalScale, may_take LubyRestartIntervalScale u.luby_restart_interval_scale) ∷ [])

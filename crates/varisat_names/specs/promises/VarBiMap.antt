@@ -36,4 +36,5 @@ pub record IsParted (old new : BiMap) (from into : ℕ) : Type 0 where
 abbrev pub RemovesPair : Direction → BiMap → ℕ → Option ℕ → BiMap → Type 0
 RemovesPair direction old from returned new = MatchOption returned
     ((at (directed direction old).forward from ≡ None) × (new ≡ old))
-    (λ into. (at (directed direction old).forward from ≡ Some into) × IsParted (directed direction old) (directed direction new) from into)
+    (λ into. (at (directed direction old).forward from ≡ Some into)
+    × IsParted (directed direction old) (directed direction new) from into)

@@ -26,7 +26,8 @@ pub record DataList : Type 0 where
 
 -- the set has exactly the global variables that may be used again
 abbrev pub AreDeleted : List VarData → BTreeSet ℕ → Type 0
-AreDeleted kept free = (x : ℕ) → (contains nat_cmp free x ≡ true) ↔ ((x < length kept) × ((data_at kept x).deleted ≡ true))
+AreDeleted kept free = (x : ℕ) →
+    (contains nat_cmp free x ≡ true) ↔ ((x < length kept) × ((data_at kept x).deleted ≡ true))
 
 -- the list with x in it, where each variable that was added is not live
 abbrev pub reaching : List VarData → ℕ → List VarData

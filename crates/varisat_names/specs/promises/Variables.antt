@@ -37,12 +37,14 @@ pub record IsGiven (old new : Tables) (u x : ℕ) : Type 0 where
 -- The next k names from the watermark on came into use, in increasing order.
 abbrev pub AreNextGiven : ℕ → Tables → Tables → Type 0
 AreNextGiven zero old new = new ≡ old
-AreNextGiven (suc k) old new = (mid : Tables) × (x : ℕ) × IsGiven old mid (length old.users.forward) x × AreNextGiven k mid new
+AreNextGiven (suc k) old new =
+    (mid : Tables) × (x : ℕ) × IsGiven old mid (length old.users.forward) x × AreNextGiven k mid new
 
 -- The name u was named: it was in use, or it came into use alone, or all names from the watermark up to it did.
 pub data IsNamed (u : ℕ) (old new : Tables) : Type 0 where
   InUse : (x : ℕ) → at old.users.forward u ≡ Some x → new ≡ old → IsNamed u old new
-  Free : (x : ℕ) → u < length old.users.forward → at old.users.forward u ≡ None → IsGiven old new u x → IsNamed u old new
+  Free : (x : ℕ) → u < length old.users.forward → at old.users.forward u ≡ None → IsGiven old new u x →
+      IsNamed u old new
   Above : length old.users.forward ≤ u → AreNextGiven (u + 1 - length old.users.forward) old new → IsNamed u old new
 
 -- The global variable x has the least free solver variable v.

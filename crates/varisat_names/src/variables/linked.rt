@@ -159,7 +159,8 @@ impl<A: Allocator + Copy> LinkedVariables<A> {
     pub fn give_user_vars_up_to(&mut self, user: Var) -> Result<(), AllocError>
         requires globals { length self.old.kept + (user + 1 - length self.old.users.forward) ≤ 2 ^ 31 }
         ensures given { OnOk result (AreNextGiven (user + 1 - length self.old.users.forward) self.old self.new) }
-        ensures refused { OnErr result ((k : ℕ) × (k ≤ user + 1 - length self.old.users.forward) × AreNextGiven k self.old self.new) }
+        ensures refused { OnErr result
+            ((k : ℕ) × (k ≤ user + 1 - length self.old.users.forward) × AreNextGiven k self.old self.new) }
     {
         for index in self.user_watermark()..user.index() + 1 {
             self.give_user_var(Var::from_index(index))?;
@@ -174,7 +175,8 @@ impl<A: Allocator + Copy> LinkedVariables<A> {
     pub fn name_user_var(&mut self, user: Var) -> Result<(), AllocError>
         requires globals { length self.old.kept + (user + 1 - length self.old.users.forward) < 2 ^ 31 }
         ensures named { OnOk result (IsNamed user self.old self.new) }
-        ensures refused { OnErr result ((k : ℕ) × (k ≤ user + 1 - length self.old.users.forward) × AreNextGiven k self.old self.new) }
+        ensures refused { OnErr result
+            ((k : ℕ) × (k ≤ user + 1 - length self.old.users.forward) × AreNextGiven k self.old self.new) }
     {
         if user.index() >= self.user_watermark() {
             return self.give_user_vars_up_to(user);
@@ -228,7 +230,8 @@ impl<A: Allocator + Copy> LinkedVariables<A> {
     /// Changes how the live variable may be used.
     pub fn set_sampling_mode(&mut self, global: Var, sampling_mode: SamplingMode)
         requires { (data_at self.old.kept global).deleted ≡ false }
-        ensures { IsChangedTo self.old self.new global (record (data_at self.old.kept global) { sampling_mode = sampling_mode }) }
+        ensures { IsChangedTo self.old self.new global
+            (record (data_at self.old.kept global) { sampling_mode = sampling_mode }) }
     {
         let mut kept = *self.variables.globals.data(global);
         kept.sampling_mode = sampling_mode;

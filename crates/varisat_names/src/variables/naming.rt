@@ -20,7 +20,8 @@ pub fn global_from_user<A: Allocator + Copy>(
     ensures named { OnOk result (IsNamed user variables.old variables.new) }
     ensures leads { IfOk result (λ global. at variables.new.users.forward user ≡ Some global) }
     ensures free { OnErr result (at variables.old.users.forward user ≡ None) }
-    ensures refused { OnErr result ((k : ℕ) × (k ≤ user + 1 - length variables.old.users.forward) × AreNextGiven k variables.old variables.new) }
+    ensures refused { OnErr result
+        ((k : ℕ) × (k ≤ user + 1 - length variables.old.users.forward) × AreNextGiven k variables.old variables.new) }
 {
     if let Some(global) = variables.global_from_user().get(user) {
         return Ok(global);

@@ -258,7 +258,9 @@ impl<'a, A: Allocator + Copy> VarBiMapMut<'a, A> {
         requires into_is_free { at (directed self.old.direction self.old.map.now).backward into ≡ None }
         ensures same_reference { self.new.map.ghost_name ≡ self.old.map.ghost_name }
         ensures direction { self.new.direction ≡ self.old.direction }
-        ensures joined { OnOk result (IsJoined (directed self.old.direction self.old.map.now) (directed self.old.direction self.new.map.now) from into) }
+        ensures joined { OnOk result
+            (IsJoined (directed self.old.direction self.old.map.now)
+            (directed self.old.direction self.new.map.now) from into) }
         ensures refused { OnErr result (self.new.map.now ≡ self.old.map.now) }
     {
         let direction = self.direction;

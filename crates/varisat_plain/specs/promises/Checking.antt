@@ -26,7 +26,8 @@ line_of (Deletes v) = Delete v.items
 abbrev pub IsClauseStatus : List Literal → Clause → ClauseStatus → Type 0
 IsClauseStatus known c False = IsFalse known c
 IsClauseStatus known c (Leaves l) = (l ∈ c) × (opposite l ∈ known → ⊥) × LeavesOnly known c l
-IsClauseStatus known c Open = (m n : Literal) × (m ∈ c) × (n ∈ c) × (m ≢ n) × (opposite m ∈ known → ⊥) × (opposite n ∈ known → ⊥)
+IsClauseStatus known c Open =
+    (m n : Literal) × (m ∈ c) × (n ∈ c) × (m ≢ n) × (opposite m ∈ known → ⊥) × (opposite n ∈ known → ⊥)
 
 -- the clause is equal to none of P as a set
 abbrev pub IsAbsent : List Clause → Clause → Type 0

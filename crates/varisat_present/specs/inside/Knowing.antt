@@ -50,7 +50,10 @@ pub record TakesBase (old base : List Literal) (clashes : Bool) (new : List Lite
 abbrev pub IsPassed : Clause → List Literal → Bool → List Literal → Type 0
 IsPassed c old true new = (new ≡ old) × IsFalse old c
 IsPassed c old false new =
-    ((new ≡ old) × IsComplete (c ∷ []) old) ⊎ ((l : Literal) × (l ∈ c) × LeavesOnly old c l × (opposite l ∈ old → ⊥) × (l ∈ old → ⊥) × (new ≡ old ++ (l ∷ [])))
+    ((new ≡ old) × IsComplete (c ∷ []) old)
+    ⊎
+    ((l : Literal) × (l ∈ c) × LeavesOnly old c l × (opposite l ∈ old → ⊥) × (l ∈ old → ⊥)
+    × (new ≡ old ++ (l ∷ [])))
 
 -- The question whether propagation from the base conflicts: the known literals from before are the first ones still.
 pub record Asks (P : List Clause) (old base : List Literal) (found : Bool) (new : List Literal) : Type 0 where

@@ -34,12 +34,15 @@ abbrev pub AllConflict : List Clause → List Clause → List Literal → Litera
 AllConflict P cs base l = (d : Clause) → d ∈ cs → l ∈ d → ConflictsBut P base l d
 
 -- so it is for the clause at the place, if that has the literal; the known literals from before are the first ones still
-pub record IsResolventFound {A : Type 0} (places : List (Option (Vec ℕ A))) (place : ℕ) (base : List Literal) (l : Literal)
+pub record IsResolventFound {A : Type 0} (places : List (Option (Vec ℕ A))) (place : ℕ) (base : List Literal)
+    (l : Literal)
     (old : List Literal) (found : Bool) (new : List Literal) : Type 0 where
   pub more : List Literal
   pub joined : new ≡ old ++ more
-  pub yes : found ≡ true → (d : Clause) → present_at places place ≡ Some d → l ∈ d → ConflictsBut (present places) base l d
-  pub no : found ≡ false → (d : Clause) × (present_at places place ≡ Some d) × (l ∈ d) × (ConflictsBut (present places) base l d → ⊥)
+  pub yes : found ≡ true → (d : Clause) → present_at places place ≡ Some d → l ∈ d →
+      ConflictsBut (present places) base l d
+  pub no : found ≡ false →
+      (d : Clause) × (present_at places place ≡ Some d) × (l ∈ d) × (ConflictsBut (present places) base l d → ⊥)
 
 -- for a literal that no clause has
 abbrev pub unseen : ℕ
@@ -47,7 +50,8 @@ unseen = 0xffff_ffff_ffff_ffff
 
 -- no clause before the place that the list has for a literal below the limit has that literal
 abbrev pub AreFirst : {A : Type 0} → List (Option (Vec ℕ A)) → List ℕ → Type 0
-AreFirst places firsts = (i : ℕ) (c : Clause) (l : Literal) → present_at places i ≡ Some c → l ∈ c → l < place_limit → slice_index_or firsts l unseen ≤ i
+AreFirst places firsts = (i : ℕ) (c : Clause) (l : Literal) → present_at places i ≡ Some c → l ∈ c → l < place_limit →
+    slice_index_or firsts l unseen ≤ i
 
 -- places become less or stay
 abbrev pub AreLowered : List ℕ → List ℕ → Type 0

@@ -43,14 +43,16 @@ pub record HasRefuted (R : Rules) (s : ProofState) (lines : List ProofLine) (t :
 -- t is there behind lines that have refuted, or behind all of them, which have not
 abbrev pub StopsBehind : Rules → Bool → ProofState → List ProofLine → ProofState → ℕ → Type 0
 StopsBehind R true s lines t steps = HasRefuted R s lines t
-StopsBehind R false s lines t steps = GoesBy R s lines t × (Conflicts t.present [] → ⊥) × (steps ≡ step_number (length lines))
+StopsBehind R false s lines t steps =
+    GoesBy R s lines t × (Conflicts t.present [] → ⊥) × (steps ≡ step_number (length lines))
 
 -- The lines were taken, or, once propagation conflicted, only read; and they were counted.
 abbrev pub IsAfterLines : Rules → ProofState → List ProofLine → ProofState → Count → Type 0
 IsAfterLines R s lines t count = StopsBehind R count.refuted s lines t count.steps
 
 -- the last line is the first wrong one, and t is there before it
-pub record LastIsWrong (R : Rules) (s : ProofState) (lines : List ProofLine) (status : LineStatus) (step : ℕ) (t : ProofState) : Type 0 where
+pub record LastIsWrong (R : Rules) (s : ProofState) (lines : List ProofLine) (status : LineStatus) (step : ℕ)
+    (t : ProofState) : Type 0 where
   pub front : List ProofLine
   pub line : ProofLine
   pub splits : lines ≡ front ++ line ∷ []
@@ -68,12 +70,14 @@ IsWrongLast R s lines OutOfMemory t = Unit {0}
 IsWrongLast R s lines error t = ⊥
 
 -- a line more
-abbrev pub TakesLine : Rules → ProofState → List ProofLine → Result (Unit {0}) CheckerError → ProofState → Count → Type 0
+abbrev pub TakesLine : Rules → ProofState → List ProofLine → Result (Unit {0}) CheckerError → ProofState → Count →
+    Type 0
 TakesLine R s lines (Ok u) t count = IsAfterLines R s lines t count
 TakesLine R s lines (Err e) t count = IsWrongLast R s lines e t
 
 -- whichever lines were looked at before
-abbrev pub TakesNext : Rules → ProofState → Count → LineKind → Clause → Result (Unit {0}) CheckerError → ProofState → Count → Type 0
+abbrev pub TakesNext : Rules → ProofState → Count → LineKind → Clause → Result (Unit {0}) CheckerError → ProofState →
+    Count → Type 0
 TakesNext R old before kind clause result new after =
     (s : ProofState) (lines : List ProofLine)
     → IsAfterLines R s lines old before → TakesLine R s (lines ++ line_of_kind kind clause ∷ []) result new after
@@ -94,7 +98,8 @@ pub record Position : Type 0 where
 
 -- all of these
 abbrev pub position_of : CheckerState → MarkedLog → Count → ReaderState → Position
-position_of checker logged count progress = record { state = state_of checker.clauses logged; count = count; progress = progress }
+position_of checker logged count progress =
+    record { state = state_of checker.clauses logged; count = count; progress = progress }
 
 -- a check breaks off in the text, whatever comes behind it
 abbrev pub CheckBreaksOff : Rules → Encoding → ProofState → List ℕ → CheckerError → ProofState → Type 0
@@ -103,18 +108,21 @@ CheckBreaksOff R encoding s text e t = (rest : List ℕ) → IsCheckBy R encodin
 
 -- a piece more of the text was read
 abbrev pub ReadsPiece : Rules → Encoding → ProofState → List ℕ → Result (Unit {0}) CheckerError → Position → Type 0
-ReadsPiece R encoding s text (Ok u) at = (lines : List ProofLine) × HasRead encoding text lines at.progress × IsAfterLines R s lines at.state at.count
+ReadsPiece R encoding s text (Ok u) at =
+    (lines : List ProofLine) × HasRead encoding text lines at.progress × IsAfterLines R s lines at.state at.count
 ReadsPiece R encoding s text (Err e) at = CheckBreaksOff R encoding s text e at.state
 
 -- whatever was read before
 abbrev pub ReadsNext : Rules → List ℕ → Position → Result (Unit {0}) CheckerError → Position → Type 0
 ReadsNext R piece old result new =
     (e : Encoding) (s : ProofState) (text : List ℕ) (lines : List ProofLine)
-    → HasRead e text lines old.progress → IsAfterLines R s lines old.state old.count → ReadsPiece R e s (text ++ piece) result new
+    → HasRead e text lines old.progress → IsAfterLines R s lines old.state old.count →
+    ReadsPiece R e s (text ++ piece) result new
 
 -- what a check returns where the bytes end, of which all lines were checked
 abbrev pub result_at_end : ReaderState → Count → Result CheckVerdict CheckerError
-result_at_end p count = if p.place.inside then Err (Parse p.at) else Ok (if count.refuted then Refutation else Derivation)
+result_at_end p count =
+    if p.place.inside then Err (Parse p.at) else Ok (if count.refuted then Refutation else Derivation)
 
 -- the text is the whole proof
 abbrev pub EndsWith : Rules → Encoding → ProofState → List ℕ → Result CheckVerdict CheckerError → ProofState → Type 0
@@ -128,24 +136,30 @@ EndsBehind R old result t =
     → HasRead e text lines old.progress → IsAfterLines R s lines old.state old.count → EndsWith R e s text result t
 
 -- a source is read as one proof
-abbrev pub ChecksFrom : Rules → Encoding → CheckerAtInput → MarkedLog → Result CheckVerdict CheckerError → CheckerAtInput → MarkedLog → Type 0
+abbrev pub ChecksFrom : Rules → Encoding → CheckerAtInput → MarkedLog → Result CheckVerdict CheckerError →
+    CheckerAtInput → MarkedLog → Type 0
 ChecksFrom R encoding old before result new after =
-    ChecksBytes (λ bytes. IsCheckBy R encoding (state_of old.checker.clauses before) bytes result (state_of new.checker.clauses after))
+    ChecksBytes
+    (λ bytes.
+    IsCheckBy R encoding (state_of old.checker.clauses before) bytes result (state_of new.checker.clauses after))
     old.source result new.source
 
 -- 3. Steps.
 -- a line is taken, or it is wrong and nothing changes, or memory runs out
 abbrev pub ChecksLine : CheckerState → Line → ℕ → Result (Unit {0}) CheckerError → CheckerState → Type 0
 ChecksLine old line number (Ok u) new = Derives old.clauses (line ∷ []) new.clauses × (new.spent ≡ old.spent)
-ChecksLine old line number (Err (CheckFailed step)) new = ((c : Clause) × (line ≡ Add c) × IsWrong old.clauses (Add c)) × (step ≡ number) × (new ≡ old)
-ChecksLine old line number (Err (NoSuchClause step)) new = ((c : Clause) × (line ≡ Delete c) × IsWrong old.clauses (Delete c)) × (step ≡ number) × (new ≡ old)
+ChecksLine old line number (Err (CheckFailed step)) new =
+    ((c : Clause) × (line ≡ Add c) × IsWrong old.clauses (Add c)) × (step ≡ number) × (new ≡ old)
+ChecksLine old line number (Err (NoSuchClause step)) new =
+    ((c : Clause) × (line ≡ Delete c) × IsWrong old.clauses (Delete c)) × (step ≡ number) × (new ≡ old)
 ChecksLine old line number (Err OutOfMemory) new = new.spent ≡ true
 ChecksLine old line number (Err error) new = ⊥
 
 -- What checking unit clauses one after another returns: they follow, or the first that does not is returned.
 abbrev pub ChecksUnits : CheckerState → List Literal → Result (Unit {0}) CheckerError → CheckerState → Type 0
 ChecksUnits old units (Ok u) new = Derives old.clauses (unit_lines units) new.clauses × (new.spent ≡ false)
-ChecksUnits old units (Err (CheckFailed step)) new = ((c : Clause) × FailsAt old.clauses (unit_lines units) step (Add c) new.clauses) × (new.spent ≡ false)
+ChecksUnits old units (Err (CheckFailed step)) new =
+    ((c : Clause) × FailsAt old.clauses (unit_lines units) step (Add c) new.clauses) × (new.spent ≡ false)
 ChecksUnits old units (Err OutOfMemory) new = new.spent ≡ true
 ChecksUnits old units (Err error) new = ⊥
 

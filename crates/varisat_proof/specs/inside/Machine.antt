@@ -101,7 +101,8 @@ fault_offset inside Bad at end = at
 abbrev pub read : Encoding → ℕ → ParserState → List Token → Parsed
 read encoding end p [] = at_end end p
 read encoding end p (u ∷ us) =
-    put (event encoding p.inside u.symbol) (line_at (moved encoding p u.symbol)) (fault_offset p.inside u.symbol u.at end)
+    put (event encoding p.inside u.symbol) (line_at (moved encoding p u.symbol))
+    (fault_offset p.inside u.symbol u.at end)
     (read encoding end (moved encoding p u.symbol) us)
 
 -- between two lines
@@ -124,11 +125,14 @@ after_text part b = record {
 
 -- what an open token of a text says as it ends
 abbrev pub part_symbol : Bool → Part → Symbol
-part_symbol marked part = if part.count == 1 && is_kind (letter_kind marked part.first) then Mark part.first else meant (word_says part.word)
+part_symbol marked part =
+    if part.count == 1 && is_kind (letter_kind marked part.first) then Mark part.first else meant (word_says part.word)
 
 -- 128^k up to k = 4
 abbrev pub scale : ℕ → ℕ
-scale k = if k == 0 then 1 else (if k == 1 then 128 else (if k == 2 then 0x4000 else (if k == 3 then 0x20_0000 else 0x1000_0000)))
+scale k =
+    if k == 0 then 1
+    else (if k == 1 then 128 else (if k == 2 then 0x4000 else (if k == 3 then 0x20_0000 else 0x1000_0000)))
 
 -- the value of an open number with one byte more
 abbrev pub grown_value : Part → ℕ → ℕ
@@ -136,11 +140,14 @@ grown_value part b = part.value + scale part.count * (b % 128)
 
 -- an open number with one byte more
 abbrev pub after_binary : Part → ℕ → Part
-after_binary part b = record { count = part.count + 1; first = part.first; word = part.word; value = grown_value part b }
+after_binary part b =
+    record { count = part.count + 1; first = part.first; word = part.word; value = grown_value part b }
 
 -- what an open number says as this byte ends it: only the shortest form is one, and only a code in range
 abbrev pub number_symbol : Part → ℕ → Symbol
-number_symbol part b = if nat_lt b 128 && (nat_lt 0 b || part.count == 0) && nat_le (grown_value part b) (2 ^ 29 + 1) then Number (grown_value part b) else Bad
+number_symbol part b =
+    if nat_lt b 128 && (nat_lt 0 b || part.count == 0) && nat_le (grown_value part b) (2 ^ 29 + 1)
+    then Number (grown_value part b) else Bad
 
 -- whether a token ends at the byte, and what it says
 abbrev pub ends : Encoding → Part → ℕ → Bool
@@ -189,7 +196,9 @@ went_on p b = if is_between p.encoding b then ended_token p p.place else record
 
 -- behind a byte
 abbrev pub after : ReaderState → ℕ → ReaderState
-after p b = if ends p.encoding p.part b then ended_token p (moved p.encoding p.place (symbol_of p.encoding p.part b)) else went_on p b
+after p b =
+    if ends p.encoding p.part b then ended_token p (moved p.encoding p.place (symbol_of p.encoding p.part b))
+    else went_on p b
 
 -- the end of the bytes: what the last token says, if there is one
 abbrev pub last_symbol : Encoding → Part → Symbol

@@ -82,7 +82,8 @@ pub record FailsAt (P : List Clause) (lines : List Line) (number : ℕ) (line : 
 -- a clause of the step does not follow, or its literals do not conflict
 abbrev pub DoesNotFollow : List Clause → ProofStep → ℕ → List Clause → Type 0
 DoesNotFollow P (AtClause c) number Q = (d : Clause) × FailsAt P (step_lines (AtClause c)) number (Add d) Q
-DoesNotFollow P (UnitClauses units) number Q = (d : Clause) × FailsAt P (step_lines (UnitClauses units)) number (Add d) Q
+DoesNotFollow P (UnitClauses units) number Q =
+    (d : Clause) × FailsAt P (step_lines (UnitClauses units)) number (Add d) Q
 DoesNotFollow P (DeleteClause c) number Q = ⊥
 DoesNotFollow P (DeleteVar v) number Q = ⊥
 DoesNotFollow P (FailedAssumptions core) number Q = (Conflicts P core.now → ⊥) × (number ≡ 1) × (Q ≡ P)
@@ -90,8 +91,10 @@ DoesNotFollow P (FailedAssumptions core) number Q = (Conflicts P core.now → �
 -- a step is taken, or it is wrong, or the call is refused
 abbrev pub IsStep : CheckerState → ProofStep → Result (Unit {0}) CheckerError → CheckerState → Type 0
 IsStep old step (Ok u) new = IsStepTaken old.clauses step new.clauses × (old.spent ≡ false) × (new.spent ≡ false)
-IsStep old step (Err (CheckFailed number)) new = DoesNotFollow old.clauses step number new.clauses × (old.spent ≡ false) × (new.spent ≡ false)
-IsStep old step (Err (NoSuchClause number)) new = ((d : Clause) × FailsAt old.clauses (step_lines step) number (Delete d) new.clauses)
+IsStep old step (Err (CheckFailed number)) new =
+    DoesNotFollow old.clauses step number new.clauses × (old.spent ≡ false) × (new.spent ≡ false)
+IsStep old step (Err (NoSuchClause number)) new =
+    ((d : Clause) × FailsAt old.clauses (step_lines step) number (Delete d) new.clauses)
     × (old.spent ≡ false) × (new.spent ≡ false)
 IsStep old step (Err OutOfMemory) new = IsRefusal old OutOfMemory new
 IsStep old step (Err Spent) new = IsRefusal old Spent new
@@ -122,22 +125,30 @@ IsOfBytes (Err e) = is_of_bytes e ≡ true
 
 -- Where the source had these bytes left, and the result speaks of them, it is right for them.
 abbrev pub IsRightFor : {V : Type 0} → CheckerAtInput → Result V CheckerError → (List ℕ → Type 0) → Type 0
-IsRightFor old result is_right = (bytes : List ℕ) → old.checker.spent ≡ false → old.source.left ≡ Some bytes → IsOfBytes result → is_right bytes
+IsRightFor old result is_right = (bytes : List ℕ) → old.checker.spent ≡ false → old.source.left ≡ Some bytes →
+    IsOfBytes result → is_right bytes
 
 -- What a check of a source returns, where its result is right for some bytes, over what the source gave meanwhile.
-pub data ChecksBytes {V : Type 0} (is_right : List ℕ → Type 0) (old : Input) (result : Result V CheckerError) (new : Input) : Type 0 where
+pub data ChecksBytes {V : Type 0} (is_right : List ℕ → Type 0) (old : Input) (result : Result V CheckerError)
+    (new : Input) : Type 0 where
   -- the source ended, and the result is that of all it gave
-  AtEnd : (text : List ℕ) → streams.Reads old text new → HasEnded new → new.faults ≡ old.faults → is_right text → ChecksBytes is_right old result new
+  AtEnd : (text : List ℕ) → streams.Reads old text new → HasEnded new → new.faults ≡ old.faults → is_right text →
+      ChecksBytes is_right old result new
   -- whatever comes behind what the source gave, this is the result
-  InText : (text : List ℕ) → streams.Reads old text new → new.faults ≡ old.faults → ((rest : List ℕ) → is_right (text ++ rest)) →
+  InText : (text : List ℕ) → streams.Reads old text new → new.faults ≡ old.faults →
+      ((rest : List ℕ) → is_right (text ++ rest)) →
       ChecksBytes is_right old result new
-  SourceFailed : (text : List ℕ) → streams.Reads old text new → new.faults ≡ old.faults + 1 → (e : CheckerError) → result ≡ Err e → is_io e ≡ true →
+  SourceFailed : (text : List ℕ) → streams.Reads old text new → new.faults ≡ old.faults + 1 → (e : CheckerError) →
+      result ≡ Err e → is_io e ≡ true →
       ChecksBytes is_right old result new
-  RanOut : (text : List ℕ) → streams.Reads old text new → new.faults ≡ old.faults → result ≡ Err OutOfMemory → ChecksBytes is_right old result new
+  RanOut : (text : List ℕ) → streams.Reads old text new → new.faults ≡ old.faults → result ≡ Err OutOfMemory →
+      ChecksBytes is_right old result new
 
 -- what a check of a DRAT proof returns
 abbrev pub Checks : ProofFormat → CheckerAtInput → Result CheckVerdict CheckerError → CheckerAtInput → Type 0
-Checks format old result new = ChecksBytes (λ bytes. IsResult format old.checker.clauses bytes result new.checker.clauses) old.source result new.source
+Checks format old result new =
+    ChecksBytes
+    (λ bytes. IsResult format old.checker.clauses bytes result new.checker.clauses) old.source result new.source
 
 -- the cores as lists
 abbrev pub core_lists : {A : Type 0} → List (ℕ × Vec ℕ A) → List (ℕ × List Literal)
@@ -148,15 +159,19 @@ abbrev pub reported : {A : Type 0} → List Literal → MarkedReport A → Marke
 reported assumed report = record { assumed = assumed; inputs = report.inputs; cores = core_lists report.cores.items }
 
 -- The one right result of a check of a marked proof: its report has the clauses that were given and the cores up to where it stops.
-abbrev pub IsMarkedResult : {A : Type 0} → List Clause → List ℕ → Result (MarkedReport A) CheckerError → List Clause → Type 0
+abbrev pub IsMarkedResult : {A : Type 0} → List Clause → List ℕ → Result (MarkedReport A) CheckerError → List Clause →
+    Type 0
 IsMarkedResult P bytes (Ok report) Q =
     (assumed : List Literal)
     × IsCheckOf (Text true) (state_of P nothing_logged) bytes (Ok report.verdict) (state_of Q (reported assumed report))
-IsMarkedResult P bytes (Err e) Q = (logged : MarkedLog) × IsCheckOf (Text true) (state_of P nothing_logged) bytes (Err e) (state_of Q logged)
+IsMarkedResult P bytes (Err e) Q =
+    (logged : MarkedLog) × IsCheckOf (Text true) (state_of P nothing_logged) bytes (Err e) (state_of Q logged)
 
 -- what a check of a marked proof returns
 abbrev pub ChecksMarked : {A : Type 0} → CheckerAtInput → Result (MarkedReport A) CheckerError → CheckerAtInput → Type 0
-ChecksMarked old result new = ChecksBytes (λ bytes. IsMarkedResult old.checker.clauses bytes result new.checker.clauses) old.source result new.source
+ChecksMarked old result new =
+    ChecksBytes
+    (λ bytes. IsMarkedResult old.checker.clauses bytes result new.checker.clauses) old.source result new.source
 
 -- A report is true: what is called a refutation is one, and no assignment satisfies a core together with the clauses that the checker
 -- held and those given before the core.
@@ -177,8 +192,11 @@ AddsRead old reading (Err error) new = ⊥
 
 -- a text is added that a source gives; a spent checker reads nothing
 pub data AddsText (old : CheckerAtInput) (result : Result (Unit {0}) CheckerError) (new : CheckerAtInput) : Type 0 where
-  Added : (reading : Reading) → GivesReading old.source reading new.source → AddsRead old.checker reading result new.checker → AddsText old result new
+  Added : (reading : Reading) → GivesReading old.source reading new.source →
+      AddsRead old.checker reading result new.checker → AddsText old result new
   -- memory ran out for a clause that was read
-  ClauseRanOut : (text : List ℕ) → streams.Reads old.source text new.source → result ≡ Err OutOfMemory → IsRefusal old.checker OutOfMemory new.checker →
+  ClauseRanOut : (text : List ℕ) → streams.Reads old.source text new.source → result ≡ Err OutOfMemory →
+      IsRefusal old.checker OutOfMemory new.checker →
       AddsText old result new
-  Unread : result ≡ Err Spent → IsRefusal old.checker Spent new.checker → new.source ≡ old.source → AddsText old result new
+  Unread : result ≡ Err Spent → IsRefusal old.checker Spent new.checker → new.source ≡ old.source →
+      AddsText old result new

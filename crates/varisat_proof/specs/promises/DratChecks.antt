@@ -51,7 +51,8 @@ IsDratResult format P bytes result Q =
 -- what a check of DRAT lines returns
 abbrev pub ChecksDrat : ProofFormat → CheckerAtInput → Result CheckVerdict CheckerError → CheckerAtInput → Type 0
 ChecksDrat format old result new =
-    ChecksBytes (λ bytes. IsDratResult format old.checker.clauses bytes result new.checker.clauses) old.source result new.source
+    ChecksBytes
+    (λ bytes. IsDratResult format old.checker.clauses bytes result new.checker.clauses) old.source result new.source
 
 -- the rules by their name
 abbrev pub rules_of : LineRules → Rules

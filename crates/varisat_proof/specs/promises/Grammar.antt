@@ -43,7 +43,8 @@ is_none (b ∷ bs) = false
 -- Bytes with the byte b behind them: it ends the number, is 0 only where it stands alone, and the number is at most 2^29 + 1.
 abbrev pub binary_symbol : List ℕ → ℕ → Symbol
 binary_symbol front b =
-    if nat_lt b 128 && (nat_lt 0 b || is_none front) && nat_le (value_of (front ++ b ∷ [])) (2 ^ 29 + 1) then Number (value_of (front ++ b ∷ [])) else Bad
+    if nat_lt b 128 && (nat_lt 0 b || is_none front) && nat_le (value_of (front ++ b ∷ [])) (2 ^ 29 + 1)
+    then Number (value_of (front ++ b ∷ [])) else Bad
 
 -- 2. Tokens, each with the offset of its first byte. Offsets stay at 2^64-1 once they are there.
 pub record Token : Type 0 where
@@ -59,7 +60,8 @@ text_token marked start (b ∷ bs) = record { at = start; symbol = text_symbol m
 abbrev pub text_tokens : Bool → ℕ → ℕ → List ℕ → List ℕ → List Token
 text_tokens marked at start word [] = text_token marked start word
 text_tokens marked at start word (b ∷ bs) =
-    if is_blank b then text_token marked start word ++ text_tokens marked (next at) (next at) [] bs else text_tokens marked (next at) start (word ++ b ∷ []) bs
+    if is_blank b then text_token marked start word ++ text_tokens marked (next at) (next at) [] bs
+    else text_tokens marked (next at) start (word ++ b ∷ []) bs
 
 -- a token of these bytes that the end cut off, if there are any
 abbrev pub cut_token : ℕ → List ℕ → List Token
@@ -74,7 +76,9 @@ ends_number front b = nat_lt b 128 || length front == 4
 abbrev pub binary_tokens : ℕ → ℕ → List ℕ → List ℕ → List Token
 binary_tokens at start front [] = cut_token start front
 binary_tokens at start front (b ∷ bs) =
-    if ends_number front b then record { at = start; symbol = binary_symbol front b } ∷ binary_tokens (next at) (next at) [] bs else binary_tokens
+    if ends_number front b
+    then record { at = start; symbol = binary_symbol front b } ∷ binary_tokens (next at) (next at) [] bs
+    else binary_tokens
     (next at) start (front ++ b ∷ []) bs
 
 -- the tokens of a proof
@@ -111,7 +115,8 @@ line_symbols encoding line = begun_symbols encoding line ++ Number 0 ∷ []
 
 -- the bytes are accepted for just these lines: there are such lines, and the tokens say what the lines say
 abbrev pub Accepted : Encoding → List ProofLine → List ℕ → Type 0
-Accepted encoding lines bytes = HasKinds encoding lines × (symbols (tokens encoding bytes) ≡ flat_map (line_symbols encoding) lines)
+Accepted encoding lines bytes =
+    HasKinds encoding lines × (symbols (tokens encoding bytes) ≡ flat_map (line_symbols encoding) lines)
 
 -- 4. Faults.
 abbrev pub is_some : List Symbol → Bool
@@ -120,7 +125,8 @@ is_some (s ∷ ss) = true
 
 -- nothing, or the beginning of a line
 abbrev pub IsBegunLine : Encoding → List Symbol → Type 0
-IsBegunLine encoding begun = (begun ≡ []) ⊎ ((line : ProofLine) × (begun ≡ begun_symbols encoding line) × (has_kind encoding line.kind ≡ true))
+IsBegunLine encoding begun =
+    (begun ≡ []) ⊎ ((line : ProofLine) × (begun ≡ begun_symbols encoding line) × (has_kind encoding line.kind ≡ true))
 
 -- the kind of binary line that a tag begins
 abbrev pub tag_kind : ℕ → Option LineKind
@@ -172,7 +178,8 @@ pub record EndsInside (encoding : Encoding) (us : List Token) (lines : List Proo
 -- these lines stand in front of the first fault, which is at the offset
 abbrev pub Faulty : Encoding → List ProofLine → List ℕ → ℕ → Type 0
 Faulty encoding lines bytes offset =
-    WrongToken encoding (tokens encoding bytes) lines offset ⊎ (EndsInside encoding (tokens encoding bytes) lines × (offset ≡ end_of 0 bytes))
+    WrongToken encoding (tokens encoding bytes) lines offset
+    ⊎ (EndsInside encoding (tokens encoding bytes) lines × (offset ≡ end_of 0 bytes))
 
 -- the first fault of the bytes is at the offset
 abbrev pub FaultAt : Encoding → List ℕ → ℕ → Type 0

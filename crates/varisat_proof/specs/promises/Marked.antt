@@ -43,7 +43,8 @@ state_of present logged = record { present = present; logged = logged }
 abbrev pub TakesKind : ProofState → LineKind → Clause → ProofState → Type 0
 TakesKind s Adds c t = Follows s.present c × (t ≡ record s { present = s.present ++ c ∷ [] })
 TakesKind s Deletes c t = (R : List Clause) × TakesOut s.present c R × (t ≡ record s { present = R })
-TakesKind s Accepts c t = t ≡ state_of (s.present ++ c ∷ []) (record s.logged { inputs = with_one_more s.logged.inputs c })
+TakesKind s Accepts c t =
+    t ≡ state_of (s.present ++ c ∷ []) (record s.logged { inputs = with_one_more s.logged.inputs c })
 TakesKind s Assumes ls t = t ≡ state_of s.present (record s.logged { assumed = ls })
 TakesKind s Fails ls t =
     (ls ⊆ s.logged.assumed) × Conflicts s.present ls
@@ -78,7 +79,8 @@ strict_rules = record { takes = Takes; wrong = IsWrongBy }
 -- By these rules the lines are taken one after the other, and before none of them propagation conflicts.
 abbrev pub GoesBy : Rules → ProofState → List ProofLine → ProofState → Type 0
 GoesBy rules s [] t = s ≡ t
-GoesBy rules s (line ∷ lines) t = (Conflicts s.present [] → ⊥) × (r : ProofState) × rules.takes s line r × GoesBy rules r lines t
+GoesBy rules s (line ∷ lines) t =
+    (Conflicts s.present [] → ⊥) × (r : ProofState) × rules.takes s line r × GoesBy rules r lines t
 
 -- so they are by the strict rules
 abbrev pub Goes : ProofState → List ProofLine → ProofState → Type 0
@@ -103,7 +105,8 @@ StopsCheckBy rules fault before t back (Ok Derivation) = (fault ≡ None) × (ba
 StopsCheckBy rules fault before t back (Err (CheckFailed step)) = StopsBeforeBy rules Unproved before t back step
 StopsCheckBy rules fault before t back (Err (NoSuchClause step)) = StopsBeforeBy rules Absent before t back step
 StopsCheckBy rules fault before t back (Err (CoreNotAssumed step)) = StopsBeforeBy rules Unassumed before t back step
-StopsCheckBy rules fault before t back (Err (Parse offset)) = (fault ≡ Some offset) × (Conflicts t.present [] ⊎ ((back ≡ []) × (Conflicts t.present [] → ⊥)))
+StopsCheckBy rules fault before t back (Err (Parse offset)) =
+    (fault ≡ Some offset) × (Conflicts t.present [] ⊎ ((back ≡ []) × (Conflicts t.present [] → ⊥)))
 StopsCheckBy rules fault before t back (Err error) = ⊥
 
 -- both by the strict rules
@@ -116,7 +119,8 @@ StopsCheck fault before t back result = StopsCheckBy strict_rules fault before t
 -- 3. Bytes.
 -- The lines in front of the bytes' first fault, that fault, and how many of the lines are taken from s on to t; and what the check
 -- returns there.
-pub record IsCheckBy (rules : Rules) (encoding : Encoding) (s : ProofState) (bytes : List ℕ) (result : Result CheckVerdict CheckerError) (t : ProofState)
+pub record IsCheckBy (rules : Rules) (encoding : Encoding) (s : ProofState) (bytes : List ℕ)
+    (result : Result CheckVerdict CheckerError) (t : ProofState)
     : Type 0 where
   pub lines : List ProofLine
   pub fault : Option ℕ
@@ -145,7 +149,8 @@ CheckOnce encoding = CheckOnceBy strict_rules encoding
 -- comes to the end of all, where it does not conflict.
 abbrev pub GoesThrough : ProofState → List ProofLine → Result CheckVerdict CheckerError → ProofState → Type 0
 GoesThrough s lines (Ok Refutation) t =
-    (front : List ProofLine) × (back : List ProofLine) × (lines ≡ front ++ back) × Goes s front t × Conflicts t.present []
+    (front : List ProofLine) × (back : List ProofLine) × (lines ≡ front ++ back) × Goes s front t
+    × Conflicts t.present []
 GoesThrough s lines (Ok Derivation) t = Goes s lines t × (Conflicts t.present [] → ⊥)
 GoesThrough s lines (Err error) t = ⊥
 
@@ -153,6 +158,7 @@ GoesThrough s lines (Err error) t = ⊥
 -- are equal as sets its deletions take out; and if propagation conflicts behind them it refutes.
 abbrev pub CheckGoesThrough : Encoding → Type 0
 CheckGoesThrough encoding =
-    (s : ProofState) (bytes : List ℕ) (lines : List ProofLine) (u : ProofState) (r : Result CheckVerdict CheckerError) (t : ProofState)
+    (s : ProofState) (bytes : List ℕ) (lines : List ProofLine) (u : ProofState) (r : Result CheckVerdict CheckerError)
+    (t : ProofState)
     → BytesMean encoding bytes lines None → TakesAll s lines u → IsCheckOf encoding s bytes r t
     → GoesThrough s lines r t × (Conflicts u.present [] → r ≡ Ok Refutation)

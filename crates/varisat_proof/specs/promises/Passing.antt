@@ -31,9 +31,11 @@ pub record LogsAllOf (logged : List Entry) (report : MarkedLog) : Type 0 where
 -- such; else it is a derivation, and all is reported.
 abbrev pub PassesWith : List Entry → Result CheckVerdict CheckerError → MarkedLog → Type 0
 PassesWith logged (Ok Refutation) report =
-    (front : List Entry) × (back : List Entry) × (logged ≡ front ++ back) × IsFirstConflict front × LogsAllOf front report
+    (front : List Entry) × (back : List Entry) × (logged ≡ front ++ back) × IsFirstConflict front
+    × LogsAllOf front report
 PassesWith logged (Ok Derivation) report =
-    ((front : List Entry) (back : List Entry) → logged ≡ front ++ back → LogsConflict front → ⊥) × LogsAllOf logged report
+    ((front : List Entry) (back : List Entry) → logged ≡ front ++ back → LogsConflict front → ⊥)
+    × LogsAllOf logged report
 PassesWith logged (Err error) report = ⊥
 
 -- So a check from no clause passes the marked proof of a journal that is right entry by entry, in which no variable leaves, whose
@@ -41,5 +43,7 @@ PassesWith logged (Err error) report = ⊥
 abbrev pub JournalsPass : Type 0
 JournalsPass =
     (logged : List Entry) (held : List Clause) (result : Result CheckVerdict CheckerError) (end : ProofState)
-    → Leads [] logged held → NoneRetires logged → CoresAreAssumed [] logged → AreInRange (logged_lines (Text true) logged)
-    → IsCheckOf (Text true) (state_of [] nothing_logged) (logged_bytes Marked logged) result end → PassesWith logged result end.logged
+    → Leads [] logged held → NoneRetires logged → CoresAreAssumed [] logged →
+    AreInRange (logged_lines (Text true) logged)
+    → IsCheckOf (Text true) (state_of [] nothing_logged) (logged_bytes Marked logged) result end →
+    PassesWith logged result end.logged

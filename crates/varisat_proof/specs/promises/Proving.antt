@@ -44,7 +44,8 @@ pub record IsWritten (old : OpenState) (lines : List ProofLine) (new : OpenState
 
 -- what putting the lines of its encoding into it returns, and what the target took then
 abbrev pub PutsInto : OpenState → (Encoding → List ProofLine) → Result (Unit {0}) WriteError → Taken → Type 0
-PutsInto old lines result taken = PutsLines (encoding_of old.format) old.taken result (lines (encoding_of old.format)) taken
+PutsInto old lines result taken =
+    PutsLines (encoding_of old.format) old.taken result (lines (encoding_of old.format)) taken
 
 -- It took a beginning of them, and this many faults came.
 pub record IsBegun (old : OpenState) (lines : List ProofLine) (more : ℕ) (new : OpenState) : Type 0 where
@@ -66,7 +67,8 @@ IsBegunIf (Some old) lines more None = ⊥
 IsBegunIf (Some old) lines more (Some new) = IsBegun old (lines (encoding_of old.format)) more new
 
 -- What writing returns and leaves: after an error a beginning of the lines stands in the target, and a fault comes only from there.
-abbrev pub WritesLines : Option OpenState → (Encoding → List ProofLine) → Result (Unit {0}) TraceError → Option OpenState → Type 0
+abbrev pub WritesLines : Option OpenState → (Encoding → List ProofLine) → Result (Unit {0}) TraceError →
+    Option OpenState → Type 0
 WritesLines old lines (Ok u) new = IsWrittenIf old lines new
 WritesLines old lines (Err Memory) new = IsBegunIf old lines 0 new
 WritesLines old lines (Err (Target cause)) new = IsBegunIf old lines 1 new
@@ -102,7 +104,8 @@ RunsOutLogging old entries new =
 abbrev pub Logs : ProofParts → List Entry → Result (Unit {0}) TraceError → ProofParts → Type 0
 Logs old entries (Ok u) new = IsLogged old entries new
 Logs old entries (Err Memory) new = RunsOutLogging old entries new
-Logs old entries (Err (Target cause)) new = IsBegunIf old.opened (logged entries) 1 new.opened × (new.checker ≡ old.checker)
+Logs old entries (Err (Target cause)) new =
+    IsBegunIf old.opened (logged entries) 1 new.opened × (new.checker ≡ old.checker)
 
 -- 3. What can be logged.
 -- a target can be used that may still count a fault

@@ -40,7 +40,8 @@ pub record LeavesPresent (P : List Clause) (lines : List Line) (verdict : PlainV
   pub stops : StopsAt verdict front back Q
 
 -- The lines in front of the bytes' first fault, that fault, and what the lines are from P on; and what the check returns and leaves present.
-pub record IsResult (format : ProofFormat) (P : List Clause) (bytes : List ℕ) (result : Result CheckVerdict CheckerError) (Q : List Clause) : Type 0 where
+pub record IsResult (format : ProofFormat) (P : List Clause) (bytes : List ℕ)
+    (result : Result CheckVerdict CheckerError) (Q : List Clause) : Type 0 where
   pub lines : List Line
   pub fault : Option ℕ
   pub verdict : PlainVerdict
@@ -51,16 +52,20 @@ pub record IsResult (format : ProofFormat) (P : List Clause) (bytes : List ℕ) 
 
 -- The result is Refutation where the lines refute, and Derivation else.
 abbrev pub IsAccepted : List Clause → List Line → Result CheckVerdict CheckerError → Type 0
-IsAccepted P lines result = (Refutes P lines × (result ≡ Ok Refutation)) ⊎ ((Refutes P lines → ⊥) × (result ≡ Ok Derivation))
+IsAccepted P lines result =
+    (Refutes P lines × (result ≡ Ok Refutation)) ⊎ ((Refutes P lines → ⊥) × (result ≡ Ok Derivation))
 
 -- so it is of what is written for a derivation with variables up to 2^28
 abbrev pub DerivationIsAccepted : ProofFormat → Type 0
 DerivationIsAccepted format =
-    (P : List Clause) (lines : List Line) (bytes : List ℕ) (result : Result CheckVerdict CheckerError) (Q : List Clause) → IsDerivation P lines →
-    AreInRange (plain_lines lines) → Written (plain_encoding format) (plain_lines lines) bytes → IsResult format P bytes result Q →
+    (P : List Clause) (lines : List Line) (bytes : List ℕ) (result : Result CheckVerdict CheckerError)
+    (Q : List Clause) → IsDerivation P lines →
+    AreInRange (plain_lines lines) → Written (plain_encoding format) (plain_lines lines) bytes →
+    IsResult format P bytes result Q →
     IsAccepted P lines result
 
 -- all bytes have one result
 abbrev pub ResultOnce : ProofFormat → Type 0
-ResultOnce format = (P : List Clause) (bytes : List ℕ) (r q : Result CheckVerdict CheckerError) (Q R : List Clause) → IsResult format P bytes r Q →
+ResultOnce format = (P : List Clause) (bytes : List ℕ) (r q : Result CheckVerdict CheckerError) (Q R : List Clause) →
+    IsResult format P bytes r Q →
     IsResult format P bytes q R → r ≡ q

@@ -25,6 +25,9 @@ lines_written encoding lines = flat_map (line_written encoding) lines
 
 -- The lines' bytes were appended; or a beginning of them, as memory ran out, or by a fault that the target counts.
 abbrev pub PutsLines : Encoding → Taken → Result (Unit {0}) WriteError → List ProofLine → Taken → Type 0
-PutsLines encoding old (Ok u) lines new = (new.bytes ≡ old.bytes ++ lines_written encoding lines) × (new.faults ≡ old.faults)
-PutsLines encoding old (Err Memory) lines new = ((n : ℕ) × (new.bytes ≡ old.bytes ++ take n (lines_written encoding lines))) × (new.faults ≡ old.faults)
-PutsLines encoding old (Err (Target e)) lines new = ((n : ℕ) × (new.bytes ≡ old.bytes ++ take n (lines_written encoding lines))) × (new.faults ≡ old.faults + 1)
+PutsLines encoding old (Ok u) lines new =
+    (new.bytes ≡ old.bytes ++ lines_written encoding lines) × (new.faults ≡ old.faults)
+PutsLines encoding old (Err Memory) lines new =
+    ((n : ℕ) × (new.bytes ≡ old.bytes ++ take n (lines_written encoding lines))) × (new.faults ≡ old.faults)
+PutsLines encoding old (Err (Target e)) lines new =
+    ((n : ℕ) × (new.bytes ≡ old.bytes ++ take n (lines_written encoding lines))) × (new.faults ≡ old.faults + 1)

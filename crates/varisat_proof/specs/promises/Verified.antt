@@ -52,7 +52,8 @@ pub record Verifies (format : ProofFormat) (old new : Sources) (verified : Bool)
   pub given : GivesClauses old.cnf clauses new.cnf
   pub left : CheckerState
   pub result_is : Result CheckVerdict CheckerError
-  pub checks : Checks format (at_input (record { clauses = clauses; spent = false }) old.proof) result_is (at_input left new.proof)
+  pub checks : Checks format (at_input (record { clauses = clauses; spent = false }) old.proof) result_is
+      (at_input left new.proof)
   pub verdict : verdict_of result_is ≡ Some verified
 
 -- each of the clauses is equal as a set to one of P
@@ -64,7 +65,8 @@ abbrev pub IsMarkedCheck : List ℕ → Result CheckVerdict CheckerError → Lis
 IsMarkedCheck bytes (Ok v) inputs Q =
     (logged : MarkedLog) × (logged.inputs.clauses ≡ inputs)
     × IsCheckOf (Text true) (state_of [] nothing_logged) bytes (Ok v) (state_of Q logged)
-IsMarkedCheck bytes (Err e) inputs Q = (logged : MarkedLog) × IsCheckOf (Text true) (state_of [] nothing_logged) bytes (Err e) (state_of Q logged)
+IsMarkedCheck bytes (Err e) inputs Q =
+    (logged : MarkedLog) × IsCheckOf (Text true) (state_of [] nothing_logged) bytes (Err e) (state_of Q logged)
 
 -- A marked proof is verified where it refutes and was given only clauses of the text; its wrong lines and bytes are none.
 abbrev pub IsMarkedVerdict : List Clause → Result CheckVerdict CheckerError → List Clause → Bool → Type 0
@@ -78,7 +80,8 @@ pub record VerifiesMarked (old new : Sources) (verified : Bool) : Type 0 where
   pub result_is : Result CheckVerdict CheckerError
   pub inputs : List Clause
   pub left : List Clause
-  pub checks : ChecksBytes {V = CheckVerdict} (λ bytes. IsMarkedCheck bytes result_is inputs left) old.proof result_is new.proof
+  pub checks : ChecksBytes {V = CheckVerdict}
+      (λ bytes. IsMarkedCheck bytes result_is inputs left) old.proof result_is new.proof
   pub verdict : IsMarkedVerdict clauses result_is inputs verified
 
 -- the verdict of either
@@ -95,9 +98,11 @@ FailsToRead old e new =
 
 -- When a check comes to no verdict, but to the error: a new checker does not take the text; or it does, and reading the proof fails.
 pub data FailsCheck (old new : Sources) (e : CheckerError) : Type 0 where
-  AsRead : (left : CheckerState) → AddsText (at_input (record { clauses = []; spent = false }) old.cnf) (Err e) (at_input left new.cnf) →
+  AsRead : (left : CheckerState) →
+      AddsText (at_input (record { clauses = []; spent = false }) old.cnf) (Err e) (at_input left new.cnf) →
       new.proof ≡ old.proof → FailsCheck old new e
-  AsChecked : (clauses : List Clause) → GivesClauses old.cnf clauses new.cnf → FailsToRead old.proof e new.proof → FailsCheck old new e
+  AsChecked : (clauses : List Clause) → GivesClauses old.cnf clauses new.cnf → FailsToRead old.proof e new.proof →
+      FailsCheck old new e
 
 -- the source gave a whole text without a fault, whose clauses no assignment satisfies
 abbrev pub GivesUnsatisfiable : Input → Input → Type 0
@@ -122,11 +127,13 @@ fault_status = 2
 abbrev pub EndsPrinting : ℕ → List ℕ → ℕ → Taken → Taken → Type 0
 EndsPrinting done text status before after =
     ((status ≡ done) × (after.bytes ≡ before.bytes ++ text) × (after.faults ≡ before.faults))
-    ⊎ ((status ≡ fault_status) × ((n : ℕ) × (after.bytes ≡ before.bytes ++ take n text)) × (after.faults ≡ before.faults + 1))
+    ⊎ ((status ≡ fault_status) × ((n : ℕ) × (after.bytes ≡ before.bytes ++ take n text))
+    × (after.faults ≡ before.faults + 1))
 
 -- the verdict is printed with its status, or a beginning of its text where a call of the target fails
 abbrev pub PrintsVerdict : Bool → ℕ → Taken → Taken → Type 0
-PrintsVerdict verified status before after = EndsPrinting (verdict_status verified) (verdict_text verified) status before after
+PrintsVerdict verified status before after =
+    EndsPrinting (verdict_status verified) (verdict_text verified) status before after
 
 -- How the command ends, of which `before` and `after` are what its target took: the check fails, nothing is printed, and the status
 -- is that of a fault; or it comes to a verdict, which is printed.
@@ -137,7 +144,8 @@ EndsCheck format old new status before after =
 
 -- the same, by the sources
 abbrev pub EndsBy : ProofFormat → Input → Input → Input → Input → ℕ → Taken → Taken → Type 0
-EndsBy format cnf proof cnf' proof' status before after = EndsCheck format (sources_of cnf proof) (sources_of cnf' proof') status before after
+EndsBy format cnf proof cnf' proof' status before after =
+    EndsCheck format (sources_of cnf proof) (sources_of cnf' proof') status before after
 
 -- The text has clauses, and a check of the proof's DRAT lines from these on gave the verdict.
 pub record VerifiesDrat (format : ProofFormat) (old new : Sources) (verified : Bool) : Type 0 where
@@ -145,7 +153,8 @@ pub record VerifiesDrat (format : ProofFormat) (old new : Sources) (verified : B
   pub given : GivesClauses old.cnf clauses new.cnf
   pub left : CheckerState
   pub result_is : Result CheckVerdict CheckerError
-  pub checks : ChecksDrat format (at_input (record { clauses = clauses; spent = false }) old.proof) result_is (at_input left new.proof)
+  pub checks : ChecksDrat format (at_input (record { clauses = clauses; spent = false }) old.proof) result_is
+      (at_input left new.proof)
   pub verdict : verdict_of result_is ≡ Some verified
 
 -- how such a check ends
@@ -156,4 +165,5 @@ EndsDrat format old new status before after =
 
 -- the same, by the sources
 abbrev pub EndsByDrat : ProofFormat → Input → Input → Input → Input → ℕ → Taken → Taken → Type 0
-EndsByDrat format cnf proof cnf' proof' status before after = EndsDrat format (sources_of cnf proof) (sources_of cnf' proof') status before after
+EndsByDrat format cnf proof cnf' proof' status before after =
+    EndsDrat format (sources_of cnf proof) (sources_of cnf' proof') status before after

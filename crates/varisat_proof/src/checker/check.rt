@@ -190,7 +190,8 @@ impl<A: Allocator + Copy> Checker<A> {
     /// Takes out the clauses with a literal of the variable, without a check. It takes no memory; a spent checker
     /// refuses it.
     pub fn delete_var(&mut self, var: Var) -> Result<(), CheckerError>
-        ensures taken { self.old.spent ≡ false → (result ≡ Ok tt) × (self.new ≡ record self.old { clauses = without var self.old.clauses }) }
+        ensures taken { self.old.spent ≡ false →
+            (result ≡ Ok tt) × (self.new ≡ record self.old { clauses = without var self.old.clauses }) }
         ensures refused { self.old.spent ≡ true → (result ≡ Err Spent) × (self.new ≡ self.old) }
     {
         if self.spent {
@@ -218,8 +219,11 @@ impl<A: Allocator + Copy> Checker<A> {
 
     /// Adds a clause, if it follows.
     fn add_line(&mut self, clause: &[Lit]) -> Result<bool, AllocError>
-        ensures added { IfOk result (λ added. added ≡ true → Follows self.old.clauses clause.now × (self.new ≡ with_clause self.old clause.now)) }
-        ensures refused { IfOk result (λ added. added ≡ false → (Follows self.old.clauses clause.now → ⊥) × (self.new ≡ self.old)) }
+        ensures added { IfOk result
+            (λ added. added ≡ true →
+            Follows self.old.clauses clause.now × (self.new ≡ with_clause self.old clause.now)) }
+        ensures refused { IfOk result
+            (λ added. added ≡ false → (Follows self.old.clauses clause.now → ⊥) × (self.new ≡ self.old)) }
         ensures spent { self.new.spent ≡ self.old.spent }
     {
         if !self.clauses.follows(clause)? {
@@ -307,7 +311,9 @@ impl<A: Allocator + Copy> Checker<A> {
         kind: LineKind,
         clause: &[Lit],
     ) -> Result<LineStatus, AllocError>
-        ensures status { IfOk result (λ status. (Conflicts self.old.clauses [] → ⊥) → IsDratStatusOf self.old.clauses kind clause.now status self.new.clauses) }
+        ensures status { IfOk result
+            (λ status. (Conflicts self.old.clauses [] → ⊥) →
+            IsDratStatusOf self.old.clauses kind clause.now status self.new.clauses) }
         ensures spent { self.new.spent ≡ self.old.spent }
     {
         let status = take_drat_line(&mut self.clauses, counts, kind, clause)?;
@@ -430,7 +436,8 @@ impl<A: Allocator + Copy> Checker<A> {
         reader: &mut ProofReader<A>,
         count: &mut Count,
     ) -> Result<CheckVerdict, CheckerError>
-        ensures ends { EndsBehind (rules_of rules) (position_of self.old builder.old count.old reader.old) result (state_of self.new.clauses builder.new) }
+        ensures ends { EndsBehind (rules_of rules) (position_of self.old builder.old count.old reader.old) result
+            (state_of self.new.clauses builder.new) }
         ensures spent { self.new.spent ≡ self.old.spent }
     {
         let last = reader.last_fault();
@@ -599,8 +606,10 @@ impl<A: Allocator + Copy> Checker<A> {
         format: ProofFormat,
     ) -> Result<CheckVerdict, CheckerError>
         requires few { (S.input source.old).faults < 2 ^ 64 - 1 }
-        ensures checks { self.old.spent ≡ false → Checks format (at_input self.old (S.input source.old)) result (at_input self.new (S.input source.new)) }
-        ensures refused { self.old.spent ≡ true → (result ≡ Err Spent) × (self.new ≡ self.old) × (source.new ≡ source.old) }
+        ensures checks { self.old.spent ≡ false →
+            Checks format (at_input self.old (S.input source.old)) result (at_input self.new (S.input source.new)) }
+        ensures refused { self.old.spent ≡ true →
+            (result ≡ Err Spent) × (self.new ≡ self.old) × (source.new ≡ source.old) }
         ensures usable { OnOk result (self.new.spent ≡ self.old.spent) }
         ensures spends { IfErr result (λ e. self.new.spent ≡ (self.old.spent || spends e)) }
         ensures exact { IsRightFor (at_input self.old (S.input source.old)) result
@@ -642,7 +651,8 @@ impl<A: Allocator + Copy> Checker<A> {
         requires few { (S.input source.old).faults < 2 ^ 64 - 1 }
         ensures checks { self.old.spent ≡ false → ChecksDrat format (at_input self.old (S.input source.old)) result
             (at_input self.new (S.input source.new)) }
-        ensures refused { self.old.spent ≡ true → (result ≡ Err Spent) × (self.new ≡ self.old) × (source.new ≡ source.old) }
+        ensures refused { self.old.spent ≡ true →
+            (result ≡ Err Spent) × (self.new ≡ self.old) × (source.new ≡ source.old) }
         ensures usable { OnOk result (self.new.spent ≡ self.old.spent) }
         ensures spends { IfErr result (λ e. self.new.spent ≡ (self.old.spent || spends e)) }
         ensures exact { IsRightFor (at_input self.old (S.input source.old)) result
@@ -687,8 +697,10 @@ impl<A: Allocator + Copy> Checker<A> {
         source: &mut S,
     ) -> Result<MarkedReport<A>, CheckerError>
         requires few { (S.input source.old).faults < 2 ^ 64 - 1 }
-        ensures checks { self.old.spent ≡ false → ChecksMarked (at_input self.old (S.input source.old)) result (at_input self.new (S.input source.new)) }
-        ensures refused { self.old.spent ≡ true → (result ≡ Err Spent) × (self.new ≡ self.old) × (source.new ≡ source.old) }
+        ensures checks { self.old.spent ≡ false →
+            ChecksMarked (at_input self.old (S.input source.old)) result (at_input self.new (S.input source.new)) }
+        ensures refused { self.old.spent ≡ true →
+            (result ≡ Err Spent) × (self.new ≡ self.old) × (source.new ≡ source.old) }
         ensures usable { OnOk result (self.new.spent ≡ self.old.spent) }
         ensures spends { IfErr result (λ e. self.new.spent ≡ (self.old.spent || spends e)) }
         ensures exact { IsRightFor (at_input self.old (S.input source.old)) result

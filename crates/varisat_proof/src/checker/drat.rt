@@ -139,7 +139,8 @@ fn take_deleted<A: Allocator + Copy>(
     counts: &mut DratCounts,
     clause: &[Lit],
 ) -> Result<LineStatus, AllocError>
-    ensures { IfOk result (λ status. (Conflicts clauses.old [] → ⊥) → IsDratStatusOf clauses.old Deletes clause.now status clauses.new) }
+    ensures { IfOk result
+        (λ status. (Conflicts clauses.old [] → ⊥) → IsDratStatusOf clauses.old Deletes clause.now status clauses.new) }
 {
     let deletion = clauses.take_out_spare(clause)?;
     counts.add_deletion(deletion);
@@ -153,7 +154,8 @@ pub fn take_drat_line<A: Allocator + Copy>(
     kind: LineKind,
     clause: &[Lit],
 ) -> Result<LineStatus, AllocError>
-    ensures { IfOk result (λ status. (Conflicts clauses.old [] → ⊥) → IsDratStatusOf clauses.old kind clause.now status clauses.new) }
+    ensures { IfOk result
+        (λ status. (Conflicts clauses.old [] → ⊥) → IsDratStatusOf clauses.old kind clause.now status clauses.new) }
 {
     counts.add_line();
     match kind {

@@ -112,7 +112,9 @@ impl<A: Allocator + Copy> ReportBuilder<A> {
 
     /// A core is reported.
     pub fn push_core(&mut self, literals: &[Lit]) -> Result<(), AllocError>
-        ensures { OnOk result (self.new ≡ record self.old { cores = self.old.cores ++ (length self.old.inputs.clauses, literals.now) ∷ [] }) }
+        ensures { OnOk result
+            (self.new
+            ≡ record self.old { cores = self.old.cores ++ (length self.old.inputs.clauses, literals.now) ∷ [] }) }
     {
         let copy = Vec::from_slice(self.alloc, literals)?;
         self.cores.push((self.inputs.len(), copy))?;

@@ -192,7 +192,8 @@ impl<A: Allocator + Copy> ProofReader<A> {
     fn take(&mut self, symbol: Symbol) -> Result<Event, AllocError>
         requires small { IsSmall symbol }
         ensures event { IfOk result (λ e. e ≡ event self.old.encoding self.old.place.inside symbol) }
-        ensures place { OnOk result (self.new ≡ record self.old { place = moved self.old.encoding self.old.place symbol }) }
+        ensures place { OnOk result
+            (self.new ≡ record self.old { place = moved self.old.encoding self.old.place symbol }) }
     {
         match self.encoding {
             Encoding::Text { marked } => {

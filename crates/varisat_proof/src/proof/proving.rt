@@ -178,7 +178,8 @@ impl<W: ProofTarget, A: Allocator + Copy> Proof<W, A> {
     /// Opens a proof. It takes no memory.
     pub fn write_proof(&mut self, target: W, format: ProofFormat)
         requires { self.old.opened ≡ None }
-        ensures { self.new ≡ record self.old { opened = Some (record { format = format; taken = W.taken target; searched = false }) } }
+        ensures { self.new
+            ≡ record self.old { opened = Some (record { format = format; taken = W.taken target; searched = false }) } }
     {
         self.open = Some(OpenProof {
             target,
@@ -189,7 +190,8 @@ impl<W: ProofTarget, A: Allocator + Copy> Proof<W, A> {
 
     /// Starts a checker, with no clauses, where none runs. It takes no memory.
     pub fn begin_checking(&mut self, alloc: A)
-        ensures begun { self.old.checker ≡ None → self.new ≡ record self.old { checker = Some (record { clauses = []; spent = false }) } }
+        ensures begun { self.old.checker ≡ None →
+            self.new ≡ record self.old { checker = Some (record { clauses = []; spent = false }) } }
         ensures stays { is_some self.old.checker ≡ true → self.new ≡ self.old }
     {
         if self.checker.is_none() {

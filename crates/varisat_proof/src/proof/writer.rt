@@ -172,7 +172,8 @@ pub(crate) fn write_marked<W: ProofTarget, A: Allocator + Copy>(
     literals: &[Lit],
 ) -> Result<(), WriteError>
     requires { (W.taken target.old).faults < 2 ^ 64 - 1 }
-    ensures { PutsLines encoding (W.taken target.old) result (marked_line encoding (line_of_kind kind literals.now)) (W.taken target.new) }
+    ensures { PutsLines encoding (W.taken target.old) result (marked_line encoding (line_of_kind kind literals.now))
+        (W.taken target.new) }
 {
     match encoding {
         Encoding::Text { marked: true } => write_line(target, buffer, encoding, kind, literals),
@@ -188,7 +189,8 @@ pub(crate) fn write_entries<W: ProofTarget, A: Allocator + Copy>(
     step: &ProofStep<'_>,
 ) -> Result<(), WriteError>
     requires { (W.taken target.old).faults < 2 ^ 64 - 1 }
-    ensures { PutsLines encoding (W.taken target.old) result (logged_lines encoding (entries_of step.now)) (W.taken target.new) }
+    ensures { PutsLines encoding (W.taken target.old) result (logged_lines encoding (entries_of step.now))
+        (W.taken target.new) }
 {
     match step {
         ProofStep::AtClause { clause } => {
@@ -213,7 +215,8 @@ pub fn write_step<W: ProofTarget, A: Allocator + Copy>(
     step: &ProofStep<'_>,
 ) -> Result<(), WriteError>
     requires { (W.taken target.old).faults < 2 ^ 64 - 1 }
-    ensures { PutsLines (Text false) (W.taken target.old) result (plain_lines (step_lines step.now)) (W.taken target.new) }
+    ensures { PutsLines (Text false) (W.taken target.old) result (plain_lines (step_lines step.now))
+        (W.taken target.new) }
 {
     write_entries(target, buffer, Encoding::Text { marked: false }, step)
 }

@@ -50,8 +50,10 @@ impl<A: Allocator + Copy> Assignment<A> {
     /// nothing.
     pub fn set_var_count(&mut self, count: usize) -> Result<(), AllocError>
         requires { length self.old.current ≤ count }
-        ensures current { OnOk result (self.new.current ≡ self.old.current ++ replicate (count - length self.old.current) None) }
-        ensures last { OnOk result (self.new.last ≡ self.old.last ++ replicate (count - length self.old.current) false) }
+        ensures current { OnOk result
+            (self.new.current ≡ self.old.current ++ replicate (count - length self.old.current) None) }
+        ensures last { OnOk result
+            (self.new.last ≡ self.old.last ++ replicate (count - length self.old.current) false) }
         ensures refused { OnErr result (self.new ≡ self.old) }
     {
         // There are twice as many literals.
@@ -83,7 +85,8 @@ impl<A: Allocator + Copy> Assignment<A> {
     pub fn release_var(&mut self, var: Var)
         requires { var < length self.old.current }
         ensures count { length self.old.last ≡ length self.old.current }
-        ensures released { self.new ≡ without_value var (is_true_value (slice_index_or self.old.current var None)) self.old }
+        ensures released { self.new
+            ≡ without_value var (is_true_value (slice_index_or self.old.current var None)) self.old }
     {
         self.last_value[var.index()] = self.assignment[var.index()] == Some(true);
         self.unassign_var(var);
@@ -149,7 +152,8 @@ impl<A: Allocator + Copy> Assignment<A> {
     /// Makes the literal true.
     pub fn assign_lit(&mut self, lit: Lit)
         requires { variable_of lit < length self.old.current }
-        ensures { self.new ≡ record self.old { current = slice_set self.old.current (variable_of lit) (Some (polarity_of lit)) } }
+        ensures { self.new
+            ≡ record self.old { current = slice_set self.old.current (variable_of lit) (Some (polarity_of lit)) } }
     {
         self.set_var(lit.var(), Some(lit.is_positive()));
     }

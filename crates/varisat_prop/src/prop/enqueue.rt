@@ -20,7 +20,8 @@ pub fn enqueue_assignment<A: Allocator + Copy>(
     // The literal's level and depth fit its node.
     requires level { length trail.old.decisions < 2 ^ 32 }
     requires depth { length trail.old.literals < 2 ^ 32 - 1 }
-    ensures view { OnOk result (Enqueues assignment.old assignment.new trail.old trail.new impl_graph.old impl_graph.new lit reason) }
+    ensures view { OnOk result
+        (Enqueues assignment.old assignment.new trail.old trail.new impl_graph.old impl_graph.new lit reason) }
     ensures last { OnOk result (assignment.new.last ≡ assignment.old.last) }
 {
     trail.push(lit)?;

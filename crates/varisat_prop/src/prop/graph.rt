@@ -97,7 +97,8 @@ impl<A: Allocator + Copy> ImplGraph<A> {
     /// Raises the count of variables. The new ones have nodes of reason Unit, level 0 and depth 0.
     pub fn set_var_count(&mut self, count: usize) -> Result<(), AllocError>
         requires { length self.old.nodes.items ≤ count }
-        ensures { OnOk result (self.new.nodes.items ≡ self.old.nodes.items ++ replicate (count - length self.old.nodes.items) no_node) }
+        ensures { OnOk result
+            (self.new.nodes.items ≡ self.old.nodes.items ++ replicate (count - length self.old.nodes.items) no_node) }
     {
         let node = ImplNode {
             reason: Reason::Unit,
@@ -135,7 +136,9 @@ impl<A: Allocator + Copy> ImplGraph<A> {
     /// Gives the variable another reason.
     pub fn update_reason(&mut self, var: Var, reason: Reason)
         requires { var < length self.old.nodes.items }
-        ensures { self.new.nodes.items ≡ slice_set self.old.nodes.items var (record (slice_index_or self.old.nodes.items var no_node) { reason = reason }) }
+        ensures { self.new.nodes.items
+            ≡ slice_set self.old.nodes.items var
+            (record (slice_index_or self.old.nodes.items var no_node) { reason = reason }) }
     {
         self.nodes[var.index()].reason = reason;
     }
@@ -144,7 +147,9 @@ impl<A: Allocator + Copy> ImplGraph<A> {
     pub fn update_depth(&mut self, var: Var, depth: usize)
         requires known { var < length self.old.nodes.items }
         requires small { depth < 2 ^ 32 }
-        ensures { self.new.nodes.items ≡ slice_set self.old.nodes.items var (record (slice_index_or self.old.nodes.items var no_node) { depth = depth }) }
+        ensures { self.new.nodes.items
+            ≡ slice_set self.old.nodes.items var
+            (record (slice_index_or self.old.nodes.items var no_node) { depth = depth }) }
     {
         self.nodes[var.index()].depth = depth as u32;
     }
@@ -152,7 +157,8 @@ impl<A: Allocator + Copy> ImplGraph<A> {
     /// Notes that the variable is a unit that was taken off the trail.
     pub fn update_removed_unit(&mut self, var: Var)
         requires { var < length self.old.nodes.items }
-        ensures { self.new.nodes.items ≡ slice_set self.old.nodes.items var (removed_unit (slice_index_or self.old.nodes.items var no_node)) }
+        ensures { self.new.nodes.items
+            ≡ slice_set self.old.nodes.items var (removed_unit (slice_index_or self.old.nodes.items var no_node)) }
     {
         let node = &mut self.nodes[var.index()];
         node.reason = Reason::Unit;

@@ -69,7 +69,8 @@ fn find_other<A: Allocator + Copy>(lits: &mut [Lit], assignment: &Assignment<A>)
     requires within { IsInRange assignment.now.current lits.old }
     ensures rearranged { IsRearranged lits.old lits.new }
     ensures first { literal_in lits.new 0 ≡ literal_in lits.old 0 }
-    ensures found { MatchOption result (HasNoOther assignment.now.current lits.old lits.new) (HasOther assignment.now.current lits.new) }
+    ensures found { MatchOption result (HasNoOther assignment.now.current lits.old lits.new)
+        (HasOther assignment.now.current lits.new) }
 {
     for place in 2..lits.len() {
         let lit = lits[place];
@@ -206,11 +207,14 @@ fn visit_watches<A: Allocator + Copy>(
     requires inside { lit < length watchlists.old.lists }
     requires next { IsNext (with_watches watchlists.old lit watches.old)
         (view_of alloc.old binary.now assignment.old trail.old graph.old) lit }
-    ensures propagates { OnOk result (PartsPropagate alloc.old alloc.new binary.now assignment.old assignment.new trail.old trail.new graph.old graph.new) }
-    ensures keeps { OnOk result (PartsKeep alloc.old alloc.new binary.now assignment.old assignment.new trail.old trail.new graph.old graph.new) }
+    ensures propagates { OnOk result
+        (PartsPropagate alloc.old alloc.new binary.now assignment.old assignment.new trail.old trail.new graph.old graph.new) }
+    ensures keeps { OnOk result
+        (PartsKeep alloc.old alloc.new binary.now assignment.old assignment.new trail.old trail.new graph.old graph.new) }
     ensures next { IfOk result (λ v. IsNext (with_watches watchlists.new lit (take v.kept watches.new))
         (view_of alloc.new binary.now assignment.new trail.new graph.new) lit) }
-    ensures ends { IfOk result (λ v. EndsPropagation WatchesHoldNext (view_of alloc.new binary.now assignment.new trail.new graph.new) v.end) }
+    ensures ends { IfOk result
+        (λ v. EndsPropagation WatchesHoldNext (view_of alloc.new binary.now assignment.new trail.new graph.new) v.end) }
     ensures lists { OnOk result (length watchlists.new.lists ≡ length watchlists.old.lists) }
     ensures count { length watches.new ≡ length watches.old }
     ensures within { IfOk result (λ v. v.kept ≤ length watches.old) }
@@ -262,10 +266,15 @@ pub(crate) fn visit_list<A: Allocator + Copy>(
     requires inside { lit < length watchlists.old.lists }
     requires next { IsNext (with_watches watchlists.old lit list.old)
         (view_of alloc.old binary.now assignment.old trail.old graph.old) lit }
-    ensures propagates { OnOk result (PartsPropagate alloc.old alloc.new binary.now assignment.old assignment.new trail.old trail.new graph.old graph.new) }
-    ensures keeps { OnOk result (PartsKeep alloc.old alloc.new binary.now assignment.old assignment.new trail.old trail.new graph.old graph.new) }
-    ensures next { OnOk result (IsNext (with_watches watchlists.new lit list.new) (view_of alloc.new binary.now assignment.new trail.new graph.new) lit) }
-    ensures ends { IfOk result (EndsPropagation WatchesHoldNext (view_of alloc.new binary.now assignment.new trail.new graph.new)) }
+    ensures propagates { OnOk result
+        (PartsPropagate alloc.old alloc.new binary.now assignment.old assignment.new trail.old trail.new graph.old graph.new) }
+    ensures keeps { OnOk result
+        (PartsKeep alloc.old alloc.new binary.now assignment.old assignment.new trail.old trail.new graph.old graph.new) }
+    ensures next { OnOk result
+        (IsNext (with_watches watchlists.new lit list.new)
+        (view_of alloc.new binary.now assignment.new trail.new graph.new) lit) }
+    ensures ends { IfOk result
+        (EndsPropagation WatchesHoldNext (view_of alloc.new binary.now assignment.new trail.new graph.new)) }
     ensures lists { OnOk result (length watchlists.new.lists ≡ length watchlists.old.lists) }
 {
     let count = list.count as usize;
@@ -296,8 +305,10 @@ pub fn propagate_long<A: Allocator + Copy>(
     lit: Lit,
 ) -> Result<Result<(), Conflict>, AllocError>
     requires { IsNext watchlists.old (view_of alloc.old binary.now assignment.old trail.old graph.old) lit }
-    ensures goes { OnOk result (PartsGoOn alloc.old alloc.new binary.now assignment.old assignment.new trail.old trail.new graph.old graph.new watchlists.new) }
-    ensures ends { IfOk result (EndsPropagation WatchesHoldNext (view_of alloc.new binary.now assignment.new trail.new graph.new)) }
+    ensures goes { OnOk result
+        (PartsGoOn alloc.old alloc.new binary.now assignment.old assignment.new trail.old trail.new graph.old graph.new watchlists.new) }
+    ensures ends { IfOk result
+        (EndsPropagation WatchesHoldNext (view_of alloc.new binary.now assignment.new trail.new graph.new)) }
 {
     let mut list = watchlists.take_list(lit);
     let end = visit_list(

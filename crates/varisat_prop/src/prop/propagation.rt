@@ -28,13 +28,15 @@ pub fn enable_watchlists<A: Allocator + Copy>(
     alloc: &ClauseAlloc<A>,
 ) -> Result<(), AllocError>
     requires sound { IsSound alloc.now }
-    requires within { (c : Clause) → c ∈ literals_of (live_clauses alloc.now) → (l : Literal) → l ∈ c → opposite l < length watchlists.old.lists }
+    requires within { (c : Clause) → c ∈ literals_of (live_clauses alloc.now) → (l : Literal) → l ∈ c →
+        opposite l < length watchlists.old.lists }
     requires distinct { (c : Clause) → c ∈ literals_of (live_clauses alloc.now) → IsDistinct c }
     requires empty { watchlists.old.enabled ≡ false → (x : Literal) → watches_of watchlists.old x ≡ [] }
     ensures enabled { OnOk result (watchlists.new.enabled ≡ true) }
     ensures count { OnOk result (length watchlists.new.lists ≡ length watchlists.old.lists) }
     ensures same { OnOk result (watchlists.old.enabled ≡ true → watchlists.new ≡ watchlists.old) }
-    ensures watching { OnOk result (watchlists.old.enabled ≡ false → IsWatching watchlists.new (live_clauses alloc.now)) }
+    ensures watching { OnOk result
+        (watchlists.old.enabled ≡ false → IsWatching watchlists.new (live_clauses alloc.now)) }
 {
     if watchlists.enabled() {
         return Ok(());
@@ -57,8 +59,10 @@ fn propagate_lit<A: Allocator + Copy>(
     lit: Lit,
 ) -> Result<Result<(), Conflict>, AllocError>
     requires { IsNext watchlists.old (view_of alloc.old binary.now assignment.old trail.old graph.old) lit }
-    ensures goes { OnOk result (PartsGoOn alloc.old alloc.new binary.now assignment.old assignment.new trail.old trail.new graph.old graph.new watchlists.new) }
-    ensures ends { IfOk result (EndsPropagation IsNextPropagated (view_of alloc.new binary.now assignment.new trail.new graph.new)) }
+    ensures goes { OnOk result
+        (PartsGoOn alloc.old alloc.new binary.now assignment.old assignment.new trail.old trail.new graph.old graph.new watchlists.new) }
+    ensures ends { IfOk result
+        (EndsPropagation IsNextPropagated (view_of alloc.new binary.now assignment.new trail.new graph.new)) }
 {
     // Both lists are asked for before either is gone through, so that they are waited for together.
     let mut list = watchlists.take_list(lit);
@@ -88,13 +92,17 @@ pub fn propagate<A: Allocator + Copy>(
     watchlists: &mut Watchlists<A>,
 ) -> Result<Result<(), Conflict>, AllocError>
     requires well { WellFormed (view_of alloc.old binary.now assignment.old trail.old graph.old) }
-    requires propagated { IsPropagated watchlists.old (view_of alloc.old binary.now assignment.old trail.old graph.old) }
+    requires propagated { IsPropagated watchlists.old
+        (view_of alloc.old binary.now assignment.old trail.old graph.old) }
     // Each literal that was added has a clause as its reason, whose other literals are false and stand before it.
-    ensures propagates { OnOk result (PartsPropagate alloc.old alloc.new binary.now assignment.old assignment.new trail.old trail.new graph.old graph.new) }
-    ensures propagated { OnOk result (IsPropagated watchlists.new (view_of alloc.new binary.now assignment.new trail.new graph.new)) }
+    ensures propagates { OnOk result
+        (PartsPropagate alloc.old alloc.new binary.now assignment.old assignment.new trail.old trail.new graph.old graph.new) }
+    ensures propagated { OnOk result
+        (IsPropagated watchlists.new (view_of alloc.new binary.now assignment.new trail.new graph.new)) }
     // At a conflict all literals of the named clause are false. Else no clause is false, none leaves a literal that
     // isn't true, and each literal was propagated.
-    ensures ends { IfOk result (EndsPropagation IsFullyPropagated (view_of alloc.new binary.now assignment.new trail.new graph.new)) }
+    ensures ends { IfOk result
+        (EndsPropagation IsFullyPropagated (view_of alloc.new binary.now assignment.new trail.new graph.new)) }
     ensures last { OnOk result (assignment.new.last ≡ assignment.old.last) }
     // Each clause of the store, also a deleted one, keeps its place, its header and its number of literals.
     ensures store { OnOk result (KeepsShapes alloc.old alloc.new) }

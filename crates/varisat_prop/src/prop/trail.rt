@@ -56,7 +56,8 @@ impl<A: Allocator + Copy> Trail<A> {
     /// The first literal that was not propagated yet, which is taken as propagated from now on.
     pub fn pop_queue(&mut self) -> Option<Lit>
         ensures head { result ≡ slice_get self.old.literals self.old.queue_head }
-        ensures taken { MatchOption result (self.new ≡ self.old) (λ l. self.new ≡ record self.old { queue_head = self.old.queue_head + 1 }) }
+        ensures taken { MatchOption result (self.new ≡ self.old)
+            (λ l. self.new ≡ record self.old { queue_head = self.old.queue_head + 1 }) }
     {
         let head = self.queue_head()?;
         self.queue_head_pos += 1;
@@ -100,7 +101,8 @@ impl<A: Allocator + Copy> Trail<A> {
 
     /// Begins a level. Its decision is the next literal.
     pub fn new_decision_level(&mut self) -> Result<(), AllocError>
-        ensures { OnOk result (self.new ≡ record self.old { decisions = self.old.decisions ++ length self.old.literals ∷ [] }) }
+        ensures { OnOk result
+            (self.new ≡ record self.old { decisions = self.old.decisions ++ length self.old.literals ∷ [] }) }
     {
         self.decisions.push(self.trail.len())?;
         Ok(())

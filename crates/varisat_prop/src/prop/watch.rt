@@ -90,7 +90,9 @@ impl<A: Allocator + Copy> Watchlists<A> {
     pub fn set_var_count(&mut self, count: usize) -> Result<(), AllocError>
         requires raised { length self.old.lists ≤ 2 * count }
         requires small { count ≤ variable_limit }
-        ensures { OnOk result (self.new ≡ record self.old { lists = self.old.lists ++ replicate (2 * count - length self.old.lists) [] }) }
+        ensures { OnOk result
+            (self.new
+            ≡ record self.old { lists = self.old.lists ++ replicate (2 * count - length self.old.lists) [] }) }
     {
         let old_count = self.watches.len();
         let mut added = 0;

@@ -48,7 +48,12 @@ IsLive s k = slice_index_or s.live k false ≡ true
 
 -- the clause at the place is live no longer, and a line deletes it if it was
 abbrev pub removed : State → ℕ → State
-removed s k = record s { live = slice_set s.live k false; lines = s.lines ++ deletion (slice_index_or s.live k false) (clause_at s k) }
+removed s k =
+    record s {
+      live = slice_set s.live k false;
+      lines =
+          s.lines ++ deletion (slice_index_or s.live k false) (clause_at s k);
+    }
 
 -- one more clause on the stack
 abbrev pub saved : State → Clause → State
@@ -80,7 +85,8 @@ pub record Reduces (P : List Clause) (s : State) : Type 0 where
   -- what satisfies them satisfies what is live
   pub keeps : (a : Assignment) → SatisfiesAll a P → Models a s
   -- values that satisfy what is live are extended to ones that satisfy them
-  pub extends : (vs : List Bool) → s.var_count ≤ length vs → Models (assignment_of vs) s → SatisfiesAll (assignment_of (extended s.stack vs)) P
+  pub extends : (vs : List Bool) → s.var_count ≤ length vs → Models (assignment_of vs) s →
+      SatisfiesAll (assignment_of (extended s.stack vs)) P
   -- the lines lead from them to what is live
   pub leads : LeadsTo P s.lines (live_clauses s)
   -- no literal is new

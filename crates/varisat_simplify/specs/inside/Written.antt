@@ -24,7 +24,8 @@ with_deletion h k = record h { lines = h.lines ++ Delete (slice_index_or h.claus
 
 -- The line by its number: twice the place of the clause that it adds, and one more for a deletion.
 abbrev pub line_at : List Clause → ℕ → Line
-line_at cs step = if nat_eq (step % 2) 0 then Add (slice_index_or cs (step / 2) []) else Delete (slice_index_or cs (step / 2) [])
+line_at cs step =
+    if nat_eq (step % 2) 0 then Add (slice_index_or cs (step / 2) []) else Delete (slice_index_or cs (step / 2) [])
 
 -- the clause of a line
 abbrev pub clause_of : Line → Clause

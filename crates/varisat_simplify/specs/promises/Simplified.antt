@@ -46,7 +46,8 @@ pub record IsMadeOf (f g : Formula) (stack : List Clause) (lines : List Line) : 
 -- Behind the lines each derivation from the clauses of g is one from those of f.
 abbrev pub DerivesBehind : Type 0
 DerivesBehind =
-    (f g : Formula) (stack : List Clause) (lines more : List Line) → IsMadeOf f g stack lines → IsDerivation g.clauses more →
+    (f g : Formula) (stack : List Clause) (lines more : List Line) → IsMadeOf f g stack lines →
+    IsDerivation g.clauses more →
     IsDerivation f.clauses (lines ++ more)
 
 -- Behind the lines each refutation of g is one of f.

@@ -33,4 +33,5 @@ avoids frozen (l ∷ c) = not (slice_index_or frozen (l / 2) false)
 -- no extension changes the value of a variable that is flagged
 abbrev pub KeepsFrozen : List Bool → List Clause → Type 0
 KeepsFrozen frozen stack =
-    (vs : List Bool) (v : ℕ) → slice_index_or frozen v false ≡ true → slice_index_or (extended stack vs) v false ≡ slice_index_or vs v false
+    (vs : List Bool) (v : ℕ) → slice_index_or frozen v false ≡ true →
+    slice_index_or (extended stack vs) v false ≡ slice_index_or vs v false

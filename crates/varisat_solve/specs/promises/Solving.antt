@@ -28,7 +28,8 @@ use Rattle.varisat_solve.specs.declared.deciding.ProgramOptions.{ProgramOptions}
 
 -- the refusal for a fault of a text: memory that ran out in the reader is returned as in any call
 abbrev pub IsRefusedText : DimacsError → SolverError → Type 0
-IsRefusedText fault e = ((fault.kind ≡ kind.OutOfMemory) × (e ≡ OutOfMemory)) ⊎ ((fault.kind ≢ kind.OutOfMemory) × (e ≡ Dimacs fault))
+IsRefusedText fault e =
+    ((fault.kind ≡ kind.OutOfMemory) × (e ≡ OutOfMemory)) ⊎ ((fault.kind ≢ kind.OutOfMemory) × (e ≡ Dimacs fault))
 
 -- the refusal for a line of a proof that is not written
 abbrev pub line_refusal : WriteError → SolverError
@@ -49,13 +50,16 @@ pub record Made (old new : Input) : Type 0 where
   pub made : IsMadeOf formula into stack lines
 
 -- The target took the lines, if there is one, or a beginning of them.
-abbrev pub TakesLead : {W : Type 0} → (W → Taken) → ProofFormat → Option W → List Line → Result (Unit {0}) WriteError → Option W → Type 0
+abbrev pub TakesLead : {W : Type 0} → (W → Taken) → ProofFormat → Option W → List Line → Result (Unit {0}) WriteError →
+    Option W → Type 0
 TakesLead taken format None lines r led = (r ≡ Ok tt) × (led ≡ None)
 TakesLead taken format (Some target) lines r None = ⊥
-TakesLead taken format (Some target) lines r (Some led) = PutsLines (encoding_of format) (taken target) r (plain_lines lines) (taken led)
+TakesLead taken format (Some target) lines r (Some led) =
+    PutsLines (encoding_of format) (taken target) r (plain_lines lines) (taken led)
 
 -- The conclusion is one for the clauses, and the target has a proof of that, where there is one.
-pub record Concluded {W : Type 0} (taken : W → Taken) (format : ProofFormat) (max_steps : ℕ) (P : List Clause) (target back : Option W)
+pub record Concluded {W : Type 0} (taken : W → Taken) (format : ProofFormat) (max_steps : ℕ) (P : List Clause)
+    (target back : Option W)
     (conclusion : Conclusion) : Type 0 where
   pub found : IsConclusion max_steps P conclusion
   pub proven : IsProvenIf taken format P conclusion target back
@@ -64,22 +68,30 @@ pub record Concluded {W : Type 0} (taken : W → Taken) (format : ProofFormat) (
 -- as a model is listed; or as its proof is closed.
 pub data FailsOver {W : Type 0} (taken : W → Taken) (s : State) (P : List Clause) (e : SolverError) : Type 0 where
   AsAdded : (t : State) → AddsFormula s P (Err e) t → FailsOver taken s P e
-  AsSearched : (t u : State) → AddsFormula s P (Ok tt) t → Solves by_state t (Err e) u → e ≢ Interrupted → FailsOver taken s P e
-  AsListed : (t u : State) → AddsFormula s P (Ok tt) t → Solves by_state t (Ok true) u → e ≡ OutOfMemory → FailsOver taken s P e
-  AsClosed : (t u v : State) (c : Conclusion) (back : W) → AddsFormula s P (Ok tt) t → Concludes t c u → ClosesProof taken u (Err (e, back)) v →
+  AsSearched : (t u : State) → AddsFormula s P (Ok tt) t → Solves by_state t (Err e) u → e ≢ Interrupted →
+      FailsOver taken s P e
+  AsListed : (t u : State) → AddsFormula s P (Ok tt) t → Solves by_state t (Ok true) u → e ≡ OutOfMemory →
+      FailsOver taken s P e
+  AsClosed : (t u v : State) (c : Conclusion) (back : W) → AddsFormula s P (Ok tt) t → Concludes t c u →
+      ClosesProof taken u (Err (e, back)) v →
       FailsOver taken s P e
 
 -- When deciding a text fails whose formula is simplified first: the text has a fault, or its source, or is not kept; there is no memory
 -- to simplify; the lines that lead to what it is made into are not written; deciding that fails, by a new solver behind these lines; or it
 -- has a model, and there is no memory to extend that.
-pub data FailsSimplified {W : Type 0} (taken : W → Taken) (o : SolveOptions) (target : Option W) (old new : Input) (e : SolverError) : Type 0 where
-  AsParsed : (fault : DimacsError) → Parses old (Err fault) new → IsRefusedText fault e → FailsSimplified taken o target old new e
+pub data FailsSimplified {W : Type 0} (taken : W → Taken) (o : SolveOptions) (target : Option W) (old new : Input)
+    (e : SolverError) : Type 0 where
+  AsParsed : (fault : DimacsError) → Parses old (Err fault) new → IsRefusedText fault e →
+      FailsSimplified taken o target old new e
   AsSimplified : (f : Formula) → Parses old (Ok f) new → e ≡ OutOfMemory → FailsSimplified taken o target old new e
-  AsLed : (m : Made old new) (fault : WriteError) (led : Option W) → TakesLead taken o.format target m.lines (Err fault) led → e ≡ line_refusal fault →
+  AsLed : (m : Made old new) (fault : WriteError) (led : Option W) →
+      TakesLead taken o.format target m.lines (Err fault) led → e ≡ line_refusal fault →
       FailsSimplified taken o target old new e
   AsDecided : (m : Made old new) (led : Option W) → TakesLead taken o.format target m.lines (Ok tt) led →
-      FailsOver taken (prepared taken o.format o.check o.max_steps led) m.into.clauses e → FailsSimplified taken o target old new e
-  AsExtended : (m : Made old new) (led : Option W) → TakesLead taken o.format target m.lines (Ok tt) led → (model : List Literal) →
+      FailsOver taken (prepared taken o.format o.check o.max_steps led) m.into.clauses e →
+      FailsSimplified taken o target old new e
+  AsExtended : (m : Made old new) (led : Option W) → TakesLead taken o.format target m.lines (Ok tt) led →
+      (model : List Literal) →
       IsModel m.into.clauses model → e ≡ OutOfMemory → FailsSimplified taken o target old new e
 
 -- The formula is simplified first, if that is wanted, and unless a proof has lines for the clauses of the text.
@@ -90,7 +102,9 @@ FailsFirst taken o target old new e =
 
 -- What the program's `solve` comes to: deciding fails, nothing is printed, and the status is that of a fault; or the text is decided, with a
 -- proof from its own clauses, and the conclusion for these is printed.
-abbrev pub SolvesFirst : {W : Type 0} → (W → Taken) → ProgramOptions → Input → Input → Option W → Option W → Taken → Taken → ℕ → Type 0
+abbrev pub SolvesFirst : {W : Type 0} → (W → Taken) → ProgramOptions → Input → Input → Option W → Option W → Taken →
+    Taken → ℕ → Type 0
 SolvesFirst taken o old new target back before printed status =
     ((error : SolverError) × FailsFirst taken o target old new error × (status ≡ fault_status) × (printed ≡ before))
-    ⊎ ((conclusion : Conclusion) × DecidesBy taken o.search old new target back conclusion × Prints conclusion status before printed)
+    ⊎ ((conclusion : Conclusion) × DecidesBy taken o.search old new target back conclusion
+    × Prints conclusion status before printed)

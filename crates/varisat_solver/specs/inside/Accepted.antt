@@ -23,22 +23,26 @@ KeepsValidity old new = new ≡ record old { sat_state = new.sat_state; formula_
 -- Once the names of the clause are in use, the search y has at most as many variables as there are identities.
 abbrev pub IsWithinIdentities : {A : Type 0} → Clause → TracerState → Context A → Context A → Type 0
 IsWithinIdentities d p x y =
-    (s : State) → SpacesFit (spaces_with p.tables p.proof.checker x) s → length y.assignment.current ≤ (name_all d s.naming).made
+    (s : State) → SpacesFit (spaces_with p.tables p.proof.checker x) s →
+    length y.assignment.current ≤ (name_all d s.naming).made
 
 -- The clause was accepted: the journal goes on with it, and then with lines, and so does what a proof logged. Identities that are
 -- new have variables then.
 abbrev pub RepresentsOnceAccepted : {A : Type 0} → Clause → TracerState → Context A → TracerState → Context A → Type 0
 RepresentsOnceAccepted d p x q y =
     (s : State) → SpacesFit (spaces_with p.tables p.proof.checker x) s →
-    (v : Verdict) × (logged : List Entry) × (variables : ℕ → Option ℕ) × VerdictAfter s.clauses (identity_literals s d) s.verdict v
+    (v : Verdict) × (logged : List Entry) × (variables : ℕ → Option ℕ)
+    × VerdictAfter s.clauses (identity_literals s d) s.verdict v
     × LogsStaying 0 (s.logged ++ Accepts (identity_literals s d) ∷ []) logged
     × KeepVariables s.naming.made s.variables variables × LogsToProof variables s.logged logged p.proof q.proof
     × SpacesFit (spaces_with q.tables q.proof.checker y)
-    (with_variables variables (with_entries logged (append_clause (identity_literals s d) v (with_naming (name_all d s.naming) s))))
+    (with_variables variables
+    (with_entries logged (append_clause (identity_literals s d) v (with_naming (name_all d s.naming) s))))
 
 -- The list is assumed in place of the one before, and the journal goes on with it, and so does what a proof logged. Identities
 -- that are new have variables then.
-abbrev pub RepresentsOnceAssumed : {A : Type 0} → List Literal → TracerState → Context A → TracerState → Context A → Type 0
+abbrev pub RepresentsOnceAssumed : {A : Type 0} → List Literal → TracerState → Context A → TracerState → Context A →
+    Type 0
 RepresentsOnceAssumed d p x q y =
     (s : State) → SpacesFit (spaces_with p.tables p.proof.checker x) s →
     (variables : ℕ → Option ℕ) × KeepVariables s.naming.made s.variables variables

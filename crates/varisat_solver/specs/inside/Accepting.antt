@@ -32,11 +32,18 @@ mode_of sampling.Hide = Sample
 -- The names of the tables, as if global variables were identities, each used once.
 abbrev pub naming_of : Tables → Naming
 naming_of t =
-    record { made = length t.kept; names = at t.users.forward; watermark = length t.users.forward; modes = λ x. mode_of (data_at t.kept x).sampling_mode }
+    record {
+      made = length t.kept;
+      names = at t.users.forward;
+      watermark = length t.users.forward;
+      modes =
+          λ x. mode_of (data_at t.kept x).sampling_mode;
+    }
 
 -- The name is free and below the watermark, and none of the literals has it: once these were named, it comes into use alone.
 abbrev pub ComesAlone : Tables → List Literal → ℕ → Type 0
-ComesAlone t d u = (u < length t.users.forward) × (at t.users.forward u ≡ None) × ((l : Literal) → l ∈ d → variable_of l ≢ u)
+ComesAlone t d u =
+    (u < length t.users.forward) × (at t.users.forward u ≡ None) × ((l : Literal) → l ∈ d → variable_of l ≢ u)
 
 -- So many come into use alone where the literals are named: beside them are made those that are passed on the way up from the watermark.
 abbrev pub CountsAlone : Tables → List Literal → ℕ → Type 0
@@ -73,8 +80,10 @@ pub record AreJoined (clause : List Literal) (old new : Tables) : Type 0 where
   pub count : length new.kept ≡ length old.kept
   pub rest : (x : ℕ) → data_at new.kept x ≡ record (data_at old.kept x) { isolated = (data_at new.kept x).isolated }
   pub fallen : (x : ℕ) → (data_at new.kept x).isolated ≡ true → (data_at old.kept x).isolated ≡ true
-  pub joined : 1 < length clause → (l : Literal) (x : ℕ) → l ∈ clause → at old.users.forward (variable_of l) ≡ Some x → (data_at new.kept x).isolated ≡ false
-  pub others : (x : ℕ) → ((l : Literal) → l ∈ clause → at old.users.forward (variable_of l) ≢ Some x) → data_at new.kept x ≡ data_at old.kept x
+  pub joined : 1 < length clause → (l : Literal) (x : ℕ) → l ∈ clause → at old.users.forward (variable_of l) ≡ Some x →
+      (data_at new.kept x).isolated ≡ false
+  pub others : (x : ℕ) → ((l : Literal) → l ∈ clause → at old.users.forward (variable_of l) ≢ Some x) →
+      data_at new.kept x ≡ data_at old.kept x
   pub alone : length clause ≤ 1 → new ≡ old
 
 -- Exactly the solver variables in use may be decided.
@@ -87,13 +96,16 @@ pub record AreMarked (list : List Literal) (assumed : Bool) (old new : Tables) :
   pub solvers : new.solvers ≡ old.solvers
   pub count : length new.kept ≡ length old.kept
   pub rest : (x : ℕ) → data_at new.kept x ≡ record (data_at old.kept x) { assumed = (data_at new.kept x).assumed }
-  pub marked : (l : Literal) (x : ℕ) → l ∈ list → at old.users.forward (variable_of l) ≡ Some x → (data_at new.kept x).assumed ≡ assumed
+  pub marked : (l : Literal) (x : ℕ) → l ∈ list → at old.users.forward (variable_of l) ≡ Some x →
+      (data_at new.kept x).assumed ≡ assumed
   pub others : (x : ℕ) → ((data_at new.kept x).assumed ≡ (data_at old.kept x).assumed)
       ⊎ ((l : Literal) × (l ∈ list) × (at old.users.forward (variable_of l) ≡ Some x))
 
 -- the solver variable is that of a name whose variable is marked as assumed
 abbrev pub IsAssumedSolver : Tables → ℕ → Type 0
-IsAssumedSolver t v = (x u : ℕ) × (at t.solvers.backward v ≡ Some x) × (at t.users.backward x ≡ Some u) × ((data_at t.kept x).assumed ≡ true)
+IsAssumedSolver t v =
+    (x u : ℕ) × (at t.solvers.backward v ≡ Some x) × (at t.users.backward x ≡ Some u)
+    × ((data_at t.kept x).assumed ≡ true)
 
 -- the name of a solver variable
 abbrev pub HasUser : Tables → ℕ → Type 0

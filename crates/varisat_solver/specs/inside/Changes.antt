@@ -21,7 +21,8 @@ pub record CountsAnew {A : Type 0} (x y : Context A) (changed_at : ℕ) : Type 0
   pub plan : IsPlan x.schedule
 
 -- A change came to a value, and steps are counted anew; or it failed, and the solver is invalid. The result says in which way it failed.
-abbrev pub EndsChange : {A T E : Type 0} → (E → SolverError → Type 0) → Result T E → Context A → ℕ → Result T SolverError → Context A → ℕ → Type 0
+abbrev pub EndsChange : {A T E : Type 0} → (E → SolverError → Type 0) → Result T E → Context A → ℕ →
+    Result T SolverError → Context A → ℕ → Type 0
 EndsChange logs outcome x before (Ok value) y changed_at = (outcome ≡ Ok value) × CountsAnew x y changed_at
 EndsChange {E = E} logs outcome x before (Err refusal) y changed_at =
     (error : E) × (outcome ≡ Err error) × logs error refusal × (y ≡ invalidated x) × (changed_at ≡ before)

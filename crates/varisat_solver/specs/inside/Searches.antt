@@ -68,7 +68,8 @@ ComesOn at n before after p q = (s : State) → SpacesFit before s → ComesTo a
 -- so it does while no verdict is known
 abbrev pub ComesOnUndecided : {A : Type 0} → Turn → ℕ → TracerState → Context A → TracerState → Context A → Type 0
 ComesOnUndecided at n p x q y =
-    ComesOn at n (undecided_spaces p.tables p.proof.checker x) (undecided_spaces q.tables q.proof.checker y) p.proof q.proof
+    ComesOn at n (undecided_spaces p.tables p.proof.checker x)
+    (undecided_spaces q.tables q.proof.checker y) p.proof q.proof
 
 -- Where the step begins at level 0 with literals still to be propagated, variables leave that may: those that have a value then
 -- and are not assumed, and hidden ones that no kept clause names; unless a clause is false.
@@ -105,10 +106,13 @@ pub record MakesNamedStep {A : Type 0} (p q : TracerState) (x y : Context A) : T
   -- the assumptions that are left, and the core over solver variables
   pub parts : AssumptionParts
   -- one without root news, and after which the search goes on, adds what was learned by its only line
-  pub steps : (lines : List Line) × Steps (search_of (view x)) (search_of (view y)) (outcome_of (view y) parts.failed_core y.solver_state.sat_state) lines
+  pub steps : (lines : List Line)
+      × Steps (search_of (view x)) (search_of (view y))
+      (outcome_of (view y) parts.failed_core y.solver_state.sat_state) lines
       × LearnsAlone lines x y
       × TakesStep TakesGlobally p lines (outcome_of (view y) parts.failed_core y.solver_state.sat_state) q
-  pub assumes : KeepsAssumptions (search_of (view x)) (outcome_of (view y) parts.failed_core y.solver_state.sat_state) x.assumptions parts
+  pub assumes : KeepsAssumptions (search_of (view x))
+      (outcome_of (view y) parts.failed_core y.solver_state.sat_state) x.assumptions parts
   pub rest : y.assumptions ≡ record parts { user_core = y.assumptions.user_core }
   pub core : y.solver_state.sat_state ≡ verdict.UnsatUnderAssumptions →
       y.assumptions.user_core ≡ named_literals p.tables parts.failed_core
@@ -128,7 +132,8 @@ pub record MakesSolverStep {A : Type 0} (p q : TracerState) (x y : Context A) : 
   pub state : y.solver_state ≡ record x.solver_state { sat_state = y.solver_state.sat_state }
   pub count : length y.assignment.current ≡ length x.assignment.current
   pub leaves : DetachesInTime p.tables (view x) → IsNotUnsat y → DetachesInTime q.tables (view y)
-  pub stands : ComesOn (turn_of x) 1 (undecided_spaces p.tables p.proof.checker x) (spaces_with q.tables q.proof.checker y) p.proof q.proof
+  pub stands : ComesOn (turn_of x) 1 (undecided_spaces p.tables p.proof.checker x)
+      (spaces_with q.tables q.proof.checker y) p.proof q.proof
 
 -- Steps were made, from one context to the other, until there was a verdict or they were spent. Where none was made nothing changed.
 pub record FindsVerdict {A : Type 0} (p q : TracerState) (x y : Context A) (found : Option Bool) : Type 0 where

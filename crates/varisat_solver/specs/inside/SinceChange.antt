@@ -15,7 +15,13 @@ use Rattle.varisat_solver.specs.declared.solver.SolverError.{SolverError}
 
 -- a stretch of steps that begins with the context
 abbrev pub call_from : {A : Type 0} → Context A → PlannedCall
-call_from x = record { variables = length x.assignment.current; scale = x.solver_config.luby_restart_interval_scale; begins = x.schedule }
+call_from x =
+    record {
+      variables = length x.assignment.current;
+      scale = x.solver_config.luby_restart_interval_scale;
+      begins =
+          x.schedule;
+    }
 
 -- The search came here by steps of the schedule at one scale, with as many variables all the time. In between some units left it,
 -- and a variable that has left is not decided again: so those units and the trail are together never more than the variables. It
@@ -25,7 +31,8 @@ pub record HasComeSince {A : Type 0} (c : PlannedCall) (x : Context A) : Type 0 
   pub come : HasComeWithout c x.schedule units (kinds (view x))
   pub scale : c.scale ≡ x.solver_config.luby_restart_interval_scale
   pub variables : c.variables ≡ length x.assignment.current
-  pub room : (vs : List ℕ) → IsDistinct vs → ((v : ℕ) → v ∈ vs → IsDecidable (view x) x.vsids v) → units + length vs ≤ c.variables
+  pub room : (vs : List ℕ) → IsDistinct vs → ((v : ℕ) → v ∈ vs → IsDecidable (view x) x.vsids v) →
+      units + length vs ≤ c.variables
 
 -- Whatever the first context came from, the second has come from there too.
 abbrev pub GoesOnSince : {A : Type 0} → Context A → Context A → Type 0
@@ -46,7 +53,8 @@ pub record HasBegunSince {A : Type 0} (c : PlannedCall) (q : Plan) (x : Context 
   pub begun : HasBegunWithout c q units (kinds (view x))
   pub scale : c.scale ≡ x.solver_config.luby_restart_interval_scale
   pub variables : c.variables ≡ length x.assignment.current
-  pub room : (vs : List ℕ) → IsDistinct vs → ((v : ℕ) → v ∈ vs → IsDecidable (view x) x.vsids v) → units + length vs ≤ c.variables
+  pub room : (vs : List ℕ) → IsDistinct vs → ((v : ℕ) → v ∈ vs → IsDecidable (view x) x.vsids v) →
+      units + length vs ≤ c.variables
 
 -- Wherever the step began inside of which the first context is, the second is inside of it too.
 abbrev pub GoesOnWithin : {A : Type 0} → Context A → Context A → Type 0
@@ -62,7 +70,8 @@ BeginsWithin x y = (c : PlannedCall) → HasComeSince c x → HasBegunSince c x.
 pub record CountsSince {A : Type 0} (changed_at : ℕ) (x : Context A) : Type 0 where
   pub low : changed_at ≤ x.schedule.steps
   pub few : (n : ℕ) → length x.assignment.current ≤ n → AreFew n (x.schedule.steps - changed_at)
-  pub come : x.solver_state.sat_state ≡ verdict.Unknown → (c : PlannedCall) × (c.begins.steps ≡ changed_at) × HasComeSince c x
+  pub come : x.solver_state.sat_state ≡ verdict.Unknown →
+      (c : PlannedCall) × (c.begins.steps ≡ changed_at) × HasComeSince c x
 
 -- Wherever the last change was, the steps since then are counted on.
 abbrev pub CountsOnSince : {A : Type 0} → Context A → Context A → Type 0

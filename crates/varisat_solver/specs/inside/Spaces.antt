@@ -81,12 +81,14 @@ pub record ModesFit (identity from_user to_user : ℕ → Option ℕ) (kept : �
   pub unnamed : (x : ℕ) → to_user x ≡ None → (kept x).sampling_mode ≡ sampling.Hide
 
 -- The units kept are those that are forced, and these are of counted identities.
-pub record UnitsFit (identity : ℕ → Option ℕ) (forced : ℕ → Option Bool) (kept : ℕ → VarData) (counted : List ℕ) : Type 0 where
+pub record UnitsFit (identity : ℕ → Option ℕ) (forced : ℕ → Option Bool) (kept : ℕ → VarData)
+    (counted : List ℕ) : Type 0 where
   pub unit : (x i : ℕ) → identity x ≡ Some i → forced i ≡ (kept x).unit
   pub is_counted : (i : ℕ) (b : Bool) → forced i ≡ Some b → i ∈ counted
 
 -- What the marks of isolation say of an identity: a variable stands for it that is not isolated, no wide clause names it, or its value is forced.
-pub data IsolationCase (identity : ℕ → Option ℕ) (forced : ℕ → Option Bool) (kept : ℕ → VarData) (clauses : List Clause) (i : ℕ) : Type 0 where
+pub data IsolationCase (identity : ℕ → Option ℕ) (forced : ℕ → Option Bool) (kept : ℕ → VarData) (clauses : List Clause)
+    (i : ℕ) : Type 0 where
   NotIsolated : (x : ℕ) → identity x ≡ Some i → (kept x).isolated ≡ false → IsolationCase identity forced kept clauses i
   Apart : IsApart clauses i → IsolationCase identity forced kept clauses i
   Forced : (b : Bool) → forced i ≡ Some b → IsolationCase identity forced kept clauses i
@@ -130,7 +132,8 @@ pub record SharesHeld (r : Translation) (fixed : List Literal) (share : List Cla
   pub forgotten : List Clause
   pub same : SameClauses held (forgotten ++ rename (carry r.identity) share)
   pub inside : (c : Clause) (l : Literal) → c ∈ share → l ∈ c → (i : ℕ) × (r.identity (variable_of l) ≡ Some i)
-  pub units : (i : ℕ) (b : Bool) (x : ℕ) → r.forced i ≡ Some b → r.global i ≡ Some x → ((v : ℕ) → r.identity v ≢ Some i) →
+  pub units : (i : ℕ) (b : Bool) (x : ℕ) → r.forced i ≡ Some b → r.global i ≡ Some x →
+      ((v : ℕ) → r.identity v ≢ Some i) →
       (c : Clause) × (c ∈ forgotten) × IsUnit (literal_of i b) c
   pub live : AreLive r forgotten
   pub settled : (c : Clause) → c ∈ forgotten → IsDischargedBy r fixed c
@@ -150,7 +153,8 @@ pub record SearchHolds (P : List Clause) (r : Translation) (s : Search) (v : Out
   pub implied : (a b : Assignment) → SatisfiesAll a P → AgreesAlong r.identity a b → SatisfiesAll b held
   pub known : (a : Assignment) → SatisfiesAll a P → (i : ℕ) (b : Bool) → r.forced i ≡ Some b → a i ≡ b
   -- where an identity has a solver variable, its forced value is fixed in the search
-  pub fixed : v ≢ outcome.Unsat → (l : Literal) (i : ℕ) → r.identity (variable_of l) ≡ Some i → r.forced i ≡ Some (polarity_of l) → l ∈ s.fixed
+  pub fixed : v ≢ outcome.Unsat → (l : Literal) (i : ℕ) → r.identity (variable_of l) ≡ Some i →
+      r.forced i ≡ Some (polarity_of l) → l ∈ s.fixed
   -- each accepted clause is true, or is kept
   pub covered : v ≢ outcome.Unsat → CoversBy (carry r.identity) (is_forced r.forced) P s
   -- what was logged leads to these clauses and to what was forgotten
@@ -171,14 +175,16 @@ pub record MarksFit (from_user : ℕ → Option ℕ) (kept : ℕ → VarData) (g
 pub record WorkingFits (P : List Clause) (identity : ℕ → Option ℕ) (assumptions working : List Literal) : Type 0 where
   pub used : (l : Literal) → l ∈ working → (i : ℕ) × (identity (variable_of l) ≡ Some i)
   pub part : map (carry identity) working ⊆ assumptions
-  pub implied : (a : Assignment) → SatisfiesAll a P → MakesTrue a (map (carry identity) working) → MakesTrue a assumptions
+  pub implied : (a : Assignment) → SatisfiesAll a P → MakesTrue a (map (carry identity) working) →
+      MakesTrue a assumptions
 
 -- a core of the state is the one that was logged over names in use
 abbrev pub CoreFits : (ℕ → Option ℕ) → List Literal → Verdict → Type 0
 CoreFits names logged Unknown = Unit {0}
 CoreFits names logged (Sat found) = Unit {0}
 CoreFits names logged Unsat = Unit {0}
-CoreFits names logged (UnsatUnderAssumptions core) = ((l : Literal) → l ∈ logged → (i : ℕ) × (names (variable_of l) ≡ Some i)) × (core ≡ map (carry names) logged)
+CoreFits names logged (UnsatUnderAssumptions core) =
+    ((l : Literal) → l ∈ logged → (i : ℕ) × (names (variable_of l) ≡ Some i)) × (core ≡ map (carry names) logged)
 
 -- the verdict without a core, which says nothing of the clauses that are held
 abbrev pub without_core : Outcome → Outcome
@@ -197,7 +203,8 @@ VerdictFits identity model _ _ = ⊥
 
 -- by way of global variables
 abbrev pub translation : Carrying → Spaces → List Entry → Translation
-translation w p logged = record { identity = chain p.global_from_solver w.identity; global = w.global; forced = w.forced; logged = logged }
+translation w p logged =
+    record { identity = chain p.global_from_solver w.identity; global = w.global; forced = w.forced; logged = logged }
 
 -- the literal is of a counted identity
 abbrev pub IsCounted : List ℕ → Literal → Type 0
@@ -224,7 +231,8 @@ AllSpeakOf are (e ∷ es) = SpeaksOf are e × AllSpeakOf are es
 -- The accepted clauses are those that were logged, in order, the list logged last is that of the assumptions, and cores are of what was
 -- assumed; literals are of counted identities; just those identities were logged as gone that are gone; and none left as long as
 -- nothing was hidden.
-pub record IsWholeLog (logged : List Entry) (clauses : List Clause) (assumptions : List Literal) (counted : List ℕ) (ever_hidden : Bool)
+pub record IsWholeLog (logged : List Entry) (clauses : List Clause) (assumptions : List Literal) (counted : List ℕ)
+    (ever_hidden : Bool)
     (gone : ℕ → Type 0) : Type 0 where
   pub accepted : accepted_of logged ≡ clauses
   pub assumed : assumed_behind [] logged ≡ assumptions
@@ -240,7 +248,8 @@ pub record IsPlain (identity : ℕ → Option ℕ) (made : ℕ) : Type 0 where
 
 -- The checker that runs inside has what was logged so far leads to, over global variables: the same clauses, each as often.
 abbrev pub CheckerFits : (ℕ → Option ℕ) → List Entry → Option CheckerState → Type 0
-CheckerFits global logged checker = (held : List Clause) → Leads [] logged held → MayBePresent checker (rename (carry global) held)
+CheckerFits global logged checker = (held : List Clause) → Leads [] logged held →
+    MayBePresent checker (rename (carry global) held)
 
 -- What a solver holds stands for the state.
 pub record Links (w : Carrying) (p : Spaces) (s : State) : Type 0 where
@@ -284,7 +293,9 @@ KeepVariables made old new = (i : ℕ) → i < made → new i ≡ old i
 
 -- The spaces stand for the second state, in which identities are new, once these have variables.
 abbrev pub FitWithNew : Spaces → State → State → Type 0
-FitWithNew p s t = (variables : ℕ → Option ℕ) × KeepVariables s.naming.made s.variables variables × SpacesFit p (with_variables variables t)
+FitWithNew p s t =
+    (variables : ℕ → Option ℕ) × KeepVariables s.naming.made s.variables variables
+    × SpacesFit p (with_variables variables t)
 
 -- they stand for some state
 abbrev pub FitSome : Spaces → Type 0

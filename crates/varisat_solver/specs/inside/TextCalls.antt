@@ -9,7 +9,8 @@ use Rattle.varisat_solver.specs.declared.solver.SolverError.{SolverError}
 use Rattle.varisat_solver.specs.declared.solver.SolverError.TheVariants.{ClauseStoreFull}
 
 -- a solver takes the clauses in turn, up to the first refusal
-pub record TakesClauses (g : Summary) (clauses : List Clause) (r : Result (Unit {0}) SolverError) (h : Summary) : Type 0 where
+pub record TakesClauses (g : Summary) (clauses : List Clause) (r : Result (Unit {0}) SolverError)
+    (h : Summary) : Type 0 where
   pub target : WritesOn g.opened r h.opened
   pub full : r ≡ Err ClauseStoreFull → HasFullStore h
   pub call : LeadsRepresented g (λ s t. AddsAll by_state s clauses r t) h

@@ -42,8 +42,10 @@ ChecksChange t u (Err _) = ⊥
 pub record StaysValid (old new : Tables) : Type 0 where
   pub bounded : AreBounded new
   pub solvers : new.solvers ≡ old.solvers
-  pub named : (u x : ℕ) → at old.users.forward u ≡ Some x → IsMarkedAssumed old x → (at new.users.forward u ≡ Some x) × IsMarkedAssumed new x
-  pub names : (x u : ℕ) → at old.users.backward x ≡ Some u → IsMarkedAssumed old x → (at new.users.backward x ≡ Some u) × IsMarkedAssumed new x
+  pub named : (u x : ℕ) → at old.users.forward u ≡ Some x → IsMarkedAssumed old x →
+      (at new.users.forward u ≡ Some x) × IsMarkedAssumed new x
+  pub names : (x u : ℕ) → at old.users.backward x ≡ Some u → IsMarkedAssumed old x →
+      (at new.users.backward x ≡ Some u) × IsMarkedAssumed new x
 
 -- The name was named, and leads to the variable, which is not assumed.
 pub record IsNamedAs (u : ℕ) (old new : Tables) (x : ℕ) : Type 0 where

@@ -110,7 +110,8 @@ accept d w s =
 
 -- the list, over identities, is assumed in place of the one before
 abbrev pub with_list : {V : Type 0} → List Literal → V → Known V → Known V
-with_list list w s = record s { assumptions = list; counted = join_counted s.counted (map variable_of list); verdict = w }
+with_list list w s =
+    record s { assumptions = list; counted = join_counted s.counted (map variable_of list); verdict = w }
 
 -- the names of the list are named, and it is assumed, and logged so, as they carry it to identities
 abbrev pub assume : {V : Type 0} → List Literal → V → Known V → Known V
@@ -123,10 +124,13 @@ assume list w s =
 -- state is invalid.
 abbrev pub RefusesNames : {V : Type 0} → Type 0 → Known V → List Literal → SolverError → Known V → Type 0
 RefusesNames unbarred s d Invalid t = IsRefusedInvalid s t
-RefusesNames unbarred s d VariableLimit t = IsValid s × unbarred × (IsPastLimit d ⊎ IsCrowded (name_all d s.naming)) × (t ≡ s)
-RefusesNames unbarred s d (WitnessVar u) t = IsValid s × unbarred × (IsPastLimit d → ⊥) × IsFirstWitness s.naming d u × (t ≡ s)
+RefusesNames unbarred s d VariableLimit t =
+    IsValid s × unbarred × (IsPastLimit d ⊎ IsCrowded (name_all d s.naming)) × (t ≡ s)
+RefusesNames unbarred s d (WitnessVar u) t =
+    IsValid s × unbarred × (IsPastLimit d → ⊥) × IsFirstWitness s.naming d u × (t ≡ s)
 RefusesNames unbarred s d OutOfMemory t = unbarred × MayConstrain s.naming d × Invalidates 0 s t
-RefusesNames unbarred s d (ProofIoError cause) t = IsOpen s.proof × unbarred × MayConstrain s.naming d × Invalidates 1 s t
+RefusesNames unbarred s d (ProofIoError cause) t =
+    IsOpen s.proof × unbarred × MayConstrain s.naming d × Invalidates 1 s t
 RefusesNames unbarred s d _ t = ⊥
 
 -- What is said of verdicts, where V is what is known of them.
@@ -159,7 +163,8 @@ module _ {V : Type 0} (by : Verdicts V) where
 
   -- the clause is accepted
   abbrev pub Accepts : Known V → Clause → Known V → Type 0
-  Accepts s d t = (w : V) × by.reopens s.clauses (map (through_names (name_all d s.naming)) d) s.verdict w × IsLike (accept d w s) t
+  Accepts s d t =
+      (w : V) × by.reopens s.clauses (map (through_names (name_all d s.naming)) d) s.verdict w × IsLike (accept d w s) t
 
   -- a clause is taken: where the clauses are refuted nothing changes, but that steps are counted anew
   pub data TakesClause (s : Known V) (d : Clause) (t : Known V) : Type 0 where
@@ -170,16 +175,19 @@ module _ {V : Type 0} (by : Verdicts V) where
   abbrev pub TakesOne : Known V → Clause → Result (Unit {0}) SolverError → Known V → Type 0
   TakesOne s d (Ok _) t = IsValid s × TakesClause s d t
   TakesOne s d (Err ClauseAfterSolve) t = IsValid s × by.unrefuted s × BarsClauses s.proof × (t ≡ s)
-  TakesOne s d (Err ClauseStoreFull) t = MayAccept s × MayConstrain s.naming d × Invalidates 0 s t × IsStoreFull (name_all d s.naming).made t
+  TakesOne s d (Err ClauseStoreFull) t =
+      MayAccept s × MayConstrain s.naming d × Invalidates 0 s t × IsStoreFull (name_all d s.naming).made t
   TakesOne s d (Err e) t = RefusesNames (MayAccept s) s d e t
 
   -- the list is assumed
   abbrev pub TakesAssumed : Known V → List Literal → Known V → Type 0
-  TakesAssumed s list t = IsLike (assume list (by.assumed (map (through_names (name_all list s.naming)) list) s.verdict) s) t
+  TakesAssumed s list t =
+      IsLike (assume list (by.assumed (map (through_names (name_all list s.naming)) list) s.verdict) s) t
 
   -- The call `assume`. No open proof bars it: assumptions would be no part of what such a proof says. The target of another one may fail.
   abbrev pub TakesList : Known V → List Literal → Result (Unit {0}) SolverError → Known V → Type 0
-  TakesList s list (Ok _) t = IsValid s × (BarsAssumptions s.proof → ⊥) × MayConstrain s.naming list × TakesAssumed s list t
+  TakesList s list (Ok _) t =
+      IsValid s × (BarsAssumptions s.proof → ⊥) × MayConstrain s.naming list × TakesAssumed s list t
   TakesList s list (Err ProofOpen) t = IsValid s × BarsAssumptions s.proof × (t ≡ s)
   TakesList s list (Err e) t = RefusesNames (BarsAssumptions s.proof → ⊥) s list e t
 
@@ -187,9 +195,11 @@ module _ {V : Type 0} (by : Verdicts V) where
 
 -- the least free name is named: below the watermark, else at it
 abbrev pub MakesVar : {V : Type 0} → Known V → Result ℕ SolverError → Known V → Type 0
-MakesVar s (Ok u) t = IsValid s × IsLeastFree s.naming u × (u < variable_limit) × IsLike (start (with_naming (name_one u s.naming) s)) t
+MakesVar s (Ok u) t =
+    IsValid s × IsLeastFree s.naming u × (u < variable_limit) × IsLike (start (with_naming (name_one u s.naming) s)) t
 MakesVar s (Err Invalid) t = IsRefusedInvalid s t
-MakesVar s (Err VariableLimit) t = IsValid s × ((u : ℕ) × IsLeastFree s.naming u × ((variable_limit ≤ u) ⊎ IsCrowded (name_one u s.naming))) × (t ≡ s)
+MakesVar s (Err VariableLimit) t =
+    IsValid s × ((u : ℕ) × IsLeastFree s.naming u × ((variable_limit ≤ u) ⊎ IsCrowded (name_one u s.naming))) × (t ≡ s)
 MakesVar s (Err OutOfMemory) t = ((u : ℕ) × IsLeastFree s.naming u × (u < variable_limit)) × Invalidates 0 s t
 MakesVar s (Err _) t = ⊥
 
@@ -205,7 +215,8 @@ with_steps n s = record s { ledger = record s.ledger { steps = n; since = s.ledg
 
 -- how the steps are counted that a call makes before the verdict is known, by its answer
 abbrev pub CountsCall : {V : Type 0} → Known V → Result Bool SolverError → Known V → Type 0
-CountsCall s r t = CountsSteps (length s.counted) s.ledger.settings.max_steps s.ledger.since s.ledger.steps t.ledger.steps r
+CountsCall s r t =
+    CountsSteps (length s.counted) s.ledger.settings.max_steps s.ledger.since s.ledger.steps t.ledger.steps r
 
 -- the same once `solve` was called under an open proof
 abbrev pub once_searched : {V : Type 0} → Known V → Known V
@@ -218,7 +229,8 @@ IsSolved v s t = IsLike (with_entries t.logged (with_verdict v (with_steps t.led
 module _ {V : Type 0} (by : Verdicts V) where
   -- How the steps are counted that a call makes, by its answer: none is made, and nothing logged, where the answer is known.
   pub data CountsIf (s : Known V) (r : Result Bool SolverError) (t : Known V) : Type 0 where
-    Decided : (by.undecided s → ⊥) ⊎ by.refuted s → t.ledger.steps ≡ s.ledger.steps → (IsValid t → t.logged ≡ s.logged) → CountsIf s r t
+    Decided : (by.undecided s → ⊥) ⊎ by.refuted s → t.ledger.steps ≡ s.ledger.steps →
+        (IsValid t → t.logged ≡ s.logged) → CountsIf s r t
     Searched : by.undecided s → CountsCall s r t → CountsIf s r t
 
   -- An answer is returned.
@@ -228,7 +240,8 @@ module _ {V : Type 0} (by : Verdicts V) where
     -- of the clauses that it logged as added as many count as steps were made
     pub logged : LogsMore (t.ledger.steps - s.ledger.steps) s.logged t.logged
     -- and each step but the last, which came to the answer, added a new one, as where the steps are spent
-    pub adds : BeginsInSteps s.ledger.settings.reduce_locals_interval s.ledger.steps (t.ledger.steps - s.ledger.steps - 1) s.logged logged.entries
+    pub adds : BeginsInSteps s.ledger.settings.reduce_locals_interval s.ledger.steps
+        (t.ledger.steps - s.ledger.steps - 1) s.logged logged.entries
     pub right : by.answers s b logged.entries t
     pub rest : IsSolved t.verdict s t
 
@@ -244,7 +257,8 @@ module _ {V : Type 0} (by : Verdicts V) where
     -- was held just before is a part, and which is held as the step ends; nor one that was held as the step began, unless it was a step
     -- that may delete learned clauses
     pub logged : LogsMore (t.ledger.steps - s.ledger.steps) s.logged t.logged
-    pub adds : GoesOnInSteps s.ledger.settings.reduce_locals_interval s.ledger.steps (t.ledger.steps - s.ledger.steps) s.logged logged.entries
+    pub adds : GoesOnInSteps s.ledger.settings.reduce_locals_interval s.ledger.steps
+        (t.ledger.steps - s.ledger.steps) s.logged logged.entries
     -- no core is logged
     pub derived : AreDerived logged.entries
     -- where no step was made nothing changed
@@ -276,7 +290,8 @@ module _ {V : Type 0} (by : Verdicts V) where
 
 -- A list is returned that may be returned, or none, and none by an invalid solver. Running out of memory comes only where there is a list to
 -- return, and changes nothing.
-abbrev pub ReturnsList : {V : Type 0} → (Option (List Literal) → Type 0) → Known V → Result (Option (List Literal)) AllocError → Known V → Type 0
+abbrev pub ReturnsList : {V : Type 0} → (Option (List Literal) → Type 0) → Known V →
+    Result (Option (List Literal)) AllocError → Known V → Type 0
 ReturnsList may s (Ok list) t = ((IsValid s × may list) ⊎ ((is_valid s ≡ false) × (list ≡ None))) × (t ≡ s)
 ReturnsList may s (Err _) t = IsValid s × ((list : List Literal) × may (Some list)) × (t ≡ s)
 
@@ -315,7 +330,8 @@ ReturnsValid s b t = (b ≡ is_valid s) × (t ≡ s)
 
 -- the clause is empty, or as a set it is one literal whose opposite alone is an accepted clause
 abbrev pub ContradictsUnit : List Clause → Clause → Type 0
-ContradictsUnit clauses c = (c ≡ []) ⊎ ((l : Literal) × (d : Clause) × IsUnit l c × (d ∈ clauses) × IsUnit (opposite l) d)
+ContradictsUnit clauses c =
+    (c ≡ []) ⊎ ((l : Literal) × (d : Clause) × IsUnit l c × (d ∈ clauses) × IsUnit (opposite l) d)
 
 -- the verdict with one more clause that doesn't give Unsat: a model that was found may not satisfy it, and a core stays one
 abbrev pub reopened_verdict : Verdict → Verdict

@@ -51,7 +51,8 @@ DetachesInTime t s = NoneIsToDetach t s ⊎ HasRootNews s
 
 -- Variables go on to leave in time in a valid solver, unless the clauses are refuted.
 abbrev pub GoesOnDetaching : Summary → Summary → Type 0
-GoesOnDetaching g h = DetachesInTime g.tables g.search → h.ledger.valid ≡ true → h.sat_state ≢ verdict.Unsat → DetachesInTime h.tables h.search
+GoesOnDetaching g h = DetachesInTime g.tables g.search → h.ledger.valid ≡ true → h.sat_state ≢ verdict.Unsat →
+    DetachesInTime h.tables h.search
 
 -- At level 0 no literal is left to be propagated, or a clause is false there.
 abbrev pub IsCalm : View → Type 0
@@ -59,7 +60,9 @@ IsCalm s = (HasRootNews s → ⊥) ⊎ ((s.decisions ≡ []) × ((conflict : Con
 
 -- As a step has begun: none is to leave, and at level 0 all is propagated, or a clause is false there.
 abbrev pub HasDetached : Tables → View → Type 0
-HasDetached t s = (NoneIsToDetach t s × (HasRootNews s → ⊥)) ⊎ ((s.decisions ≡ []) × ((conflict : Conflict) × IsConflicting s conflict))
+HasDetached t s =
+    (NoneIsToDetach t s × (HasRootNews s → ⊥))
+    ⊎ ((s.decisions ≡ []) × ((conflict : Conflict) × IsConflicting s conflict))
 
 -- For each of so many variables it says whether a literal is over it.
 pub record FlagsVariables (size : ℕ) (ls : List Literal) (flags : List Bool) : Type 0 where
@@ -100,7 +103,8 @@ pub record ListsUnneeded (t : Tables) (flags : List Bool) (ls : List Literal) : 
 -- The solver variables of the literals were dropped in turn.
 abbrev pub AreDetached : List Literal → TracerState → TracerState → Type 0
 AreDetached [] p q = q ≡ p
-AreDetached (l ∷ ls) p q = (mid : TracerState) × ((x : ℕ) × LosesSolverVar x (variable_of l) p mid) × AreDetached ls mid q
+AreDetached (l ∷ ls) p q =
+    (mid : TracerState) × ((x : ℕ) × LosesSolverVar x (variable_of l) p mid) × AreDetached ls mid q
 
 -- Whose variables the search still has: those with a value are assumed, and those in use have a name or are named by a kept clause.
 pub record HasOnlyNeeded (t : Tables) (s : View) : Type 0 where
@@ -119,9 +123,11 @@ pub record DetachesFromTables (ls : List Literal) (old new : Tables) : Type 0 wh
   pub solvers : length new.solvers.backward ≡ length old.solvers.backward
   pub count : length new.kept ≡ length old.kept
   pub gone : (v : ℕ) → (l : Literal) → l ∈ ls → variable_of l ≡ v → at new.solvers.backward v ≡ None
-  pub stays : (v : ℕ) → ((l : Literal) → l ∈ ls → variable_of l ≢ v) → at new.solvers.backward v ≡ at old.solvers.backward v
+  pub stays : (v : ℕ) → ((l : Literal) → l ∈ ls → variable_of l ≢ v) →
+      at new.solvers.backward v ≡ at old.solvers.backward v
   pub fewer : (v x : ℕ) → at new.solvers.backward v ≡ Some x → at old.solvers.backward v ≡ Some x
-  pub others : (x : ℕ) → ((l : Literal) → l ∈ ls → at old.solvers.backward (variable_of l) ≢ Some x) → data_at new.kept x ≡ data_at old.kept x
+  pub others : (x : ℕ) → ((l : Literal) → l ∈ ls → at old.solvers.backward (variable_of l) ≢ Some x) →
+      data_at new.kept x ≡ data_at old.kept x
 
 -- Variables left the search and the tables. What a valid solver keeps stays true, the search goes on with as many variables, and
 -- the solver represents the same states, which have the entries of what left, as the proof has.
@@ -131,4 +137,5 @@ pub record Detaches {A : Type 0} (p : TracerState) (x : Context A) (q : TracerSt
   pub count : length y.assignment.current ≡ length x.assignment.current
   pub given : (entries : List Entry) × IsLogged p.proof entries q.proof
   pub stands : (s : State) → SpacesFit (undecided_spaces p.tables p.proof.checker x) s →
-      (logged : List Entry) × LogsRetired s.variables s.logged logged p.proof q.proof × SpacesFit (undecided_spaces q.tables q.proof.checker y) (with_entries logged s)
+      (logged : List Entry) × LogsRetired s.variables s.logged logged p.proof q.proof
+      × SpacesFit (undecided_spaces q.tables q.proof.checker y) (with_entries logged s)

@@ -30,12 +30,15 @@ IsRising low (l ∷ ls) = (low ≤ variable_of l) × IsRising (suc (variable_of 
 -- A completable model: exactly the names in use, each once and in increasing order, such that some assignment agrees with the
 -- list through the names and satisfies the accepted clauses and the assumptions. A name whose identity is not counted is listed
 -- false.
-pub record IsCompletable (m : Naming) (clauses : List Clause) (assumptions : List Literal) (counted : List ℕ) (model : List Literal) : Type 0 where
+pub record IsCompletable (m : Naming) (clauses : List Clause) (assumptions : List Literal) (counted : List ℕ)
+    (model : List Literal) : Type 0 where
   pub rising : IsRising 0 model
   pub all_listed : (u i : ℕ) → m.names u ≡ Some i → (l : Literal) × (l ∈ model) × (variable_of l ≡ u)
   pub in_use : (l : Literal) → l ∈ model → (i : ℕ) × (m.names (variable_of l) ≡ Some i)
-  pub uncounted : (l : Literal) (i : ℕ) → l ∈ model → m.names (variable_of l) ≡ Some i → (i ∈ counted → ⊥) → l ≡ literal_of (variable_of l) false
-  pub satisfied : (a : Assignment) × MakesTrue a (map (through_names m) model) × SatisfiesAll a clauses × MakesTrue a assumptions
+  pub uncounted : (l : Literal) (i : ℕ) → l ∈ model → m.names (variable_of l) ≡ Some i → (i ∈ counted → ⊥) →
+      l ≡ literal_of (variable_of l) false
+  pub satisfied : (a : Assignment) × MakesTrue a (map (through_names m) model) × SatisfiesAll a clauses
+      × MakesTrue a assumptions
 
 -- so it is of what the state accepted and assumed
 abbrev pub IsCompletableIn : State → List Literal → Type 0
@@ -62,9 +65,11 @@ AreNamesInUse m ls = (l : Literal) → l ∈ ls → (i : ℕ) × (m.names (varia
 
 -- over names in use, which carry it to a failed core
 abbrev pub IsNamedCore : State → List Literal → Type 0
-IsNamedCore s core = AreNamesInUse s.naming core × IsFailedCore s.clauses s.assumptions (map (through_names s.naming) core)
+IsNamedCore s core =
+    AreNamesInUse s.naming core × IsFailedCore s.clauses s.assumptions (map (through_names s.naming) core)
 
 -- A core as it is returned, over names in use, is the one that is known.
 abbrev pub IsReturnedCore : State → Option (List Literal) → Type 0
 IsReturnedCore s None = core_of s.verdict ≡ None
-IsReturnedCore s (Some core) = AreNamesInUse s.naming core × (core_of s.verdict ≡ Some (map (through_names s.naming) core))
+IsReturnedCore s (Some core) =
+    AreNamesInUse s.naming core × (core_of s.verdict ≡ Some (map (through_names s.naming) core))

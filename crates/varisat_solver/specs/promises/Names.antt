@@ -76,7 +76,8 @@ NameNoWitness m ls = (l : Literal) → l ∈ ls → IsWitness m (variable_of l) 
 -- the first name of the literals in the given order that is in mode Witness
 abbrev pub IsFirstWitness : Naming → List Literal → ℕ → Type 0
 IsFirstWitness m ls u =
-    (front : List Literal) × (l : Literal) × (rest : List Literal) × (ls ≡ front ++ l ∷ rest) × NameNoWitness m front × (variable_of l ≡ u) × IsWitness m u
+    (front : List Literal) × (l : Literal) × (rest : List Literal) × (ls ≡ front ++ l ∷ rest) × NameNoWitness m front
+    × (variable_of l ≡ u) × IsWitness m u
 
 -- the first name in mode Witness of some names, once the name comes behind them
 abbrev pub IsNextWitness : Naming → Option ℕ → ℕ → Option ℕ → Type 0
@@ -102,7 +103,13 @@ set_mode u mode m = record m { modes = updated m.modes (identity_of (m.names u))
 
 -- the free name comes into use for an identity that was made before, in mode Witness
 abbrev pub give_name : ℕ → ℕ → Naming → Naming
-give_name u i m = record m { names = updated m.names u (Some i); watermark = max m.watermark (u + 1); modes = updated m.modes i Witness }
+give_name u i m =
+    record m {
+      names = updated m.names u (Some i);
+      watermark = max m.watermark (u + 1);
+      modes =
+          updated m.modes i Witness;
+    }
 
 -- no name in use stands for the identity
 abbrev pub IsUnnamed : Naming → ℕ → Type 0
@@ -111,4 +118,5 @@ IsUnnamed m i = (u : ℕ) → m.names u ≢ Some i
 -- The names come into use in turn, each as it is the least free one, for some identities that were made and have no name.
 abbrev pub AreShown : List ℕ → Naming → Naming → Type 0
 AreShown [] old new = new ≡ old
-AreShown (u ∷ us) old new = IsLeastFree old u × ((i : ℕ) × (i < old.made) × IsUnnamed old i × AreShown us (give_name u i old) new)
+AreShown (u ∷ us) old new =
+    IsLeastFree old u × ((i : ℕ) × (i < old.made) × IsUnnamed old i × AreShown us (give_name u i old) new)

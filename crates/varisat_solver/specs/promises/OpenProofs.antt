@@ -23,7 +23,14 @@ pub record OpenProof : Type 0 where
 -- what holds the proof, if one is open: its target took what it had before, and the bytes of the proof
 abbrev pub opened_state : Option OpenProof → Option OpenState
 opened_state None = None
-opened_state (Some p) = Some (record { format = p.format; taken = record { bytes = p.first ++ p.bytes; faults = p.faults }; searched = p.searched })
+opened_state (Some p) =
+    Some
+    (record {
+      format = p.format;
+      taken = record { bytes = p.first ++ p.bytes; faults = p.faults };
+      searched =
+          p.searched;
+    })
 
 -- a proof is open
 abbrev pub IsOpen : Option OpenProof → Type 0
@@ -52,7 +59,8 @@ IsThere made logged i = (i < made) × (Retires i ∈ logged → ⊥)
 -- Each identity that was made and has not left has a variable of its own.
 pub record HaveOwnVariables (variables : ℕ → Option ℕ) (made : ℕ) (logged : List Entry) : Type 0 where
   pub present : (i : ℕ) → IsThere made logged i → (x : ℕ) × (variables i ≡ Some x)
-  pub apart : (i j x : ℕ) → IsThere made logged i → IsThere made logged j → variables i ≡ Some x → variables j ≡ Some x → i ≡ j
+  pub apart : (i j x : ℕ) → IsThere made logged i → IsThere made logged j → variables i ≡ Some x →
+      variables j ≡ Some x → i ≡ j
 
 -- The bytes are those of all that was logged for which the format has lines, each identity as its variable: before a proof opens
 -- nothing of that kind is logged.
@@ -65,7 +73,8 @@ IsWrittenWhereOpen variables logged None = Unit {0}
 IsWrittenWhereOpen variables logged (Some p) = IsWrittenAs variables logged p
 
 -- What holds the proof fits what a user knows of it.
-pub record ProofFits (opened : Option OpenState) (variables : ℕ → Option ℕ) (logged : List Entry) (proof : Option OpenProof) : Type 0 where
+pub record ProofFits (opened : Option OpenState) (variables : ℕ → Option ℕ) (logged : List Entry)
+    (proof : Option OpenProof) : Type 0 where
   pub same : opened ≡ opened_state proof
   pub written : IsWrittenWhereOpen variables logged proof
 
@@ -77,7 +86,8 @@ GoesOnWriting (Some p) new = (more : List ℕ) × (new ≡ Some (record p { byte
 -- A proof that is open stays so, with further bytes, and its target failed so many times more. Where none is open none failed.
 abbrev pub GoesOnFailing : ℕ → Option OpenProof → Option OpenProof → Type 0
 GoesOnFailing faults None new = (new ≡ None) × (faults ≡ 0)
-GoesOnFailing faults (Some p) new = (more : List ℕ) × (new ≡ Some (record p { bytes = p.bytes ++ more; faults = p.faults + faults }))
+GoesOnFailing faults (Some p) new =
+    (more : List ℕ) × (new ≡ Some (record p { bytes = p.bytes ++ more; faults = p.faults + faults }))
 
 -- the open proof, if any, as one under which `solve` was called
 abbrev pub searched_under : Option OpenProof → Option OpenProof
@@ -86,4 +96,5 @@ searched_under (Some p) = Some (record p { searched = true })
 
 -- a proof that was just opened: its target has what it had
 abbrev pub first_proof : ProofFormat → Taken → OpenProof
-first_proof format taken = record { format = format; faults = taken.faults; first = taken.bytes; bytes = []; searched = false }
+first_proof format taken =
+    record { format = format; faults = taken.faults; first = taken.bytes; bytes = []; searched = false }

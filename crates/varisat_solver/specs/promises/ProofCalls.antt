@@ -22,18 +22,22 @@ abbrev pub with_proof : {V : Type 0} → Option OpenProof → Known V → Known 
 with_proof proof s = record s { proof = proof }
 
 -- A proof opens before anything is accepted, and has no bytes then. Each refusal hands the target back, and changes nothing.
-abbrev pub OpensProof : {V W : Type 0} → (W → Taken) → W → ProofFormat → Known V → Result (Unit {0}) (SolverError × W) → Known V → Type 0
+abbrev pub OpensProof : {V W : Type 0} → (W → Taken) → W → ProofFormat → Known V → Result (Unit {0}) (SolverError × W) →
+    Known V → Type 0
 OpensProof taken target format s (Ok _) t =
-    IsValid s × (s.proof ≡ None) × (s.ledger.started ≡ false) × (t ≡ count_anew (with_proof (Some (first_proof format (taken target))) s))
+    IsValid s × (s.proof ≡ None) × (s.ledger.started ≡ false)
+    × (t ≡ count_anew (with_proof (Some (first_proof format (taken target))) s))
 OpensProof taken target format s (Err (Invalid, back)) t = (back ≡ target) × IsRefusedInvalid s t
 OpensProof taken target format s (Err (ProofOpen, back)) t = (back ≡ target) × IsValid s × IsOpen s.proof × (t ≡ s)
-OpensProof taken target format s (Err (ProofTooLate, back)) t = (back ≡ target) × IsValid s × (s.proof ≡ None) × (s.ledger.started ≡ true) × (t ≡ s)
+OpensProof taken target format s (Err (ProofTooLate, back)) t =
+    (back ≡ target) × IsValid s × (s.proof ≡ None) × (s.ledger.started ≡ true) × (t ≡ s)
 OpensProof taken target format s (Err _) t = ⊥
 
 -- Self checking is switched on before anything is accepted, or was so before: a checker runs inside, and steps are counted anew. No
 -- other call changes whether one runs.
 abbrev pub EnablesChecking : {V : Type 0} → Known V → Result (Unit {0}) SolverError → Known V → Type 0
-EnablesChecking s (Ok _) t = IsValid s × (s.ledger.started ≡ false) × (t ≡ record s { ledger = record s.ledger { since = 0; checking = true } })
+EnablesChecking s (Ok _) t =
+    IsValid s × (s.ledger.started ≡ false) × (t ≡ record s { ledger = record s.ledger { since = 0; checking = true } })
 EnablesChecking s (Err Invalid) t = IsRefusedInvalid s t
 EnablesChecking s (Err ProofTooLate) t = IsValid s × (s.ledger.started ≡ true) × (t ≡ s)
 EnablesChecking s (Err _) t = ⊥
@@ -45,7 +49,8 @@ module _ {V : Type 0} (by : Verdicts V) where
   -- refute them where these are known to be unsatisfiable; and a marked proof is one of the clauses and the assumptions.
   pub record IsProof (s : Known V) (p : OpenProof) : Type 0 where
     pub written : p.bytes ≡ logged_bytes p.format (entries_over s.variables s.logged)
-    pub drat : has_marks p.format ≡ false → p.bytes ≡ lines_written (encoding_of p.format) (plain_lines (lines_over s.variables s.logged))
+    pub drat : has_marks p.format ≡ false →
+        p.bytes ≡ lines_written (encoding_of p.format) (plain_lines (lines_over s.variables s.logged))
     pub apart : HaveOwnVariables s.variables s.naming.made s.logged
     pub plain : s.ever_hidden ≡ false → entries_over s.variables s.logged ≡ s.logged
     pub in_range : s.ever_hidden ≡ false → AreInRange (logged_lines (Text true) s.logged)
@@ -63,9 +68,11 @@ module _ {V : Type 0} (by : Verdicts V) where
   -- solver, of which it is not known that the bytes are those of lines.
   abbrev pub Closes : {W : Type 0} → (W → Taken) → Known V → Result (Option W) (SolverError × W) → Known V → Type 0
   Closes taken s (Ok back) t =
-      IsClosed {E = SolverError} taken (opened_state s.proof) (Ok back) × (IsValid s → IsProofIfOpen s) × (t ≡ count_anew (with_proof None s))
+      IsClosed {E = SolverError} taken (opened_state s.proof) (Ok back) × (IsValid s → IsProofIfOpen s)
+      × (t ≡ count_anew (with_proof None s))
   Closes taken s (Err (ProofIoError cause, target)) t =
-      IsClosed taken (opened_state s.proof) (Err (ProofIoError cause, target)) × IsProofIfOpen s × Invalidates 0 (with_proof None s) t
+      IsClosed taken (opened_state s.proof) (Err (ProofIoError cause, target)) × IsProofIfOpen s
+      × Invalidates 0 (with_proof None s) t
   Closes taken s (Err _) t = ⊥
 
 -- the call `close_proof`

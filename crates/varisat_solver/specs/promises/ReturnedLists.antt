@@ -6,7 +6,8 @@ use Rattle.varisat_theory.specs.promises.Literals.{Literal}
 use Rattle.varisat_solver.specs.declared.solver.SolverError.{SolverError}
 
 -- the literals of a list that was made
-abbrev pub returned_list : {A : Type 0} → Result (Option (Vec Literal A)) AllocError → Result (Option (List Literal)) AllocError
+abbrev pub returned_list : {A : Type 0} → Result (Option (Vec Literal A)) AllocError →
+    Result (Option (List Literal)) AllocError
 returned_list (Ok None) = Ok None
 returned_list (Ok (Some v)) = Ok (Some v.items)
 returned_list (Err e) = Err e

@@ -75,7 +75,8 @@ first_known verdict = record {
   assumptions = [];
   counted = [];
   verdict = verdict;
-  ledger = record { valid = true; started = false; steps = 0; since = 0; settings = default_settings; checking = false };
+  ledger =
+      record { valid = true; started = false; steps = 0; since = 0; settings = default_settings; checking = false };
   logged = [];
   variables = λ i. None;
   proof = None;

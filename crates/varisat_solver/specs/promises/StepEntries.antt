@@ -27,11 +27,13 @@ GoesOnInSteps interval number k logged es =
 
 -- Of each clause of P a part is among Q, or a literal of it is of a variable that leaves by one of the entries.
 abbrev pub KeepsParts : List Entry → List Clause → List Clause → Type 0
-KeepsParts es P Q = (c : Clause) → c ∈ P → ((d : Clause) × (d ∈ Q) × (d ⊆ c)) ⊎ ((l : Literal) × (l ∈ c) × (Retires (variable_of l) ∈ es))
+KeepsParts es P Q = (c : Clause) → c ∈ P →
+    ((d : Clause) × (d ∈ Q) × (d ⊆ c)) ⊎ ((l : Literal) × (l ∈ c) × (Retires (variable_of l) ∈ es))
 
 -- so it is where the further entries lead
 abbrev pub GoesOnKeeping : List Entry → List Entry → Type 0
-GoesOnKeeping logged es = (held after : List Clause) → Leads [] logged held → Leads held es after → KeepsParts es held after
+GoesOnKeeping logged es = (held after : List Clause) → Leads [] logged held → Leads held es after →
+    KeepsParts es held after
 
 -- The entries are those of k steps, or of a part of one, which keeps parts of all clauses unless learned ones may be deleted in it.
 abbrev pub LogsInSteps : ℕ → ℕ → ℕ → List Entry → List Entry → Type 0

@@ -80,12 +80,14 @@ spaces g = spaces_of g.tables g.checker g.search g.assumed g.sat_state
 -- the value of a global variable in the model: that of its solver variable, without one that of the unit that is kept, and else
 -- false
 abbrev pub model_value : Tables → List (Option Bool) → ℕ → Bool
-model_value t values x = value_or (data_at t.kept x).unit (λ v. is_true_value (slice_index_or values v None)) (at t.solvers.forward x)
+model_value t values x =
+    value_or (data_at t.kept x).unit (λ v. is_true_value (slice_index_or values v None)) (at t.solvers.forward x)
 
 -- the model as it is listed: the names in use among the k names from u on
 abbrev pub list_tables : Tables → List (Option Bool) → ℕ → ℕ → List Literal
 list_tables t values u zero = []
-list_tables t values u (suc k) = put_name u (at t.users.forward u) (model_value t values) (list_tables t values (suc u) k)
+list_tables t values u (suc k) =
+    put_name u (at t.users.forward u) (model_value t values) (list_tables t values (suc u) k)
 
 -- what a valid solver keeps of its names, its variables and its search
 pub record IsValidSolver {A : Type 0} (tables : Tables) (search : Context A) : Type 0 where
@@ -97,7 +99,8 @@ pub record IsValidSolver {A : Type 0} (tables : Tables) (search : Context A) : T
   pub decidable : DecidesInUse tables (view search) search.vsids
   -- assumptions are over names in use, whose variables are marked as assumed, and those by which the search goes over their solver variables
   pub assumed : (l : Literal) → l ∈ search.assumptions.user → IsSome (at tables.users.forward (variable_of l))
-  pub marked : (l : Literal) (x : ℕ) → l ∈ search.assumptions.user → at tables.users.forward (variable_of l) ≡ Some x → (data_at tables.kept x).assumed ≡ true
+  pub marked : (l : Literal) (x : ℕ) → l ∈ search.assumptions.user → at tables.users.forward (variable_of l) ≡ Some x →
+      (data_at tables.kept x).assumed ≡ true
   pub working : (l : Literal) → l ∈ search.assumptions.working → IsAssumedSolver tables (variable_of l)
 
 -- Some state is represented by what is held. Before a clause, a variable or a list of assumptions was accepted it has no clauses, and
@@ -107,7 +110,8 @@ RepresentsSome p started = (s : State) × SpacesFit p s × (started ≡ false �
 
 -- What it keeps beside that: its proof can log entries, it counts the steps since its last change, before which `changed_at`
 -- were made, and it represents some state, so that its checker finds each step right that it gets.
-pub record IsValidSince {A : Type 0} (tables : Tables) (proof : ProofParts) (search : Context A) (started : Bool) (changed_at : ℕ) : Type 0 where
+pub record IsValidSince {A : Type 0} (tables : Tables) (proof : ProofParts) (search : Context A) (started : Bool)
+    (changed_at : ℕ) : Type 0 where
   pub kept : IsValidSolver tables search
   pub logs : CanLog proof
   pub counts : CountsSince changed_at search
@@ -133,5 +137,6 @@ LeadsRepresented g R h = (s : State) → Represents g s → (t : State) × R s t
 abbrev pub EndsSearch : Summary → Result (Unit {0}) SolverError → Summary → Type 0
 EndsSearch g (Ok _) h = h ≡ record g { opened = marked_searched g.opened }
 EndsSearch g (Err (ProofIoError cause)) h =
-    Flushes {E = Error} (marked_searched g.opened) (Err cause) h.opened × (h ≡ record g { opened = h.opened; ledger = record g.ledger { valid = false } })
+    Flushes {E = Error} (marked_searched g.opened) (Err cause) h.opened
+    × (h ≡ record g { opened = h.opened; ledger = record g.ledger { valid = false } })
 EndsSearch g (Err _) h = ⊥

@@ -27,7 +27,8 @@ IsApart P i = (c : Clause) (l : Literal) → c ∈ P → IsWide c → l ∈ c �
 pub record AreAllShown (us : List ℕ) (P : List Clause) (old new : Naming) : Type 0 where
   pub in_turn : AreShown us old new
   pub in_range : (u : ℕ) → u ∈ us → u < variable_limit
-  pub rest : (i : ℕ) → i < new.made → IsUnnamed new i → IsApart P i ⊎ ((a b : Assignment) → SatisfiesAll a P → SatisfiesAll b P → a i ≡ b i)
+  pub rest : (i : ℕ) → i < new.made → IsUnnamed new i →
+      IsApart P i ⊎ ((a b : Assignment) → SatisfiesAll a P → SatisfiesAll b P → a i ≡ b i)
 
 -- the name is in use, and its variable is assumed
 abbrev pub IsAssumed : {V : Type 0} → Known V → ℕ → Type 0
@@ -42,11 +43,15 @@ abbrev pub name_var : {V : Type 0} → ℕ → Known V → Known V
 name_var u s = renamed (name_one u s.naming) s
 
 -- A name is named, and then its variable is changed, unless it is assumed, and may leave.
-abbrev pub ChangesVar : {V : Type 0} → Bool → (Known V → Known V) → Known V → ℕ → Result (Unit {0}) SolverError → Known V → Type 0
-ChangesVar may_leave change s u (Ok _) t = IsValid s × (u < variable_limit) × (IsAssumed s u → ⊥) × IsLikeButLeft may_leave (change (name_var u s)) t
+abbrev pub ChangesVar : {V : Type 0} → Bool → (Known V → Known V) → Known V → ℕ → Result (Unit {0}) SolverError →
+    Known V → Type 0
+ChangesVar may_leave change s u (Ok _) t =
+    IsValid s × (u < variable_limit) × (IsAssumed s u → ⊥) × IsLikeButLeft may_leave (change (name_var u s)) t
 ChangesVar may_leave change s u (Err Invalid) t = IsRefusedInvalid s t
-ChangesVar may_leave change s u (Err VariableLimit) t = IsValid s × ((variable_limit ≤ u) ⊎ IsCrowded (name_one u s.naming)) × (t ≡ s)
-ChangesVar may_leave change s u (Err (AssumedVar v)) t = IsValid s × (u < variable_limit) × (v ≡ u) × IsAssumed s u × (t ≡ s)
+ChangesVar may_leave change s u (Err VariableLimit) t =
+    IsValid s × ((variable_limit ≤ u) ⊎ IsCrowded (name_one u s.naming)) × (t ≡ s)
+ChangesVar may_leave change s u (Err (AssumedVar v)) t =
+    IsValid s × (u < variable_limit) × (v ≡ u) × IsAssumed s u × (t ≡ s)
 ChangesVar may_leave change s u (Err OutOfMemory) t = (u < variable_limit) × (IsAssumed s u → ⊥) × Invalidates 0 s t
 ChangesVar may_leave change s u (Err _) t = ⊥
 
@@ -82,7 +87,8 @@ ChangesMode sampling.Hide s u r t = HidesVar s u r t
 
 -- The call `observe_internal_vars`. Names of hidden variables are always found below the limit, as there are no more variables.
 abbrev pub Observes : {V : Type 0} → Known V → Result (List ℕ) SolverError → Known V → Type 0
-Observes s (Ok us) t = IsValid s × ((m : Naming) × AreAllShown us s.clauses s.naming m × IsLikeButLeft false (renamed m s) t)
+Observes s (Ok us) t =
+    IsValid s × ((m : Naming) × AreAllShown us s.clauses s.naming m × IsLikeButLeft false (renamed m s) t)
 Observes s (Err Invalid) t = IsRefusedInvalid s t
 Observes s (Err OutOfMemory) t = Invalidates 0 s t
 Observes s (Err _) t = ⊥

@@ -5,8 +5,8 @@ use std::alloc::{Allocator, Global};
 use std::str;
 use varisat::program::session_lines;
 use varisat_formula::io::CutSource;
-use varisat_tests_sessions::{Exchange, SETTINGS, SWEPT_SESSIONS};
 use varisat_tests_heap::CutHeap;
+use varisat_tests_sessions::{Exchange, SETTINGS, SWEPT_SESSIONS};
 
 /// Each call of a solver, behind a session.
 const EPILOGUE: &str =

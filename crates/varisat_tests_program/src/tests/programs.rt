@@ -11,9 +11,9 @@ use varisat::proof::ProofFormat;
 use varisat::solver::{Solver, SolverError};
 use varisat_formula::io::{ByteSource, MemoryTarget, ReadSource};
 use varisat_names::config::SolverConfigUpdate;
-use varisat_tests_sessions::{ALL_SESSIONS, Exchange, SETTINGS};
 use varisat_tests_calls::readers::in_pieces;
 use varisat_tests_calls::settings::reducing_every;
+use varisat_tests_sessions::{ALL_SESSIONS, Exchange, SETTINGS};
 
 // What a command prints, what it reports of a fault, and its status.
 type Printed = (&'static str, &'static str, u8);

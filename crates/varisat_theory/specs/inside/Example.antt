@@ -12,7 +12,8 @@ small_conflict = 1 ∷ 7 ∷ 9 ∷ []
 
 -- the reasons of 2, 4 and 5
 abbrev pub small_reason : Literal → Clause
-small_reason l = if nat_eq l 2 then 1 ∷ 2 ∷ [] else if nat_eq l 6 then 5 ∷ 6 ∷ [] else if nat_eq l 8 then 3 ∷ 7 ∷ 8 ∷ [] else []
+small_reason l =
+    if nat_eq l 2 then 1 ∷ 2 ∷ [] else if nat_eq l 6 then 5 ∷ 6 ∷ [] else if nat_eq l 8 then 3 ∷ 7 ∷ 8 ∷ [] else []
 
 -- 2 and 5
 abbrev pub small_resolved : Literal → Bool

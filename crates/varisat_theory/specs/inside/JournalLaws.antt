@@ -50,10 +50,13 @@ pub record JournalAddsNew : Type 0 where
       LeadsAdding k P es Q →
       (Q' : List Clause) × LeadsAdding k P' es Q' × SameClauses Q Q'
   pub leads : (k : ℕ) (P : List Clause) (es : List Entry) (Q : List Clause) → LeadsAdding k P es Q → Leads P es Q
-  pub added : (k : ℕ) (P : List Clause) (es : List Entry) (Q : List Clause) → LeadsAdding k P es Q → k ≤ added (lines_of es)
+  pub added : (k : ℕ) (P : List Clause) (es : List Entry) (Q : List Clause) → LeadsAdding k P es Q →
+      k ≤ added (lines_of es)
   pub copy : (P : List Clause) (c : Clause) (Q : List Clause) → c ∈ P → LeadsAdding 1 P (Writes (Add c) ∷ []) Q → ⊥
-  pub tautology : (P : List Clause) (c : Clause) (Q : List Clause) → IsTautology c → LeadsAdding 1 P (Writes (Add c) ∷ []) Q → ⊥
-  pub blank : (P : List Clause) (c : Clause) (Q : List Clause) → LeadsAdding 1 P (Writes (Add c) ∷ Writes (Delete c) ∷ []) Q → ⊥
+  pub tautology : (P : List Clause) (c : Clause) (Q : List Clause) → IsTautology c →
+      LeadsAdding 1 P (Writes (Add c) ∷ []) Q → ⊥
+  pub blank : (P : List Clause) (c : Clause) (Q : List Clause) →
+      LeadsAdding 1 P (Writes (Add c) ∷ Writes (Delete c) ∷ []) Q → ⊥
 
 -- Where no variable leaves, the lines are a derivation from the clauses held at first and all that are accepted, and where
 -- propagation conflicts in the end they refute these. A clause that is accepted later spoils no line before it.
@@ -92,4 +95,5 @@ pub record RenamesJournals (f : Literal → Literal) (ls : List Literal) : Type 
 
 -- so it is where the names are one-to-one on the list
 abbrev pub JournalIsRenamed : Type 0
-JournalIsRenamed = (f : Literal → Literal) → KeepsOpposites f → (ls : List Literal) → IsOneToOneOn f ls → RenamesJournals f ls
+JournalIsRenamed = (f : Literal → Literal) → KeepsOpposites f → (ls : List Literal) → IsOneToOneOn f ls →
+    RenamesJournals f ls

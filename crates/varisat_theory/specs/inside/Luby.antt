@@ -32,7 +32,8 @@ pub record Walk : Type 0 where
 -- after the largest power of 2 that divides the place comes the next place, and else the next power
 abbrev pub next_walk : Walk → Walk
 next_walk w =
-    if nat_eq (w.place % 2 ^ suc w.exponent) (2 ^ w.exponent) then record { place = suc w.place; exponent = 0 } else record {
+    if nat_eq (w.place % 2 ^ suc w.exponent) (2 ^ w.exponent) then record { place = suc w.place; exponent = 0 }
+    else record {
       place = w.place;
       exponent = suc w.exponent;
     }

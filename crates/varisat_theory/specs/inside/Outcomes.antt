@@ -48,7 +48,8 @@ pub record Steps (s t : Search) (v : Outcome) (lines : List Line) : Type 0 where
 -- What k steps of a call give together: at most k of the added clauses count, and where the last verdict is Unknown the lines are
 -- k parts in turn, each of which adds a new one that stays to its end. Of the literals the same holds.
 pub record MakesSteps (k : ℕ) (s t : Search) (v : Outcome) (lines : List Line) : Type 0 where
-  pub holds : (held : List Clause) → Fits held s → (after : List Clause) × DerivesBy k held lines after × Holds after t v
+  pub holds : (held : List Clause) → Fits held s →
+      (after : List Clause) × DerivesBy k held lines after × Holds after t v
   pub answers : (P : List Clause) → Covers P s → Answers P t v
   pub adds : (held : List Clause) → Fits held s → v ≡ Unknown → AddsManyNew k held lines
   pub speaks : SpeakOf (IsLiteralOf s) lines

@@ -15,20 +15,24 @@ use Rattle.varisat_theory.specs.inside.Outcomes.{Outcome, Unknown, Sat, Unsat, U
 
 -- two parts in turn are one, whose lines are theirs in turn, and what counts adds up
 abbrev pub PartsJoin : Type 0
-PartsJoin = (m n : ℕ) (s t u : Search) (first second : List Line) → Proves m s t first → Proves n t u second → Proves (m + n) s u (first ++ second)
+PartsJoin = (m n : ℕ) (s t u : Search) (first second : List Line) → Proves m s t first → Proves n t u second →
+    Proves (m + n) s u (first ++ second)
 
 -- parts of which nothing counts may come before a step, and such as delete nothing after one that goes on
 abbrev pub PartsJoinStep : Type 0
 PartsJoinStep =
-    ((s t u : Search) (v : Outcome) (first second : List Line) → Proves 0 s t first → Steps t u v second → Steps s u v (first ++ second))
-    × ((s t u : Search) (first second : List Line) → Steps s t Unknown first → Proves 0 t u second → DeletesNone second →
+    ((s t u : Search) (v : Outcome) (first second : List Line) → Proves 0 s t first → Steps t u v second →
+    Steps s u v (first ++ second))
+    × ((s t u : Search) (first second : List Line) → Steps s t Unknown first → Proves 0 t u second →
+    DeletesNone second →
     Steps s u Unknown (first ++ second))
 
 -- A step that goes on is a part that counts once, and adds a clause at least; so k steps of a call count k times at most and add k clauses at least.
 abbrev pub StepIsPart : Type 0
 StepIsPart =
     ((s t : Search) (lines : List Line) → Steps s t Unknown lines → Proves 1 s t lines)
-    × ((s t : Search) (lines : List Line) (held : List Clause) → Steps s t Unknown lines → Fits held s → 1 ≤ added lines)
+    × ((s t : Search) (lines : List Line) (held : List Clause) → Steps s t Unknown lines → Fits held s →
+    1 ≤ added lines)
     × ((first second : List Line) → added (first ++ second) ≡ added first + added second)
 
 -- Kept clauses moved, their literals too, and more literals of the search are fixed, or fewer proved.
@@ -49,7 +53,8 @@ MovesProve = (s t : Search) → OnlyMoves s t → Proves 0 s t []
 -- A literal that is true at level 0 is proved by its reason, where the reason's others are proved false.
 abbrev pub UnitIsProved : Type 0
 UnitIsProved =
-    (s : Search) (l : Literal) (k : KeptClause) → l ∈ s.fixed → k ∈ s.kept → l ∈ k.clause → LeavesOnly s.proved k.clause l →
+    (s : Search) (l : Literal) (k : KeptClause) → l ∈ s.fixed → k ∈ s.kept → l ∈ k.clause →
+    LeavesOnly s.proved k.clause l →
     Proves 0 s (record s { proved = s.proved ++ l ∷ [] }) (Add (l ∷ []) ∷ [])
 
 -- the unit clauses of the literals, one line each
@@ -60,34 +65,41 @@ unit_lines (l ∷ ls) = Add (l ∷ []) ∷ unit_lines ls
 -- So are several, in an order in which each has a reason whose others are proved false before it.
 abbrev pub UnitsAreProved : Type 0
 UnitsAreProved =
-    (s : Search) (ls : List Literal) → ((front back : List Literal) (l : Literal) → ls ≡ front ++ (l ∷ back) → (l ∈ s.fixed)
+    (s : Search) (ls : List Literal) →
+    ((front back : List Literal) (l : Literal) → ls ≡ front ++ (l ∷ back) → (l ∈ s.fixed)
     × ((k : KeptClause) × (k ∈ s.kept) × (l ∈ k.clause) × LeavesOnly (s.proved ++ front) k.clause l)) →
     Proves 0 s (record s { proved = s.proved ++ ls }) (unit_lines ls)
 
 -- a kept clause with a literal that is true at level 0 is deleted
 abbrev pub SatisfiedIsDeleted : Type 0
 SatisfiedIsDeleted =
-    (s : Search) (front back : List KeptClause) (k : KeptClause) (c : Clause) (l : Literal) → s.kept ≡ front ++ (k ∷ back) → SameSet k.clause c →
+    (s : Search) (front back : List KeptClause) (k : KeptClause) (c : Clause) (l : Literal) →
+    s.kept ≡ front ++ (k ∷ back) → SameSet k.clause c →
     l ∈ k.clause → l ∈ s.fixed → Proves 0 s (record s { kept = front ++ back }) (Delete c ∷ [])
 
 -- a learned clause is deleted
 abbrev pub LearnedIsDeleted : Type 0
 LearnedIsDeleted =
-    (s : Search) (front back : List KeptClause) (k : KeptClause) (c : Clause) → s.kept ≡ front ++ (k ∷ back) → SameSet k.clause c →
+    (s : Search) (front back : List KeptClause) (k : KeptClause) (c : Clause) → s.kept ≡ front ++ (k ∷ back) →
+    SameSet k.clause c →
     k.learned ≡ true → Proves 0 s (record s { kept = front ++ back }) (Delete c ∷ [])
 
 -- A kept clause loses literals that are proved false. It may cease to be a learned one, as it goes to the pairs, and never becomes one.
 abbrev pub ClauseIsShortened : Type 0
 ClauseIsShortened =
-    (s : Search) (front back : List KeptClause) (k j : KeptClause) (c d : Clause) → s.kept ≡ front ++ (k ∷ back) → SameSet k.clause c →
-    SameSet j.clause d → j.clause ⊆ k.clause → ((m : Literal) → m ∈ k.clause → (m ∈ j.clause) ⊎ (opposite m ∈ s.proved)) →
+    (s : Search) (front back : List KeptClause) (k j : KeptClause) (c d : Clause) → s.kept ≡ front ++ (k ∷ back) →
+    SameSet k.clause c →
+    SameSet j.clause d → j.clause ⊆ k.clause →
+    ((m : Literal) → m ∈ k.clause → (m ∈ j.clause) ⊎ (opposite m ∈ s.proved)) →
     (j.learned ≡ true → k.learned ≡ true) → Proves 0 s (record s { kept = front ++ (j ∷ back) }) (Add d ∷ Delete c ∷ [])
 
 -- A variable that no kept clause mentions leaves the search; what is held loses the clauses that mention it, which is no line.
 abbrev pub VariableIsRetired : Type 0
 VariableIsRetired =
-    (s t : Search) (v : ℕ) (held : List Clause) → t.kept ≡ s.kept → ((k : KeptClause) → k ∈ s.kept → mentions v k.clause ≡ false) →
-    ((l : Literal) → l ∈ s.fixed → variable_of l ≢ v → l ∈ t.fixed) → ((l : Literal) → l ∈ t.proved → (l ∈ s.proved) × (variable_of l ≢ v)) →
+    (s t : Search) (v : ℕ) (held : List Clause) → t.kept ≡ s.kept →
+    ((k : KeptClause) → k ∈ s.kept → mentions v k.clause ≡ false) →
+    ((l : Literal) → l ∈ s.fixed → variable_of l ≢ v → l ∈ t.fixed) →
+    ((l : Literal) → l ∈ t.proved → (l ∈ s.proved) × (variable_of l ≢ v)) →
     Fits held s → Fits (without v held) t
 
 -- 3. How a step ends.
@@ -140,12 +152,15 @@ IsSolution s known =
 -- a total assignment under which no kept clause is false satisfies all accepted clauses, and ends the step
 abbrev pub ModelIsFound : Type 0
 ModelIsFound =
-    ((s : Search) (known : List Literal) (a : Assignment) (P : List Clause) → IsSolution s known → MakesTrue a known → Covers P s → SatisfiesAll a P)
-    × ((s : Search) (known : List Literal) (a : Assignment) → IsSolution s known → MakesTrue a known → Steps s s (Sat a) [])
+    ((s : Search) (known : List Literal) (a : Assignment) (P : List Clause) → IsSolution s known → MakesTrue a known →
+    Covers P s → SatisfiesAll a P)
+    × ((s : Search) (known : List Literal) (a : Assignment) → IsSolution s known → MakesTrue a known →
+    Steps s s (Sat a) [])
 
 -- so does a core with which whatever fits conflicts
 abbrev pub CoreIsFound : Type 0
-CoreIsFound = (s : Search) (core : List Literal) → ((held : List Clause) → Fits held s → Conflicts held core) → Steps s s (UnsatUnder core) []
+CoreIsFound = (s : Search) (core : List Literal) → ((held : List Clause) → Fits held s → Conflicts held core) →
+    Steps s s (UnsatUnder core) []
 
 -- 4. What loading does.
 
@@ -168,7 +183,8 @@ LoadedIsDischarged = (s : Search) (c : Clause) → IsDischarged s c → (IsContr
 -- another clause with a literal that is true at level 0 is deleted at once
 abbrev pub LoadedIsDeleted : Type 0
 LoadedIsDeleted =
-    (s : Search) (c d : Clause) → IsDischarged s c → (IsContradicted s c → ⊥) → SameSet d c → Loads s s c Unknown (Delete d ∷ [])
+    (s : Search) (c d : Clause) → IsDischarged s c → (IsContradicted s c → ⊥) → SameSet d c →
+    Loads s s c Unknown (Delete d ∷ [])
 
 -- whatever fits implies the literals of level 0
 abbrev pub IsGrounded : Search → Type 0
@@ -181,9 +197,11 @@ LoadedIsContradicted = (s t : Search) (c : Clause) → IsGrounded s → IsContra
 -- parts of which nothing counts may come after loading, and before it such as write no line and leave the same fixed
 abbrev pub PartsJoinLoad : Type 0
 PartsJoinLoad =
-    ((s t u : Search) (c : Clause) (v : Outcome) (lines : List Line) → Proves 0 s t [] → s.fixed ⊆ t.fixed → t.fixed ⊆ s.fixed →
+    ((s t u : Search) (c : Clause) (v : Outcome) (lines : List Line) → Proves 0 s t [] → s.fixed ⊆ t.fixed →
+    t.fixed ⊆ s.fixed →
     Loads t u c v lines → Loads s u c v lines)
-    × ((s t u : Search) (c : Clause) (lines more : List Line) → Loads s t c Unknown lines → Proves 0 t u more → Loads s u c Unknown (lines ++ more))
+    × ((s t u : Search) (c : Clause) (lines more : List Line) → Loads s t c Unknown lines → Proves 0 t u more →
+    Loads s u c Unknown (lines ++ more))
 
 -- 5. What k steps give together.
 
@@ -194,7 +212,8 @@ NoStepIsMade = (s : Search) → MakesSteps 0 s s Unknown []
 -- one more step follows k that went on
 abbrev pub StepIsMade : Type 0
 StepIsMade =
-    (k : ℕ) (s t u : Search) (v : Outcome) (first second : List Line) → MakesSteps k s t Unknown first → Steps t u v second →
+    (k : ℕ) (s t u : Search) (v : Outcome) (first second : List Line) → MakesSteps k s t Unknown first →
+    Steps t u v second →
     MakesSteps (suc k) s u v (first ++ second)
 
 -- many new clauses are many added ones
@@ -216,15 +235,19 @@ StepsOfCall =
 -- that delete nothing.
 abbrev pub PartsJoinSteps : Type 0
 PartsJoinSteps =
-    ((k : ℕ) (s t u : Search) (v : Outcome) (first second : List Line) → Proves 0 s t first → MakesSteps k t u v second →
-    MakesSteps k s u v (first ++ second)) × ((k : ℕ) (s t u : Search) (first second : List Line) → MakesSteps k s t Unknown first →
+    ((k : ℕ) (s t u : Search) (v : Outcome) (first second : List Line) → Proves 0 s t first →
+    MakesSteps k t u v second →
+    MakesSteps k s u v (first ++ second))
+    × ((k : ℕ) (s t u : Search) (first second : List Line) → MakesSteps k s t Unknown first →
     Proves 0 t u second → DeletesNone second → MakesSteps k s u Unknown (first ++ second))
-    × ((k : ℕ) (s t u : Search) (found : Assignment) (first second : List Line) → MakesSteps k s t (Sat found) first → Proves 0 t u second →
+    × ((k : ℕ) (s t u : Search) (found : Assignment) (first second : List Line) → MakesSteps k s t (Sat found) first →
+    Proves 0 t u second →
     MakesSteps k s u (Sat found) (first ++ second))
 
 -- the lines of steps that come to Unsat refute what is held
 abbrev pub StepsRefute : Type 0
-StepsRefute = (k : ℕ) (held : List Clause) (s t : Search) (lines : List Line) → Fits held s → MakesSteps k s t Unsat lines → Refutes held lines
+StepsRefute = (k : ℕ) (held : List Clause) (s t : Search) (lines : List Line) → Fits held s →
+    MakesSteps k s t Unsat lines → Refutes held lines
 
 -- 6. What follows for the accepted clauses.
 
@@ -235,13 +258,15 @@ FirstAccounts = (s : Search) → s ≡ record { kept = []; fixed = []; proved = 
 -- A part of a step keeps what a solver has of the accepted clauses.
 abbrev pub PartAccounts : Type 0
 PartAccounts =
-    (n : ℕ) (P held : List Clause) (s t : Search) (lines : List Line) → AccountsFor P held s Unknown → Proves n s t lines → (after : List Clause)
+    (n : ℕ) (P held : List Clause) (s t : Search) (lines : List Line) → AccountsFor P held s Unknown →
+    Proves n s t lines → (after : List Clause)
     × DerivesBy n held lines after × AccountsFor P after t Unknown
 
 -- So does a step.
 abbrev pub StepAccounts : Type 0
 StepAccounts =
-    (P held : List Clause) (s t : Search) (v : Outcome) (lines : List Line) → AccountsFor P held s Unknown → Steps s t v lines → (after : List Clause)
+    (P held : List Clause) (s t : Search) (v : Outcome) (lines : List Line) → AccountsFor P held s Unknown →
+    Steps s t v lines → (after : List Clause)
     × DerivesBy 1 held lines after × AccountsFor P after t v × (v ≡ Unknown → 1 ≤ added lines)
 
 -- So do k steps.
@@ -250,12 +275,14 @@ StepsAccount =
     (k : ℕ) (P held : List Clause) (s t : Search) (v : Outcome) (lines : List Line) →
     AccountsFor P held s Unknown →
     MakesSteps k s t v lines →
-    (after : List Clause) × DerivesBy k held lines after × AccountsFor P after t v × (v ≡ Unknown → AddsManyNew k held lines)
+    (after : List Clause) × DerivesBy k held lines after × AccountsFor P after t v
+    × (v ≡ Unknown → AddsManyNew k held lines)
 
 -- Loading adds a clause to them.
 abbrev pub LoadAccounts : Type 0
 LoadAccounts =
-    (P held : List Clause) (s t : Search) (c : Clause) (v w : Outcome) (lines : List Line) → AccountsFor P held s v → v ≢ Unsat → Loads s t c w lines →
+    (P held : List Clause) (s t : Search) (c : Clause) (v w : Outcome) (lines : List Line) → AccountsFor P held s v →
+    v ≢ Unsat → Loads s t c w lines →
     (after : List Clause) × DerivesBy 0 (held ++ c ∷ []) lines after × AccountsFor (P ++ c ∷ []) after t w
 
 -- What the verdicts say of the accepted clauses. Under Unsat one more changes nothing.
@@ -263,12 +290,15 @@ abbrev pub VerdictsAreRight : Type 0
 VerdictsAreRight =
     ((P held : List Clause) (s : Search) (a : Assignment) → AccountsFor P held s (Sat a) → SatisfiesAll a P)
     × ((P held : List Clause) (s : Search) → AccountsFor P held s Unsat → IsSatisfiable P → ⊥)
-    × ((P held : List Clause) (s : Search) (core : List Literal) → AccountsFor P held s (UnsatUnder core) → IsSatisfiableWith P core → ⊥)
-    × ((P held : List Clause) (s : Search) (c : Clause) → AccountsFor P held s Unsat → AccountsFor (P ++ c ∷ []) (held ++ c ∷ []) s Unsat)
+    × ((P held : List Clause) (s : Search) (core : List Literal) → AccountsFor P held s (UnsatUnder core) →
+    IsSatisfiableWith P core → ⊥)
+    × ((P held : List Clause) (s : Search) (c : Clause) → AccountsFor P held s Unsat →
+    AccountsFor (P ++ c ∷ []) (held ++ c ∷ []) s Unsat)
 
 -- a derivation that counts is one
 abbrev pub CountedDerives : Type 0
-CountedDerives = (n : ℕ) (P : List Clause) (lines : List Line) (Q : List Clause) → DerivesBy n P lines Q → Derives P lines Q
+CountedDerives = (n : ℕ) (P : List Clause) (lines : List Line) (Q : List Clause) → DerivesBy n P lines Q →
+    Derives P lines Q
 
 -- each kept clause has a held one of its own
 abbrev pub KeptAreHeld : Type 0
@@ -279,32 +309,39 @@ KeptAreHeld = (held : List Clause) (s : Search) → Fits held s → length s.kep
 -- A part of a step keeps what is covered under other names too.
 abbrev pub NamesAreCovered : Type 0
 NamesAreCovered =
-    (n : ℕ) (s t : Search) (lines : List Line) (to : Literal → Literal) (known : Literal → Bool) (P : List Clause) → KeepsOpposites to →
+    (n : ℕ) (s t : Search) (lines : List Line) (to : Literal → Literal) (known : Literal → Bool) (P : List Clause) →
+    KeepsOpposites to →
     Proves n s t lines → CoversBy to known P s → CoversBy to known P t
 
 -- So do steps that go on.
 abbrev pub NamesStayCovered : Type 0
 NamesStayCovered =
-    (k : ℕ) (s t : Search) (lines : List Line) (to : Literal → Literal) (known : Literal → Bool) (P : List Clause) → KeepsOpposites to →
+    (k : ℕ) (s t : Search) (lines : List Line) (to : Literal → Literal) (known : Literal → Bool) (P : List Clause) →
+    KeepsOpposites to →
     MakesSteps k s t Unknown lines → CoversBy to known P s → CoversBy to known P t
 
 -- Loading a clause covers one more accepted clause under other names, of which the loaded one is a part.
 abbrev pub NamesAreLoaded : Type 0
 NamesAreLoaded =
-    (s t : Search) (c d : Clause) (lines : List Line) (to : Literal → Literal) (known : Literal → Bool) (P : List Clause) → KeepsOpposites to →
-    Loads s t c Unknown lines → ((l : Literal) → l ∈ c → to l ∈ d) → CoversBy to known P s → CoversBy to known (P ++ d ∷ []) t
+    (s t : Search) (c d : Clause) (lines : List Line) (to : Literal → Literal) (known : Literal → Bool)
+    (P : List Clause) → KeepsOpposites to →
+    Loads s t c Unknown lines → ((l : Literal) → l ∈ c → to l ∈ d) → CoversBy to known P s →
+    CoversBy to known (P ++ d ∷ []) t
 
 -- A variable's leaving keeps it, where its literal is known to be true for good once it is fixed.
 abbrev pub DetachedAreCovered : Type 0
 DetachedAreCovered =
     (s t : Search) (to : Literal → Literal) (known more : Literal → Bool) (P : List Clause) → t.kept ≡ s.kept →
-    ((l : Literal) → l ∈ s.fixed → (l ∈ t.fixed) ⊎ (more (to l) ≡ true)) → ((l : Literal) → known l ≡ true → more l ≡ true) →
+    ((l : Literal) → l ∈ s.fixed → (l ∈ t.fixed) ⊎ (more (to l) ≡ true)) →
+    ((l : Literal) → known l ≡ true → more l ≡ true) →
     CoversBy to known P s → CoversBy to more P t
 
 -- Where steps found an assignment, the accepted clauses are satisfied by each assignment of the other names that gives the
 -- search's literals the values found, and makes true what is known.
 abbrev pub NamesAreSatisfied : Type 0
 NamesAreSatisfied =
-    (k : ℕ) (s t : Search) (found a : Assignment) (lines : List Line) (to : Literal → Literal) (known : Literal → Bool) (P : List Clause) →
-    MakesSteps k s t (Sat found) lines → CoversBy to known P s → ((l : Literal) → IsLiteralOf s l → value a (to l) ≡ value found l) →
+    (k : ℕ) (s t : Search) (found a : Assignment) (lines : List Line) (to : Literal → Literal) (known : Literal → Bool)
+    (P : List Clause) →
+    MakesSteps k s t (Sat found) lines → CoversBy to known P s →
+    ((l : Literal) → IsLiteralOf s l → value a (to l) ≡ value found l) →
     ((l : Literal) → known l ≡ true → value a l ≡ true) → SatisfiesAll a P

@@ -23,7 +23,10 @@ IsAmong P c = (d : Clause) × (d ∈ P) × SameSet d c
 abbrev pub DerivesBy : ℕ → List Clause → List Line → List Clause → Type 0
 DerivesBy n P [] Q = P ≡ Q
 DerivesBy n P (Add c ∷ lines) Q =
-    Follows P c × ((IsMinor P c × DerivesBy n (P ++ c ∷ []) lines Q) ⊎ ((m : ℕ) × (n ≡ suc m) × DerivesBy m (P ++ c ∷ []) lines Q))
+    Follows P c
+    ×
+    ((IsMinor P c × DerivesBy n (P ++ c ∷ []) lines Q)
+    ⊎ ((m : ℕ) × (n ≡ suc m) × DerivesBy m (P ++ c ∷ []) lines Q))
 DerivesBy n P (Delete c ∷ lines) Q = (R : List Clause) × TakesOut P c R × DerivesBy n R lines Q
 
 -- A line adds a clause that is new to what is present just before, and is still there after all the lines.
@@ -43,7 +46,8 @@ pub record AddsNew (P : List Clause) (lines : List Line) : Type 0 where
 abbrev pub AddsManyNew : ℕ → List Clause → List Line → Type 0
 AddsManyNew zero P lines = Unit {0}
 AddsManyNew (suc k) P lines =
-    (first last : List Line) × (Q : List Clause) × (lines ≡ first ++ last) × IsPresentAfter P first Q × AddsManyNew k P first × AddsNew Q last
+    (first last : List Line) × (Q : List Clause) × (lines ≡ first ++ last) × IsPresentAfter P first Q
+    × AddsManyNew k P first × AddsNew Q last
 
 -- no line deletes a clause
 abbrev pub DeletesNone : List Line → Type 0

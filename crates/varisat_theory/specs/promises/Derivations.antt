@@ -12,7 +12,8 @@ pub data Line : Type 0 where
 -- `after` is `before` without one clause that is equal to c as a set
 abbrev pub TakesOut : List Clause → Clause → List Clause → Type 0
 TakesOut before c after =
-    (front : List Clause) × (d : Clause) × (back : List Clause) × (before ≡ front ++ (d ∷ back)) × SameSet d c × (after ≡ front ++ back)
+    (front : List Clause) × (d : Clause) × (back : List Clause) × (before ≡ front ++ (d ∷ back)) × SameSet d c
+    × (after ≡ front ++ back)
 
 -- Where P is present before the lines, Q is present after them: an added clause joins at the end, and a deletion takes out one
 -- clause that is equal as a set, and must find one.
@@ -23,7 +24,8 @@ IsPresentAfter P (Delete c ∷ lines) Q = (R : List Clause) × TakesOut P c R ×
 
 -- each clause that a line adds follows from what is present before that line
 abbrev pub AddsWhatFollows : List Clause → List Line → Type 0
-AddsWhatFollows P lines = (front back : List Line) (c : Clause) (Q : List Clause) → lines ≡ front ++ (Add c ∷ back) → IsPresentAfter P front Q → Follows Q c
+AddsWhatFollows P lines = (front back : List Line) (c : Clause) (Q : List Clause) → lines ≡ front ++ (Add c ∷ back) →
+    IsPresentAfter P front Q → Follows Q c
 
 -- each deletion names a present clause, and each added clause follows
 abbrev pub IsDerivation : List Clause → List Line → Type 0
@@ -31,7 +33,9 @@ IsDerivation P lines = ((Q : List Clause) × IsPresentAfter P lines Q) × AddsWh
 
 -- a beginning of the lines is a derivation, after which propagation over what is present conflicts
 abbrev pub Refutes : List Clause → List Line → Type 0
-Refutes P lines = (front back : List Line) × (Q : List Clause) × (lines ≡ front ++ back) × IsDerivation P front × IsPresentAfter P front Q × Conflicts Q []
+Refutes P lines =
+    (front back : List Line) × (Q : List Clause) × (lines ≡ front ++ back) × IsDerivation P front
+    × IsPresentAfter P front Q × Conflicts Q []
 
 -- The lines are a derivation from P, after which Q is present: the same line by line.
 abbrev pub Derives : List Clause → List Line → List Clause → Type 0

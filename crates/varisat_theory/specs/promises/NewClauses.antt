@@ -27,4 +27,5 @@ LeadsAdding (suc k) P es Q =
 -- Whatever the entries logged so far lead to from no clauses, the further ones lead on from it, in k parts in turn that each add a
 -- new clause, which is still held as the part ends.
 abbrev pub GoesOnAdding : ℕ → List Entry → List Entry → Type 0
-GoesOnAdding k logged es = (held : List Clause) → Leads [] logged held → (after : List Clause) × LeadsAdding k held es after
+GoesOnAdding k logged es = (held : List Clause) → Leads [] logged held →
+    (after : List Clause) × LeadsAdding k held es after

@@ -32,11 +32,13 @@ known_after known (u ∷ us) = known_after (u.left ∷ known) us
 -- A propagation over P: each clause in turn is one of P, and all its literals but one are false under what is known before it.
 abbrev pub IsPropagation : List Clause → List Literal → List Use → Type 0
 IsPropagation P known [] = Unit {0}
-IsPropagation P known (u ∷ us) = (u.clause ∈ P) × (u.left ∈ u.clause) × LeavesOnly known u.clause u.left × IsPropagation P (u.left ∷ known) us
+IsPropagation P known (u ∷ us) =
+    (u.clause ∈ P) × (u.left ∈ u.clause) × LeavesOnly known u.clause u.left × IsPropagation P (u.left ∷ known) us
 
 -- The base has a literal and its opposite, or after some propagation from it a clause is false.
 abbrev pub PropagatesToConflict : List Clause → List Literal → Type 0
-PropagatesToConflict P base = HasClash base ⊎ ((us : List Use) × IsPropagation P base us × HasFalse P (known_after base us))
+PropagatesToConflict P base =
+    HasClash base ⊎ ((us : List Use) × IsPropagation P base us × HasFalse P (known_after base us))
 
 -- Unit propagation over P from the known literals comes to a conflict: the same as `PropagatesToConflict`, by rules.
 pub data Conflicts (P : List Clause) : List Literal → Type 0 where
@@ -45,7 +47,8 @@ pub data Conflicts (P : List Clause) : List Literal → Type 0 where
   -- a clause is false
   FalseClause : {known : List Literal} (c : Clause) → c ∈ P → IsFalse known c → Conflicts P known
   -- a clause leaves one literal, which becomes known
-  Propagate : {known : List Literal} (c : Clause) (l : Literal) → c ∈ P → l ∈ c → LeavesOnly known c l → Conflicts P (l ∷ known) → Conflicts P known
+  Propagate : {known : List Literal} (c : Clause) (l : Literal) → c ∈ P → l ∈ c → LeavesOnly known c l →
+      Conflicts P (l ∷ known) → Conflicts P known
 
 -- propagation conflicts once all literals of the clause are taken as false
 abbrev pub Follows : List Clause → Clause → Type 0

@@ -39,7 +39,8 @@ pub record Fits (held : List Clause) (s : Search) : Type 0 where
 
 -- What the search says of the accepted clauses: each is discharged, or a kept one that is not learned is a part of it.
 abbrev pub Covers : List Clause → Search → Type 0
-Covers P s = (c : Clause) → c ∈ P → IsDischarged s c ⊎ ((k : KeptClause) × (k ∈ s.kept) × (k.learned ≡ false) × (k.clause ⊆ c))
+Covers P s = (c : Clause) → c ∈ P →
+    IsDischarged s c ⊎ ((k : KeptClause) × (k ∈ s.kept) × (k.learned ≡ false) × (k.clause ⊆ c))
 
 -- Why an accepted clause is covered where each literal l of the search stands for `to l`, of which the accepted clauses speak,
 -- and `known` says which of those are true for good.
@@ -48,7 +49,8 @@ pub data IsCoveredBySearch (to : Literal → Literal) (known : Literal → Bool)
   KnownTrue : (l : Literal) → l ∈ c → known l ≡ true → IsCoveredBySearch to known s c
   FixedTrue : (l : Literal) → l ∈ s.fixed → to l ∈ c → IsCoveredBySearch to known s c
   -- a kept clause that is not learned is a part of it
-  Kept : (k : KeptClause) → k ∈ s.kept → k.learned ≡ false → ((l : Literal) → l ∈ k.clause → to l ∈ c) → IsCoveredBySearch to known s c
+  Kept : (k : KeptClause) → k ∈ s.kept → k.learned ≡ false → ((l : Literal) → l ∈ k.clause → to l ∈ c) →
+      IsCoveredBySearch to known s c
 
 -- `Covers` under other names
 abbrev pub CoversBy : (Literal → Literal) → (Literal → Bool) → List Clause → Search → Type 0

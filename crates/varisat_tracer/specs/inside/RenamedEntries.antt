@@ -21,7 +21,9 @@ use Rattle.varisat_tracer.specs.promises.Carried.{variable_or_first, carry, logg
 -- 1. The same literal of another variable has the opposite of the same name.
 pub carry-opposites : (f : ℕ → Option ℕ) → KeepsOpposites (carry f)
 unfolding opposite
-carry-opposites f l = ap (λ v. 2 * variable_or_first (f v) + (l + 1 - 2 * (l % 2)) % 2) (half l) ∙ go (variable_or_first (f (variable_of l))) l
+carry-opposites f l =
+    ap (λ v. 2 * variable_or_first (f v) + (l + 1 - 2 * (l % 2)) % 2) (half l) ∙ go
+    (variable_or_first (f (variable_of l))) l
   where
     half : (l : ℕ) → (l + 1 - 2 * (l % 2)) / 2 ≡ l / 2
     half l = omega arith
@@ -31,19 +33,26 @@ carry-opposites f l = ap (λ v. 2 * variable_or_first (f v) + (l + 1 - 2 * (l % 
 
 -- 2. What is present after entries is determined, but for order and spelling.
 one_more : (P held R : List Clause) (c : Clause) → SameClauses held P → R ≡ held ++ c ∷ [] → SameClauses R (P ++ c ∷ [])
-one_more P held R c s e = subst (λ (X : List Clause). SameClauses X (P ++ c ∷ [])) (sym e) (same_add held P c c s (same_set-self c))
+one_more P held R c s e =
+    subst (λ (X : List Clause). SameClauses X (P ++ c ∷ [])) (sym e) (same_add held P c c s (same_set-self c))
 
-pub left_same : (P Q : List Clause) (entries : List Entry) (held after : List Clause) → IsLeftAfter P entries Q → SameClauses held P →
+pub left_same : (P Q : List Clause) (entries : List Entry) (held after : List Clause) → IsLeftAfter P entries Q →
+    SameClauses held P →
     Leads held entries after → SameClauses after Q
 left_same P Q [] held after e s d = subst (λ (X : List Clause). SameClauses X Q) d (subst (SameClauses held) e s)
-left_same P Q (Accepts c ∷ es) held after e s (R, f, d) = left_same (P ++ c ∷ []) Q es R after e (one_more P held R c s f) d
-left_same P Q (Writes (Add c) ∷ es) held after e s (R, f, d) = left_same (P ++ c ∷ []) Q es R after e (one_more P held R c s f.1) d
+left_same P Q (Accepts c ∷ es) held after e s (R, f, d) =
+    left_same (P ++ c ∷ []) Q es R after e (one_more P held R c s f) d
+left_same P Q (Writes (Add c) ∷ es) held after e s (R, f, d) =
+    left_same (P ++ c ∷ []) Q es R after e (one_more P held R c s f.1) d
 left_same P Q (Writes (Delete c) ∷ es) held after e s (R, f, d) =
     left_same e.0 Q es R after e.2 (present_unique held P (Delete c ∷ []) R e.0 s (R, f, refl) (e.0, e.1, refl)) d
-left_same P Q (Assumes a ∷ es) held after e s (R, f, d) = left_same P Q es R after e (subst (λ (X : List Clause). SameClauses X P) (sym f) s) d
-left_same P Q (Fails core ∷ es) held after e s (R, f, d) = left_same P Q es R after e (subst (λ (X : List Clause). SameClauses X P) (sym f.1) s) d
+left_same P Q (Assumes a ∷ es) held after e s (R, f, d) =
+    left_same P Q es R after e (subst (λ (X : List Clause). SameClauses X P) (sym f) s) d
+left_same P Q (Fails core ∷ es) held after e s (R, f, d) =
+    left_same P Q es R after e (subst (λ (X : List Clause). SameClauses X P) (sym f.1) s) d
 left_same P Q (Retires v ∷ es) held after e s (R, f, d) =
-    left_same (without v P) Q es R after e (subst (λ (X : List Clause). SameClauses X (without v P)) (sym f) (same_without v held P s)) d
+    left_same (without v P) Q es R after e
+    (subst (λ (X : List Clause). SameClauses X (without v P)) (sym f) (same_without v held P s)) d
 
 -- 3. One line as an entry.
 follow-line : (P : List Clause) (line : Line) (Q : List Clause) → Derives P (line ∷ []) Q → Follow P (Writes line) Q
@@ -63,63 +72,83 @@ parted : (v : ℕ) (P : List Clause) → (M : List Clause) × SameClauses P (M +
 parted v [] = ([], refl)
 parted v (c ∷ P) = let (M, s) = parted v P in by (mentions v c) M s
   where
-    by : (b : Bool) (M : List Clause) → SameClauses P (M ++ without v P) → (N : List Clause) × SameClauses (c ∷ P) (N ++ unless b c (without v P))
+    by : (b : Bool) (M : List Clause) → SameClauses P (M ++ without v P) →
+        (N : List Clause) × SameClauses (c ∷ P) (N ++ unless b c (without v P))
     by true M s = (c ∷ M, (M ++ without v P, ([], c, M ++ without v P, refl, same_set-self c, refl), s))
     by false M s = (M, (M ++ without v P, (M, c, without v P, refl, same_set-self c, refl), s))
 
 -- 5. Entries lead on under other names.
 module _ (f : Literal → Literal) (keeps : KeepsOpposites f) where
-  line-renamed : (P held R others : List Clause) (line : Line) → SameClauses (others ++ rename f held) P → Follow held (Writes line) R → (Q : List Clause)
+  line-renamed : (P held R others : List Clause) (line : Line) → SameClauses (others ++ rename f held) P →
+      Follow held (Writes line) R → (Q : List Clause)
       × Follow P (Writes (rename_line f line)) Q × SameClauses (others ++ rename f R) Q
   line-renamed P held R others line s w =
       let d = derives_beside others (rename f held) (rename_line f line ∷ []) (rename f R)
       (derives_renamed f keeps held (line ∷ []) R (line-follow held line R w)) in
-      let (Q, e, t) = derives_same (others ++ rename f held) P (rename_line f line ∷ []) (rename_line f line ∷ []) (others ++ rename f R) s
+      let (Q, e, t) =
+      derives_same (others ++ rename f held) P (rename_line f line ∷ []) (rename_line f line ∷ [])
+      (others ++ rename f R) s
       (same_lines-self (rename_line f line ∷ [])) d in
       (Q, follow-line P (rename_line f line) Q e, t)
 
-  conflict-renamed : (P held others : List Clause) (core : List Literal) → SameClauses (others ++ rename f held) P → Conflicts held core →
+  conflict-renamed : (P held others : List Clause) (core : List Literal) → SameClauses (others ++ rename f held) P →
+      Conflicts held core →
       Conflicts P (map f core)
   conflict-renamed P held others core s k =
       conflicts_same (others ++ rename f held) P (map f core) s
       (conflicts_more (rename f held) (others ++ rename f held) (map f core) (map f core)
-      (covered_by_more (rename f held) (others ++ rename f held) (λ c h. ∈-append_right c others (rename f held) h)) (λ l h. h)
+      (covered_by_more (rename f held) (others ++ rename f held) (λ c h. ∈-append_right c others (rename f held) h))
+      (λ l h. h)
       (conflicts_renamed f keeps held core k))
 
-  accepted-renamed : (P held R others : List Clause) (c : Clause) → SameClauses (others ++ rename f held) P → R ≡ held ++ c ∷ [] →
+  accepted-renamed : (P held R others : List Clause) (c : Clause) → SameClauses (others ++ rename f held) P →
+      R ≡ held ++ c ∷ [] →
       SameClauses (others ++ rename f R) (P ++ map f c ∷ [])
   accepted-renamed P held R others c s e =
       one_more P (others ++ rename f held) (others ++ rename f R) (map f c) s
-      (ap (λ xs. others ++ xs) (ap (rename f) e ∙ map-append (map f) held (c ∷ [])) ∙ sym (append_assoc others (rename f held) (map f c ∷ [])))
+      (ap (λ xs. others ++ xs) (ap (rename f) e ∙ map-append (map f) held (c ∷ [])) ∙ sym
+      (append_assoc others (rename f held) (map f c ∷ [])))
 
-  left-renamed : (P held R others : List Clause) (v : ℕ) → SameClauses (others ++ rename f held) P → R ≡ without v held → (more : List Clause)
+  left-renamed : (P held R others : List Clause) (v : ℕ) → SameClauses (others ++ rename f held) P →
+      R ≡ without v held → (more : List Clause)
       × SameClauses (more ++ rename f R) P
   left-renamed P held R others v s e =
       let (M, t) = parted v held in
-      let u : SameClauses (rename f held) (rename f M ++ rename f (without v held)) = subst (λ (X : List Clause). SameClauses (rename f held) X)
+      let u : SameClauses (rename f held) (rename f M ++ rename f (without v held)) =
+      subst (λ (X : List Clause). SameClauses (rename f held) X)
       (map-append (map f) M (without v held)) (same_clauses_renamed f held (M ++ without v held) t) in
       let w : SameClauses ((others ++ rename f M) ++ rename f (without v held)) P =
       subst (λ (X : List Clause). SameClauses X P) (sym (append_assoc others (rename f M) (rename f (without v held))))
       (same_clauses-through (others ++ (rename f M ++ rename f (without v held))) (others ++ rename f held) P
       (same_clauses-back (others ++ rename f held) (others ++ (rename f M ++ rename f (without v held)))
-      (same_beside others (rename f held) (rename f M ++ rename f (without v held)) u)) s) in
-      (others ++ rename f M, subst (λ (X : List Clause). SameClauses ((others ++ rename f M) ++ rename f X) P) (sym e) w)
+      (same_beside others (rename f held) (rename f M ++ rename f (without v held)) u)) s) in (
+        others
+            ++ rename f M,
+        subst (λ (X : List Clause). SameClauses ((others ++ rename f M) ++ rename f X) P) (sym e) w,
+      )
 
-  pub leads-renamed : (entries : List Entry) (held after others P : List Clause) → SameClauses (others ++ rename f held) P → Leads held entries after →
+  pub leads-renamed : (entries : List Entry) (held after others P : List Clause) →
+      SameClauses (others ++ rename f held) P → Leads held entries after →
       (Q more : List Clause) × Leads P (logged_as f entries) Q × SameClauses (more ++ rename f after) Q
-  leads-renamed [] held after others P s e = (P, others, refl, subst (λ (X : List Clause). SameClauses (others ++ rename f X) P) e s)
+  leads-renamed [] held after others P s e =
+      (P, others, refl, subst (λ (X : List Clause). SameClauses (others ++ rename f X) P) e s)
   leads-renamed (Accepts c ∷ es) held after others P s (R, e, d) =
-      let (Q, more, l, t) = leads-renamed es R after others (P ++ map f c ∷ []) (accepted-renamed P held R others c s e) d in
+      let (Q, more, l, t) =
+      leads-renamed es R after others (P ++ map f c ∷ []) (accepted-renamed P held R others c s e) d in
       (Q, more, (P ++ map f c ∷ [], refl, l), t)
   leads-renamed (Writes line ∷ es) held after others P s (R, w, d) =
       let (S, g, u) = line-renamed P held R others line s w in
       let (Q, more, l, t) = leads-renamed es R after others S u d in
       (Q, more, (S, g, l), t)
   leads-renamed (Assumes a ∷ es) held after others P s (R, e, d) =
-      let (Q, more, l, t) = leads-renamed es R after others P (subst (λ (X : List Clause). SameClauses (others ++ rename f X) P) (sym e) s) d in
+      let (Q, more, l, t) =
+      leads-renamed es R after others P
+      (subst (λ (X : List Clause). SameClauses (others ++ rename f X) P) (sym e) s) d in
       (Q, more, (P, refl, l), t)
   leads-renamed (Fails core ∷ es) held after others P s (R, (k, e), d) =
-      let (Q, more, l, t) = leads-renamed es R after others P (subst (λ (X : List Clause). SameClauses (others ++ rename f X) P) (sym e) s) d in
+      let (Q, more, l, t) =
+      leads-renamed es R after others P
+      (subst (λ (X : List Clause). SameClauses (others ++ rename f X) P) (sym e) s) d in
       (Q, more, (P, (conflict-renamed P held others core s k, refl), l), t)
   leads-renamed (Retires v ∷ es) held after others P s (R, e, d) =
       let (more, u) = left-renamed P held R others v s e in

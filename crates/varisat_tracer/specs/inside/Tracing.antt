@@ -53,7 +53,8 @@ pub record BreaksGlobally (x : TracerState) (entries : List Entry) (faults : ℕ
 -- faults more. Where no proof is open there are none. A checker runs where one ran.
 abbrev pub BreaksProof : ProofParts → ℕ → ProofParts → Type 0
 BreaksProof p faults q =
-    (entries : List Entry) × IsBegunIf p.opened (logged entries) faults q.opened × (is_there q.checker ≡ is_there p.checker)
+    (entries : List Entry) × IsBegunIf p.opened (logged entries) faults q.opened
+    × (is_there q.checker ≡ is_there p.checker)
 
 -- the proof that is open, and whether a checker runs
 pub record OpenParts : Type 0 where
@@ -66,7 +67,8 @@ open_parts p = record { opened = p.opened; checking = is_there p.checker }
 -- What logging entries over global variables returns and leaves. Names and variables stay also after an error.
 abbrev pub LogsGlobally : TracerState → List Entry → Result (Unit {0}) TraceError → TracerState → Type 0
 LogsGlobally x entries (Ok u) y = TakesGlobally x entries y
-LogsGlobally x entries (Err e) y = (y.tables ≡ x.tables) × Logs x.proof (logged_as (global_literal x.tables) entries) (Err e) y.proof
+LogsGlobally x entries (Err e) y =
+    (y.tables ≡ x.tables) × Logs x.proof (logged_as (global_literal x.tables) entries) (Err e) y.proof
 
 -- what the proof logs of a global variable that has lost its name or its solver variable: that it is gone, where it is not live any more
 abbrev pub retires_if_deleted : Tables → ℕ → List Entry

@@ -9,27 +9,23 @@ use Rattle.std_heap.specs.contracts.Global as heap
 use Rattle.std_heap.specs.contracts.GlobalAllocator.TheImpl as impl
 use Rattle.varisat_client.specs.promises.Pasts.{Past}
 use Rattle.varisat_client.specs.inside.Clients.{Client, RepresentsPast, Moves}
-use Rattle.varisat_c.specs.Slots.{slot_owns}
+use Rattle.varisat_c.specs.Slots.{may_free, slot_owns}
 use Rattle.varisat_client.specs.contracts.client.Client as client
 
 -- a client, as it lies in memory
 abbrev pub client_row : RattleType
 client_row = client.the_row heap.the_row impl.ghosts (copied.ghosts heap.the_row)
 
--- the right to free a block of the C library's heap, which no value of the allocator decides
-abbrev pub may_free : Ty → Ptr → Fml
-may_free = impl.ghosts.dealloc_token (record { memory = record { seal = tt } })
-
 -- a client, where it is not empty
 abbrev pub handle_owns : Ptr → Option Client → Fml
 handle_owns p held = slot_owns may_free client_row p held
 
 -- There is a client behind the handle, before and after, and the call moves so what it stands for.
-abbrev pub MovesHeld : (Past → Past → Type 0) → Option Client → Option Client → Type 0
-MovesHeld R (Some g) (Some h) = Moves R g h
-MovesHeld R _ _ = ⊥
+abbrev pub MovesPasts : (Past → Past → Type 0) → Option Client → Option Client → Type 0
+MovesPasts R (Some g) (Some h) = Moves R g h
+MovesPasts R _ _ = ⊥
 
 -- What is said holds of all that the client behind the handle stands for.
-abbrev pub IsTrueBehind : (Past → Type 0) → Option Client → Type 0
-IsTrueBehind P (Some g) = (p : Past) → RepresentsPast g p → P p
-IsTrueBehind P None = ⊥
+abbrev pub IsTrueOfPasts : (Past → Type 0) → Option Client → Type 0
+IsTrueOfPasts P (Some g) = (p : Past) → RepresentsPast g p → P p
+IsTrueOfPasts P None = ⊥

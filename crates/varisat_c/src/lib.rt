@@ -11,7 +11,8 @@ ghost use Rattle.varisat_calls.specs.Callers.{IsNew, MakesNumbered, MakesOver, A
 ghost use Rattle.varisat_calls.specs.Lookups.{ReturnsValue, ReturnsFailed};
 ghost use Rattle.varisat_calls.specs.Texts.{Feeds, IsRefutedText};
 ghost use Rattle.varisat_c.specs.Codes.{NamesBy, EndsBy};
-ghost use Rattle.varisat_c.specs.Handles.{MovesHeld, IsTrueBehind, IsSatisfiableNow, IsUnsatisfiableNow};
+ghost use Rattle.varisat_c.specs.Handles.{IsSatisfiableNow, IsUnsatisfiableNow};
+ghost use Rattle.varisat_c.specs.Slots.{MovesHeld, IsTrueBehind};
 
 pub mod client;
 pub mod client_handle;

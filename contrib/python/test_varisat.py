@@ -8,7 +8,7 @@ import threading
 import time
 import unittest
 
-from varisat import Solver, VarisatError, check_proof
+from varisat import Simplifier, Solver, VarisatError, check_proof
 
 
 def is_satisfied(clauses, model):
@@ -115,6 +115,25 @@ class Calls(unittest.TestCase):
             self.assertEqual(solver.nof_vars(), 4)
             self.assertTrue(solver.solve())
             self.assertEqual(solver.get_model()[:2], [-1, 2])
+
+    def test_simplifier(self):
+        clauses = [[-1, 2], [-2, 3], [-3, 4], [1, 5]]
+        simplifier = Simplifier(clauses, frozen=[1, 4])
+        left = simplifier.simplify()
+        self.assertTrue({abs(literal) for clause in left for literal in clause} <= {1, 4})
+        with Solver(left) as solver:
+            for first in (1, -1):
+                self.assertTrue(solver.solve([first]))
+                model = simplifier.extend(solver.get_model())
+                self.assertIn(first, model)
+                self.assertTrue(all(any(literal in model for literal in clause) for clause in clauses))
+            self.assertFalse(solver.solve([1, -4]))
+        with self.assertRaises(VarisatError) as refused:
+            simplifier.append_formula([[1]])
+        self.assertEqual(refused.exception.number, -19)
+        self.assertRaises(ValueError, Simplifier, [[1, 0]])
+        with self.assertRaises(MemoryError):
+            Simplifier(pigeons(20), heap_limit=10000)
 
 
 if __name__ == "__main__":

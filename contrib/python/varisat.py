@@ -13,7 +13,7 @@ import tempfile
 from array import array
 from typing import Any, BinaryIO, Callable, Iterable, Iterator, List, Optional, Protocol
 
-__all__ = ["Solver", "Varisat", "VarisatError", "check_proof", "version"]
+__all__ = ["Simplifier", "Solver", "Varisat", "VarisatError", "check_proof", "version"]
 __version__ = "1.0.0"
 
 _int, _size, _pointer, _text = ctypes.c_int, ctypes.c_size_t, ctypes.c_void_p, ctypes.c_char_p
@@ -52,6 +52,9 @@ def _load() -> ctypes.CDLL:
         "set": (_int, [_pointer, _int, ctypes.c_uint64]), "set_for_file": (_int, [_pointer]), "count": (ctypes.c_uint64, [_pointer, _int]),
         "write_proof_fd": (_int, [_pointer, _int, _int]), "close_proof": (_int, [_pointer]), "self_check": (_int, [_pointer]),
         "check_proof": (_int, [_int, _text, _size, _text, _size, ctypes.POINTER(ctypes.c_uint64)]),
+        "simplifier_new": (_pointer, [_size]), "simplifier_free": (_int, [_pointer]), "simplifier_add_clauses": (_int, _list),
+        "simplifier_freeze": (_int, [_pointer, ctypes.c_int32]), "simplifier_simplify": (_int, [_pointer]),
+        "simplifier_clauses": (_int, _list), "simplifier_extend": (_int, [_pointer, _pointer, _size, _pointer, _size]),
     }
     for name, (result, arguments) in signatures.items():
         function = getattr(library, "varisat_" + name)
@@ -85,6 +88,18 @@ def check_proof(text: bytes, proof: bytes, format: str = "drat") -> bool:
     error = VarisatError(answer, f"the check fails with {answer} at {place.value}")
     error.place = place.value
     raise error
+
+
+def _numbers_of(formula: Iterable[Iterable[int]]) -> tuple[array, int]:
+    """The literals of the clauses, each ended by a 0, and how many clauses there are."""
+    numbers, count = array("i"), 0
+    for clause in getattr(formula, "clauses", formula):
+        numbers.extend(clause)
+        numbers.append(0)
+        count += 1
+    if numbers.count(0) != count:
+        raise ValueError("0 is no literal")
+    return numbers, count
 
 
 class Solver:
@@ -152,13 +167,7 @@ class Solver:
 
     def append_formula(self, formula: Iterable[Iterable[int]], no_return: bool = True) -> None:
         """Accepts the clauses of a list of lists, or of a PySAT CNF."""
-        numbers, count = array("i"), 0
-        for clause in getattr(formula, "clauses", formula):
-            numbers.extend(clause)
-            numbers.append(0)
-            count += 1
-        if numbers.count(0) != count:
-            raise ValueError("0 is no literal")
+        numbers, count = _numbers_of(formula)
         self._add(numbers, count)
 
     def read_dimacs(self, file: BinaryIO) -> None:
@@ -285,6 +294,60 @@ class Solver:
 
     def __exit__(self, *_: object) -> None:
         self.delete()
+
+
+class Simplifier:
+    """Makes clauses fewer before a solver takes them: variables that are not frozen may be eliminated. Freeze those that later clauses or
+    assumptions name. MemoryError and VarisatError tell of refusals, which change nothing."""
+
+    def __init__(self, clauses: Iterable[Iterable[int]] = (), frozen: Iterable[int] = (), heap_limit: int = 0):
+        """clauses: as of append_formula. frozen: variables. heap_limit: bytes of memory that it may take."""
+        self._simplifier = _lib.varisat_simplifier_new(heap_limit)
+        if not self._simplifier:
+            raise MemoryError
+        self.append_formula(clauses)
+        for variable in frozen:
+            self.freeze(variable)
+
+    def _done(self, answer: int) -> int:
+        if answer >= 0:
+            return answer
+        raise MemoryError if answer == _OUT_OF_MEMORY else VarisatError(answer, f"the simplifier refuses with {answer}")
+
+    def _listed(self, call: Callable[..., int], *given: Any) -> List[int]:
+        count = self._done(call(self._simplifier, *given, None, 0))
+        numbers = (ctypes.c_int32 * count)()
+        self._done(call(self._simplifier, *given, numbers, count))
+        return list(numbers)
+
+    def append_formula(self, formula: Iterable[Iterable[int]]) -> None:
+        """Takes the clauses of a list of lists, or of a PySAT CNF, up to the first that is refused."""
+        address, size = (numbers := _numbers_of(formula)[0]).buffer_info()
+        self._done(_lib.varisat_simplifier_add_clauses(self._simplifier, address, size))
+
+    def freeze(self, variable: int) -> None:
+        """Has the variable stay."""
+        self._done(_lib.varisat_simplifier_freeze(self._simplifier, variable))
+
+    def simplify(self) -> List[List[int]]:
+        """Simplifies all clauses, once, and returns those that are left."""
+        self._done(_lib.varisat_simplifier_simplify(self._simplifier))
+        clauses: List[List[int]] = [[]]
+        for number in self._listed(_lib.varisat_simplifier_clauses):
+            if number:
+                clauses[-1].append(number)
+            else:
+                clauses.append([])
+        return clauses[:-1]
+
+    def extend(self, model: Iterable[int]) -> List[int]:
+        """Of a model of the clauses that are left makes one of all clauses."""
+        address, size = (numbers := array("i", model)).buffer_info()
+        return self._listed(_lib.varisat_simplifier_extend, address, size)
+
+    def __del__(self) -> None:
+        if getattr(self, "_simplifier", None):
+            _lib.varisat_simplifier_free(self._simplifier)
 
 
 Varisat = Solver

@@ -7,7 +7,7 @@ use Rattle.varisat_theory.specs.promises.Membership.{◌∈◌}
 use Rattle.varisat_theory.specs.promises.Literals.{Literal, Clause, Assignment, opposite, MakesTrue, IsSatisfiable}
 use Rattle.varisat_client.specs.promises.Pasts.{Past, empty_past, count}
 use Rattle.varisat_client.specs.inside.Clients.{Client, RepresentsPast}
-use Rattle.varisat_maxsat.specs.promises.Problems.{Soft, Problem, with_hard, with_soft, paired, IsOptimum}
+use Rattle.varisat_maxsat.specs.promises.Problems.{Soft, Problem, with_hard, with_soft, paired, problem_of, IsOptimum}
 use Rattle.varisat_maxsat.specs.inside.Charges.{AreBelow, Reduces, IsSplit, TakesWeight, AreValues, IsPending}
 use Rattle.varisat_maxsat.specs.inside.Reductions.{IsReady, Finds, FindsModel, FindsCore, Reduction, ReducesTo, ReducesToWith, ReducesToAfter}
 use Rattle.varisat_maxsat.specs.declared.charge.Charge.{Charge}
@@ -278,10 +278,6 @@ hard-next p r cs ds c f st =
 -- the next clause has a weight
 pub clause-room : (i : ℕ) (ws : List ℕ) (cs ds all : List Clause) (c : Clause) → i ≡ length cs → cs ++ (c ∷ ds) ≡ all → length ws ≡ length all → i < length ws
 clause-room i ws cs ds all c e f g = let h = ap length f in let k = length-append cs (c ∷ ds) in omega arith
-
--- a problem by its parts
-abbrev pub problem_of : ℕ → List Clause → List Soft → Problem
-problem_of n H S = record { variables = n; hard = H; soft = S }
 
 max-more : (a b c : ℕ) → max a (max b c) ≡ max (max a b) c
 max-more a b c = omega arith

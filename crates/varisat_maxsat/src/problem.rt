@@ -25,7 +25,7 @@ impl<A: Allocator + Copy> Model for Problem<A> {
 
     ghost Value = { problems.Problem };
 
-    ghost view = { λ p. record { variables = max p.hard.var_count p.soft.var_count; hard = p.hard.clauses; soft = problems.paired p.weights.items p.soft.clauses } };
+    ghost view = { λ p. problems.problem_of (max p.hard.var_count p.soft.var_count) p.hard.clauses (problems.paired p.weights.items p.soft.clauses) };
 
     ghost invariant = { λ p. length p.weights.items ≡ length p.soft.clauses };
 }

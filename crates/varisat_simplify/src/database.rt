@@ -32,12 +32,12 @@ pub struct Database<A: Allocator + Copy> {
 }
 
 impl<A: Allocator + Copy> Model for Database<A> {
-    ghost use Rattle.varisat_simplify.specs.inside.States.{State};
+    ghost use Rattle.varisat_simplify.specs.inside.States.{State, state_of};
     ghost use Rattle.varisat_simplify.specs.inside.Sound.{IsSound};
 
     ghost Value = { State };
 
-    ghost view = { λ d. record { var_count = d.var_count; frozen = d.frozen.items; clauses = d.history.clauses; live = d.live.items; lines = d.history.lines; stack = d.stack } };
+    ghost view = { λ d. state_of d.var_count d.frozen.items d.history d.live.items d.stack };
 
     ghost invariant = { λ d. IsSound d.var_count d.history.clauses d.live.items d.is_listed d.names d.occurrences };
 }

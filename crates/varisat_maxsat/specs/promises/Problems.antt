@@ -13,6 +13,10 @@ pub record Problem : Type 0 where
   pub hard : List Clause
   pub soft : List Soft
 
+-- these clauses over so many variables
+abbrev pub problem_of : ℕ → List Clause → List Soft → Problem
+problem_of n H S = record { variables = n; hard = H; soft = S }
+
 -- no clauses yet
 abbrev pub starting : ℕ → Problem
 starting n = record { variables = n; hard = []; soft = [] }

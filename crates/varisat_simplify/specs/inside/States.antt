@@ -4,6 +4,7 @@ use Rattle.varisat_theory.specs.promises.Membership.{◌∈◌}
 use Rattle.varisat_theory.specs.promises.Literals.{Literal, Clause, Assignment, opposite, value, Satisfies, SatisfiesAll}
 use Rattle.varisat_theory.specs.promises.Derivations.{Line, Add, Delete, SpeakOf}
 use Rattle.varisat_simplify.specs.promises.Stacks.{assignment_of, extended, avoids}
+use Rattle.varisat_simplify.specs.inside.Written.{Written}
 use Rattle.varisat_simplify.specs.promises.Leading.{LeadsTo, IsNamedBy, AreNamedBy}
 
 -- The clauses that there ever were, in order, whether each is still live, the lines of a proof that added and deleted them, and the
@@ -15,6 +16,11 @@ pub record State : Type 0 where
   pub live : List Bool
   pub lines : List Line
   pub stack : List Clause
+
+-- the state of clauses that were written, of which the flagged ones are live
+abbrev pub state_of : ℕ → List Bool → Written → List Bool → List Clause → State
+state_of n frozen w live stack =
+    record { var_count = n; frozen = frozen; clauses = w.clauses; live = live; lines = w.lines; stack = stack }
 
 -- no clauses
 abbrev pub no_clauses : ℕ → List Bool → State

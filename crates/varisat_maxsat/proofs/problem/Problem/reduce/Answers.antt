@@ -1,7 +1,6 @@
 use Rattle.std.proofs.Common.{max, subst}
-use Rattle.varisat_maxsat.specs.promises.Problems.{paired}
+use Rattle.varisat_maxsat.specs.promises.Problems.{paired, problem_of}
 use Rattle.varisat_maxsat.specs.inside.Reductions.{ReducesTo}
-use Rattle.varisat_maxsat.proofs.Standing.{problem_of}
 use Rattle.varisat_maxsat.proofs.problem.Problem.reduce.Goals as goal
 
 pub returns : goal.returns

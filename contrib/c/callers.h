@@ -34,8 +34,8 @@ size_t caller_written_copy(struct handle *, size_t from, uint8_t *, size_t);
 uint64_t caller_steps(struct handle *);
 uint64_t caller_counter(struct handle *, uint8_t number);
 bool caller_is_valid(struct handle *);
-size_t caller_told_len(struct handle *);
-size_t caller_told_copy(struct handle *, int32_t *, size_t);
+size_t caller_list_len(struct handle *);
+size_t caller_list_copy(struct handle *, int32_t *, size_t);
 size_t caller_refusal_copy(struct handle *, uint8_t *, size_t);
 uint8_t caller_check(uint8_t format, const uint8_t *, size_t, const uint8_t *, size_t, uint64_t *place);
 

@@ -110,7 +110,7 @@ const char *varisat_version(void) {
 #endif
 }
 
-/* The text of an error, and NULL for those that the library tells. */
+/* The text of an error, and NULL for those that the library names. */
 static const char *text_of(int error) {
     switch (error) {
     case VARISAT_PROOF_IO: return "Error writing proof file";
@@ -124,7 +124,7 @@ static const char *text_of(int error) {
 
 /* Ends a call with this answer. */
 static int leave(varisat *solver, int answer) {
-    /* What made the solver invalid is told on. */
+    /* What made the solver invalid is returned from then on. */
     if (answer < 0 && !(answer == VARISAT_INVALID && solver->error)) {
         const char *text = text_of(answer);
         memset(solver->text, 0, TEXT);
@@ -299,33 +299,33 @@ int varisat_set_terminate(varisat *solver, int (*terminate)(void *data), void *d
     return leave(solver, 0);
 }
 
-/* Lists that are told. */
+/* Lists. */
 
-/* Ends a call that tells a list, by the library's number. */
-static int told(varisat *solver, int number, int32_t *numbers, size_t room) {
+/* Ends a call that returns a list, by the library's number. */
+static int list(varisat *solver, int number, int32_t *numbers, size_t room) {
     int32_t none;
     if (number)
         return leave(solver, -number);
-    caller_told_copy(&solver->handle, numbers ? numbers : &none, room);
-    return leave(solver, (int)caller_told_len(&solver->handle));
+    caller_list_copy(&solver->handle, numbers ? numbers : &none, room);
+    return leave(solver, (int)caller_list_len(&solver->handle));
 }
 
-static int tell(varisat *solver, uint8_t (*call)(struct handle *), int32_t *numbers, size_t room) {
+static int call_list(varisat *solver, uint8_t (*call)(struct handle *), int32_t *numbers, size_t room) {
     BEGIN(enter(solver, numbers || !room));
-    return told(solver, solver->proof_failed ? -VARISAT_NOTHING : call(&solver->handle), numbers, room);
+    return list(solver, solver->proof_failed ? -VARISAT_NOTHING : call(&solver->handle), numbers, room);
 }
 
-int varisat_model(varisat *solver, int32_t *literals, size_t room) { return tell(solver, caller_model, literals, room); }
-int varisat_failed_core(varisat *solver, int32_t *literals, size_t room) { return tell(solver, caller_core, literals, room); }
+int varisat_model(varisat *solver, int32_t *literals, size_t room) { return call_list(solver, caller_model, literals, room); }
+int varisat_failed_core(varisat *solver, int32_t *literals, size_t room) { return call_list(solver, caller_core, literals, room); }
 
-int varisat_told(varisat *solver, int32_t *numbers, size_t room) {
+int varisat_last_list(varisat *solver, int32_t *numbers, size_t room) {
     BEGIN(enter(solver, numbers || !room));
-    return told(solver, 0, numbers, room);
+    return list(solver, 0, numbers, room);
 }
 
 int varisat_observe_internal_vars(varisat *solver, int32_t *variables, size_t room) {
     BEGIN(enter_change(solver, variables || !room));
-    return told(solver, caller_observe(&solver->handle), variables, room);
+    return list(solver, caller_observe(&solver->handle), variables, room);
 }
 
 /* 0 and 1 are answers. */
@@ -488,7 +488,7 @@ int varisat_simplifier_simplify(varisat_simplifier *simplifier) {
     return end(&simplifier->user, -simplifier_simplify(&simplifier->handle));
 }
 
-/* Ends a call that tells a list, by the library's number. */
+/* Ends a call that returns a list, by the library's number. */
 static int listed(varisat_simplifier *simplifier, int number, int32_t *numbers, size_t room) {
     int32_t none;
     if (number)

@@ -4,7 +4,7 @@
  *
  * Each call that returns an int returns 0 or more, or one of the errors below, which are negative. After an error the solver is as
  * before, unless varisat_is_valid says that it is not: then each further call returns VARISAT_INVALID, and varisat_free alone is left.
- * A call that tells a list copies as many of its numbers as there is room for, and returns how many there are.
+ * A call that returns a list copies as many of its numbers as there is room for, and returns how many there are.
  *
  * Threads: solvers share nothing. One call at a time uses a solver, from whatever thread; a second one is refused as VARISAT_BUSY, and
  * so is a call from within a callback of that solver. varisat_interrupt alone may be called at any time, also in a signal handler.
@@ -30,7 +30,7 @@ enum {
 
 enum {
     VARISAT_PROOF_IO = -2,           /* what takes the proof failed; the solver is invalid */
-    VARISAT_OUT_OF_MEMORY = -3,      /* memory or the limit of the heap; the solver is invalid, unless a list was to be told */
+    VARISAT_OUT_OF_MEMORY = -3,      /* memory or the limit of the heap; the solver is invalid, unless a list was asked for */
     VARISAT_INVALID = -4,            /* a call after one that left the solver invalid */
     VARISAT_STORE_FULL = -5,         /* the store of clauses is full; the solver is invalid */
     VARISAT_WITNESS_VAR = -6,        /* a clause or an assumption names a witness */
@@ -42,7 +42,7 @@ enum {
     VARISAT_OUT_OF_RANGE = -12,      /* a value out of its setting's range */
     VARISAT_DIMACS = -13,            /* a fault of a text; the clauses before it stay */
     VARISAT_BAD_ARGUMENT = -14,      /* no solver, no list, no setting, the literal 0 */
-    VARISAT_NOTHING = -15,           /* there is no model, core or proof to tell of */
+    VARISAT_NOTHING = -15,           /* there is no model, core or proof */
     VARISAT_WRONG_PROOF = -16,       /* a line of a proof is wrong */
     VARISAT_OTHER_CLAUSE = -17,      /* a marked proof was given a clause that the text has not */
     VARISAT_BUSY = -18,              /* another call of this solver is under way */
@@ -58,7 +58,7 @@ varisat *varisat_new(size_t heap_limit);
 /* Ends the solver. Refused from within its callbacks. NULL is fine. */
 int varisat_free(varisat *solver);
 
-/* What went wrong last, as a number and as text; 0 and "" where nothing did. What left the solver invalid is told on. */
+/* What went wrong last, as a number and as text; 0 and "" where nothing did. What left the solver invalid is returned from then on. */
 int varisat_error(varisat *solver);
 const char *varisat_error_text(varisat *solver);
 
@@ -112,8 +112,8 @@ int varisat_failed_core(varisat *solver, int32_t *literals, size_t room);
 /* Whether the literal is one of this core, 1 or 0. */
 int varisat_is_failed(varisat *solver, int32_t literal);
 
-/* The list that was told last once more, as for one that was longer than its room. */
-int varisat_told(varisat *solver, int32_t *numbers, size_t room);
+/* The list that was returned last once more, as for one that was longer than its room. */
+int varisat_last_list(varisat *solver, int32_t *numbers, size_t room);
 
 /* Variables. */
 
@@ -127,7 +127,7 @@ int varisat_sample_var(varisat *solver, int32_t variable);
 /* Frees its name; the variable lives on in the clauses. */
 int varisat_hide_var(varisat *solver, int32_t variable);
 
-/* Brings hidden variables back as witnesses, and tells their names. */
+/* Brings hidden variables back as witnesses, and returns their names. */
 int varisat_observe_internal_vars(varisat *solver, int32_t *variables, size_t room);
 
 /* Settings and counters. */

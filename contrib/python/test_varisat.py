@@ -65,9 +65,9 @@ class Calls(unittest.TestCase):
             solver.add_clause([-2])
             self.assertTrue(solver.solve())
             self.assertEqual(solver.observe_internal_vars(), [3])
-            with self.assertRaises(VarisatError) as told:
+            with self.assertRaises(VarisatError) as refused:
                 solver.add_clause([3])
-            self.assertEqual(told.exception.number, -6)
+            self.assertEqual(refused.exception.number, -6)
 
     def test_refusals(self):
         with Solver() as solver:

@@ -46,7 +46,7 @@ def _load() -> ctypes.CDLL:
         "add_clauses": (_int, [_pointer, _pointer, _size]), "assume": (_int, [_pointer, _pointer, _size]),
         "read_dimacs": (_int, [_pointer, _text, _size]), "end_dimacs": (_int, [_pointer]),
         "solve_steps": (_int, [_pointer, ctypes.c_uint64]), "interrupt": (_int, [_pointer]), "is_valid": (_int, [_pointer]),
-        "model": (_int, _list), "failed_core": (_int, _list), "observe_internal_vars": (_int, _list), "told": (_int, _list),
+        "model": (_int, _list), "failed_core": (_int, _list), "observe_internal_vars": (_int, _list), "last_list": (_int, _list),
         "new_var": (_int, [_pointer]), "witness_var": (_int, [_pointer, ctypes.c_int32]),
         "sample_var": (_int, [_pointer, ctypes.c_int32]), "hide_var": (_int, [_pointer, ctypes.c_int32]),
         "set": (_int, [_pointer, _int, ctypes.c_uint64]), "set_for_file": (_int, [_pointer]), "count": (ctypes.c_uint64, [_pointer, _int]),
@@ -103,7 +103,7 @@ def _numbers_of(formula: Iterable[Iterable[int]]) -> tuple[array, int]:
 
 
 class Solver:
-    """A solver of growing formulas. MemoryError and VarisatError tell of refusals."""
+    """A solver of growing formulas. MemoryError and VarisatError are refusals."""
 
     def __init__(self, bootstrap_with: Optional[Iterable[Iterable[int]]] = None, heap_limit: int = 0, for_file: bool = False,
                  proof: Optional[_Writer] = None, format: str = "drat", self_check: bool = False, **settings: int):
@@ -219,19 +219,19 @@ class Solver:
         """The last answer, as long as nothing was given since."""
         return self._status
 
-    def _told(self, tell: Callable[..., int]) -> List[int]:
-        count = self._done(tell(self._solver, None, 0))
+    def _listed(self, call: Callable[..., int]) -> List[int]:
+        count = self._done(call(self._solver, None, 0))
         literals = (ctypes.c_int32 * count)()
-        self._done(_lib.varisat_told(self._solver, literals, count))
+        self._done(_lib.varisat_last_list(self._solver, literals, count))
         return list(literals)
 
     def get_model(self) -> Optional[List[int]]:
         """After True: the variables in use with their values."""
-        return self._told(_lib.varisat_model) if self._status else None
+        return self._listed(_lib.varisat_model) if self._status else None
 
     def get_core(self) -> Optional[List[int]]:
         """After False: some of the assumptions which fail with the clauses, none where those have no model."""
-        return self._told(_lib.varisat_failed_core) if self._status is False else None
+        return self._listed(_lib.varisat_failed_core) if self._status is False else None
 
     def enum_models(self, assumptions: Iterable[int] = ()) -> Iterator[List[int]]:
         """Each model, which a clause then bars."""
@@ -261,8 +261,8 @@ class Solver:
         self._done(_lib.varisat_hide_var(self._solver, variable))
 
     def observe_internal_vars(self) -> List[int]:
-        """Brings hidden variables back as witnesses, and tells their names."""
-        return self._told(_lib.varisat_observe_internal_vars)
+        """Brings hidden variables back as witnesses, and returns their names."""
+        return self._listed(_lib.varisat_observe_internal_vars)
 
     def nof_vars(self) -> int:
         """The highest variable that was given."""
@@ -298,7 +298,7 @@ class Solver:
 
 class Simplifier:
     """Makes clauses fewer before a solver takes them: variables that are not frozen may be eliminated. Freeze those that later clauses or
-    assumptions name. MemoryError and VarisatError tell of refusals, which change nothing."""
+    assumptions name. MemoryError and VarisatError are refusals, which change nothing."""
 
     def __init__(self, clauses: Iterable[Iterable[int]] = (), frozen: Iterable[int] = (), heap_limit: int = 0):
         """clauses: as of append_formula. frozen: variables. heap_limit: bytes of memory that it may take."""

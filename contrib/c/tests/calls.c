@@ -53,11 +53,11 @@ static void right_calls(void) {
 /* Lists that are longer than the room for them, and look-ups behind each kind of change. */
 static void lists(void) {
     varisat *s = varisat_new(0);
-    CHECK(varisat_told(s, list, ROOM) == 0);
+    CHECK(varisat_last_list(s, list, ROOM) == 0);
     CHECK(varisat_add_clauses(s, LITS(1, 0, -2, 0, 3, 0)) == 0 && varisat_solve(s) == VARISAT_SATISFIABLE);
     list[1] = 99;
     CHECK(varisat_model(s, list, 1) == 3 && list[0] == 1 && list[1] == 99);
-    CHECK(varisat_model(s, NULL, 0) == 3 && is_list(varisat_told(s, list, ROOM), 3, (int32_t[]){1, -2, 3}));
+    CHECK(varisat_model(s, NULL, 0) == 3 && is_list(varisat_last_list(s, list, ROOM), 3, (int32_t[]){1, -2, 3}));
     CHECK(varisat_value(s, 3) == 1 && varisat_add_clause(s, LITS(4)) == 0 && varisat_value(s, 3) == VARISAT_NOTHING);
     CHECK(varisat_solve(s) == VARISAT_SATISFIABLE && varisat_value(s, 4) == 1 && varisat_value(s, -4) == 0);
     CHECK(varisat_add(s, -5) == 0 && varisat_value(s, 4) == 1 && varisat_add(s, 0) == 0 && varisat_value(s, 4) == VARISAT_NOTHING);
@@ -99,7 +99,7 @@ static void wrong_calls(void) {
     CHECK(varisat_add_clauses(s, one, 1) == VARISAT_BAD_ARGUMENT && varisat_assume(s, LITS(0)) == VARISAT_BAD_ARGUMENT);
     CHECK(varisat_value(s, 0) == VARISAT_BAD_ARGUMENT && varisat_is_failed(s, 0) == VARISAT_BAD_ARGUMENT);
     CHECK(varisat_value(s, 1) == VARISAT_NOTHING && varisat_is_failed(s, 1) == VARISAT_NOTHING);
-    CHECK(varisat_model(s, NULL, 1) == VARISAT_BAD_ARGUMENT && varisat_told(s, NULL, 1) == VARISAT_BAD_ARGUMENT);
+    CHECK(varisat_model(s, NULL, 1) == VARISAT_BAD_ARGUMENT && varisat_last_list(s, NULL, 1) == VARISAT_BAD_ARGUMENT);
     CHECK(varisat_hide_var(s, 0) == VARISAT_BAD_ARGUMENT && varisat_witness_var(s, -1) == VARISAT_BAD_ARGUMENT);
     CHECK(varisat_set(s, 99, 1) == VARISAT_BAD_ARGUMENT && varisat_set(s, VARISAT_VSIDS_DECAY, 10) == VARISAT_OUT_OF_RANGE);
     CHECK(strstr(varisat_error_text(s), "vsids_decay"));

@@ -22,7 +22,7 @@ struct Opaque {
 }
 
 type Handle = *mut Opaque;
-type Tell = unsafe extern "C" fn(Handle, *mut i32, usize) -> c_int;
+type Listing = unsafe extern "C" fn(Handle, *mut i32, usize) -> c_int;
 type Take = unsafe extern "C" fn(*mut c_void, *const c_void, usize) -> c_int;
 
 extern "C" {
@@ -39,7 +39,7 @@ extern "C" {
     fn varisat_sample_var(solver: Handle, variable: i32) -> c_int;
     fn varisat_hide_var(solver: Handle, variable: i32) -> c_int;
     fn varisat_observe_internal_vars(solver: Handle, variables: *mut i32, room: usize) -> c_int;
-    fn varisat_told(solver: Handle, numbers: *mut i32, room: usize) -> c_int;
+    fn varisat_last_list(solver: Handle, numbers: *mut i32, room: usize) -> c_int;
     fn varisat_set(solver: Handle, setting: c_int, value: u64) -> c_int;
     fn varisat_write_proof(solver: Handle, format: c_int, take: Option<Take>, data: *mut c_void) -> c_int;
     fn varisat_close_proof(solver: Handle) -> c_int;
@@ -118,11 +118,11 @@ impl<'a> Library<'a> {
         unsafe { varisat_self_check(self.at.as_ptr()) }
     }
 
-    /// The list that a call tells, or why it tells none.
-    fn list(&self, tell: Tell) -> Result<Vec<i32>, c_int> {
-        let count = unsafe { tell(self.at.as_ptr(), null_mut(), 0) };
+    /// The list that a call returns, or why it returns none.
+    fn list(&self, call: Listing) -> Result<Vec<i32>, c_int> {
+        let count = unsafe { call(self.at.as_ptr(), null_mut(), 0) };
         let mut numbers = vec![0; usize::try_from(count).map_err(|_| count)?];
-        match unsafe { varisat_told(self.at.as_ptr(), numbers.as_mut_ptr(), numbers.len()) } {
+        match unsafe { varisat_last_list(self.at.as_ptr(), numbers.as_mut_ptr(), numbers.len()) } {
             0.. => Ok(numbers),
             answer => Err(answer),
         }

@@ -135,8 +135,8 @@ impl<'a> Solver<'a> {
     /// Observe solver internal variables.
     pub fn observe_internal_vars(&mut self) -> Vec<Var> {
         self.core = OnceCell::new();
-        let told = self.library.observe_internal_vars();
-        self.list(told).unwrap_or_default().into_iter().map(Lit::var).collect()
+        let listed = self.library.observe_internal_vars();
+        self.list(listed).unwrap_or_default().into_iter().map(Lit::var).collect()
     }
 
     /// Check the satisfiability of the current formula.
@@ -226,9 +226,9 @@ impl<'a> Solver<'a> {
         }
     }
 
-    /// The literals of a list, and None where there is none to tell.
-    fn list(&self, told: Result<Vec<i32>, c_int>) -> Option<Vec<Lit>> {
-        match told {
+    /// The literals of a list, and None where there is none.
+    fn list(&self, listed: Result<Vec<i32>, c_int>) -> Option<Vec<Lit>> {
+        match listed {
             Ok(numbers) => Some(numbers.into_iter().map(|it| Lit::from_dimacs(it as isize)).collect()),
             Err(NOTHING) => None,
             Err(_) => panic!("{}", self.library.error_text()),

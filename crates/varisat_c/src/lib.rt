@@ -358,7 +358,7 @@ pub extern "C" fn caller_is_valid(alloc: Global, handle: &mut Handle) -> bool
 
 /// How many numbers the list has that was returned last.
 #[unsafe(no_mangle)]
-pub extern "C" fn caller_told_len(alloc: Global, handle: &mut Handle) -> usize
+pub extern "C" fn caller_list_len(alloc: Global, handle: &mut Handle) -> usize
     requires { IsSome handle.old.held }
     ensures same { handle.new.held ≡ handle.old.held }
     ensures count { IsTrueBehind (λ g. result ≡ length g.returned) handle.old.held }
@@ -371,7 +371,7 @@ pub extern "C" fn caller_told_len(alloc: Global, handle: &mut Handle) -> usize
 
 /// Copies the front of that list, and returns how many numbers it copied.
 #[unsafe(no_mangle)]
-pub extern "C" fn caller_told_copy(alloc: Global, handle: &mut Handle, out: &mut [i32]) -> usize
+pub extern "C" fn caller_list_copy(alloc: Global, handle: &mut Handle, out: &mut [i32]) -> usize
     requires { IsSome handle.old.held }
     ensures same { handle.new.held ≡ handle.old.held }
     ensures count { IsTrueBehind (λ g. result ≡ min (length g.returned) (length out.new)) handle.old.held }

@@ -1,10 +1,10 @@
 -- Values by the literals of a model, and what is made of them.
-use Rattle.std.proofs.Common.{◌≡◌, ◌<◌, ◌≤◌, ◌+◌, ◌/◌, ◌%◌, ℕ, zero, suc, nat_eq, Bool, true, false, List, [], ◌∷◌, ◌++◌, ◌⊎◌, inl, inr, ⊎_elim, length, replicate, set, get_or, refl, sym, ap, subst, ◌∙◌, arith, length-set}
+use Rattle.std.proofs.Common.{◌≡◌, ◌<◌, ◌≤◌, ◌/◌, ◌%◌, ℕ, zero, suc, nat_eq, Bool, true, false, List, [], ◌∷◌, ◌⊎◌, inl, inr, ⊎_elim, length, replicate, refl, sym, ap, subst, ◌∙◌, arith, length-set}
 use Rattle.varisat_theory.specs.promises.Membership.{◌∈◌}
 use Rattle.varisat_theory.specs.promises.Literals.{Literal, Clause, opposite, value, SatisfiesAll}
 use Rattle.varisat_theory.specs.promises.Derivations.{Line}
 use Rattle.varisat_formula.specs.promises.Formulas.{Formula, AllBelow, AreBelow}
-use Rattle.varisat_simplify.specs.promises.Stacks.{assignment_of, with_true, extended, KeepsFrozen}
+use Rattle.varisat_simplify.specs.promises.Stacks.{assignment_of, with_true, extended}
 use Rattle.varisat_simplify.specs.promises.Simplified.{IsMadeOf}
 use Rattle.varisat_simplify.proofs.ExtendLemmas.{made_true, stays_true, amended_length}
 use Rattle.varisat_simplify_calls.specs.Lists.{with_all_true, model_values}

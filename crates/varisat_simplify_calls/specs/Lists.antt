@@ -1,5 +1,5 @@
 -- Clauses and values as lists of numbers.
-use Rattle.std.specs.Prelude.{ℕ, ◌+◌, ◌/◌, ◌<◌, Bool, false, ℤ, pos, List, [], ◌∷◌, ◌++◌, length, replicate, EachIndex, slice_index}
+use Rattle.std.specs.Prelude.{ℕ, ◌+◌, ◌/◌, ◌<◌, Bool, false, ℤ, pos, List, [], ◌∷◌, ◌++◌, replicate, EachIndex, slice_index}
 use Rattle.varisat_theory.specs.promises.Literals.{Literal, Clause, literal_of}
 use Rattle.varisat_literals.specs.promises.Numbers.{variable_limit}
 use Rattle.varisat_calls.specs.Numbers.{returned_numbers}

@@ -1,7 +1,7 @@
 -- What a simplifier has, and what the number of a call's answer says. It is 0, 3 where memory ran out, 7 where a variable is above the
 -- limit that a solver has, 14 where a number is none of a literal or a variable, 15 before the clauses are simplified, and 19 behind that.
 -- A call that is refused changes nothing; where memory ran out for a list, another one may be there.
-use Rattle.std.specs.Prelude.{◌≡◌, ◌≢◌, ℕ, ◌≤◌, ◌<◌, ◌^◌, ℤ, pos, ◌<ℤ◌, ◌≤ℤ◌, Bool, true, false, Option, Some, None, IsSome, List, [], length, map, slice_index_or}
+use Rattle.std.specs.Prelude.{◌≡◌, ◌≢◌, ℕ, ◌≤◌, ◌<◌, ◌^◌, ℤ, pos, ◌<ℤ◌, ◌≤ℤ◌, Bool, true, false, Option, Some, None, IsSome, List, [], map, slice_index_or}
 use Rattle.varisat_theory.specs.promises.Membership.{◌∈◌}
 use Rattle.varisat_theory.specs.promises.Literals.{Literal, Clause, SatisfiesAll, opposite}
 use Rattle.varisat_theory.specs.promises.Derivations.{Line}

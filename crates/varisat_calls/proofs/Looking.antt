@@ -1,4 +1,4 @@
--- The literals of a list that are kept, and what is told of one of them.
+-- The literals of a list that are kept, and what is returned of one of them.
 use Rattle.std.proofs.Common.{◌≡◌, ℕ, ℤ, refl, sym, ap, subst, ◌∙◌}
 use Rattle.std.specs.Prelude.{Bool, List}
 use Rattle.varisat_theory.specs.promises.Membership.{◌∈◌}
@@ -7,11 +7,11 @@ use Rattle.varisat_literals.specs.promises.Numbers.{literal_numbered}
 use Rattle.varisat_client.specs.inside.LiteralSets.{IsSetOf}
 use Rattle.varisat_solver.specs.promises.Summaries.{Summary}
 use Rattle.varisat_calls.specs.Callers.{Caller}
-use Rattle.varisat_calls.specs.Lookups.{Lookups, IsValidSolver, IsModel, IsCore, IsValueIn, IsMember, ReturnsValue, ReturnsFailed, True, False, Unknown, Yes, No, Failed, Unfailed}
+use Rattle.varisat_calls.specs.Lookups.{Lookups, IsCurrent, IsModel, IsCore, IsValueIn, IsMember, ReturnsValue, ReturnsFailed, True, False, Unknown, Yes, No, Failed, Unfailed}
 use Rattle.varisat_calls.specs.declared.lookups.Kept.TheVariants as kept
 
 -- the core is kept
-pub core-kept : (c : Lookups) (g : Summary) (m : List Literal) → c.kept ≡ kept.Core → IsCore g m → IsSetOf m c.literals → IsValidSolver c g
+pub core-kept : (c : Lookups) (g : Summary) (m : List Literal) → c.kept ≡ kept.Core → IsCore g m → IsSetOf m c.literals → IsCurrent c g
 core-kept c g m k is set = record {
   model = λ e. let z : kept.Core ≡ kept.Model = sym k ∙ e in absurd cc;
   core = λ e. (m, is, set);

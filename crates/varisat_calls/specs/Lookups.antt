@@ -1,4 +1,4 @@
--- The literals of a model or a core that are kept, and what is told of one of them.
+-- The literals of a model or a core that are kept, and what is returned of one of them.
 use Rattle.std.specs.Prelude.{◌≡◌, ℕ, ℤ, pos, Bool, Option, Some, None, List, Result, Ok}
 use Rattle.std.specs.declared.alloc.AllocError.{AllocError}
 use Rattle.varisat_theory.specs.promises.Membership.{◌∈◌}
@@ -13,33 +13,33 @@ use Rattle.varisat_calls.specs.declared.lookups.Kept.{Kept}
 use Rattle.varisat_calls.specs.declared.lookups.Kept.TheVariants as kept
 
 -- what `model` and `failed_core` of the solver may answer
-abbrev pub TellsModel : State → Result (Option (List Literal)) AllocError → State → Type 0
-TellsModel s r t = ReturnsList (by_state.model s) s r t
+abbrev pub ReturnsModel : State → Result (Option (List Literal)) AllocError → State → Type 0
+ReturnsModel s r t = ReturnsList (by_state.model s) s r t
 
-abbrev pub TellsCore : State → Result (Option (List Literal)) AllocError → State → Type 0
-TellsCore s r t = ReturnsList (by_state.core s) s r t
+abbrev pub ReturnsCore : State → Result (Option (List Literal)) AllocError → State → Type 0
+ReturnsCore s r t = ReturnsList (by_state.core s) s r t
 
--- the list is the one that `model` tells, or there is none
+-- the list is the one that `model` returns, or there is none
 abbrev pub IsModel : Summary → List Literal → Type 0
-IsModel g m = LeadsRepresented g (λ s t. TellsModel s (Ok (Some m)) t) g
+IsModel g m = LeadsRepresented g (λ s t. ReturnsModel s (Ok (Some m)) t) g
 
 abbrev pub HasNoModel : Summary → Type 0
-HasNoModel g = LeadsRepresented g (λ s t. TellsModel s (Ok None) t) g
+HasNoModel g = LeadsRepresented g (λ s t. ReturnsModel s (Ok None) t) g
 
--- the list is the one that `failed_core` tells, or there is none
+-- the list is the one that `failed_core` returns, or there is none
 abbrev pub IsCore : Summary → List Literal → Type 0
-IsCore g m = LeadsRepresented g (λ s t. TellsCore s (Ok (Some m)) t) g
+IsCore g m = LeadsRepresented g (λ s t. ReturnsCore s (Ok (Some m)) t) g
 
 abbrev pub HasNoCore : Summary → Type 0
-HasNoCore g = LeadsRepresented g (λ s t. TellsCore s (Ok None) t) g
+HasNoCore g = LeadsRepresented g (λ s t. ReturnsCore s (Ok None) t) g
 
 -- which list has its literals kept, and these as a set
 pub record Lookups : Type 0 where
   pub kept : Kept
   pub literals : List Bool
 
--- what is kept is what the solver tells
-pub record IsValidSolver (c : Lookups) (solver : Summary) : Type 0 where
+-- what is kept is what the solver returns
+pub record IsCurrent (c : Lookups) (solver : Summary) : Type 0 where
   pub model : c.kept ≡ kept.Model → (m : List Literal) × IsModel solver m × IsSetOf m c.literals
   pub core : c.kept ≡ kept.Core → (m : List Literal) × IsCore solver m × IsSetOf m c.literals
 

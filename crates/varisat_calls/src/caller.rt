@@ -50,7 +50,7 @@ pub struct Caller<A: Allocator + Copy> {
 
 impl<A: Allocator + Copy> Model for Caller<A> {
     ghost use Rattle.varisat_calls.specs.Callers as callers;
-    ghost use Rattle.varisat_calls.specs.Lookups.{IsValidSolver};
+    ghost use Rattle.varisat_calls.specs.Lookups.{IsCurrent};
 
     ghost Value = { callers.Caller };
 
@@ -61,7 +61,7 @@ impl<A: Allocator + Copy> Model for Caller<A> {
       text = c.text;
     } };
 
-    ghost invariant = { λ c. IsValidSolver c.lookups c.solver };
+    ghost invariant = { λ c. IsCurrent c.lookups c.solver };
 }
 
 impl<A: Allocator + Copy> Caller<A> {

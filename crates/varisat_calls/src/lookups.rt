@@ -3,7 +3,7 @@ ghost use Rattle.std.specs.Prelude.{◌≡◌, ◌↔◌, IsTrue, true, false, O
 ghost use Rattle.varisat_theory.specs.promises.Literals.{Literal};
 ghost use Rattle.varisat_client.specs.inside.LiteralSets.{Has, IsSetOf};
 ghost use Rattle.varisat_solver.specs.promises.Summaries.{Summary};
-ghost use Rattle.varisat_calls.specs.Lookups.{IsValidSolver, IsValueIn, IsMember, IsModel, IsCore, HasNoModel, HasNoCore};
+ghost use Rattle.varisat_calls.specs.Lookups.{IsCurrent, IsValueIn, IsMember, IsModel, IsCore, HasNoModel, HasNoCore};
 ghost use Rattle.varisat_calls.specs.declared.lookups.Kept.TheVariants.{Nothing};
 
 use crate::codes::NOTHING;
@@ -40,7 +40,7 @@ impl<A: Allocator + Copy> Model for Lookups<A> {
 impl<A: Allocator + Copy> Lookups<A> {
     /// Nothing is kept. It takes no memory.
     pub fn new_in(alloc: A) -> Lookups<A>
-        ensures { (solver : Summary) → IsValidSolver result solver }
+        ensures { (solver : Summary) → IsCurrent result solver }
     {
         Lookups {
             kept: Kept::Nothing,
@@ -50,7 +50,7 @@ impl<A: Allocator + Copy> Lookups<A> {
 
     /// Keeps nothing, as the solver changes.
     pub fn forget(&mut self)
-        ensures { (solver : Summary) → IsValidSolver self.new solver }
+        ensures { (solver : Summary) → IsCurrent self.new solver }
     {
         self.kept = Kept::Nothing;
     }
@@ -68,8 +68,8 @@ impl<A: Allocator + Copy> Lookups<A> {
 
     /// Keeps the literals of the model, if there is one.
     pub fn find_model(&mut self, solver: &Solver<StreamTarget<A>, A>) -> Result<bool, AllocError>
-        requires { IsValidSolver self.old solver.now }
-        ensures valid { IsValidSolver self.new solver.now }
+        requires { IsCurrent self.old solver.now }
+        ensures current { IsCurrent self.new solver.now }
         ensures model { result ≡ Ok true → (m : List Literal) × IsModel solver.now m × IsSetOf m self.new.literals }
         ensures none { result ≡ Ok false → HasNoModel solver.now }
     {
@@ -88,8 +88,8 @@ impl<A: Allocator + Copy> Lookups<A> {
 
     /// Keeps the literals of the core, if there is one.
     pub fn find_core(&mut self, solver: &Solver<StreamTarget<A>, A>) -> Result<bool, AllocError>
-        requires { IsValidSolver self.old solver.now }
-        ensures valid { IsValidSolver self.new solver.now }
+        requires { IsCurrent self.old solver.now }
+        ensures current { IsCurrent self.new solver.now }
         ensures core { result ≡ Ok true → (m : List Literal) × IsCore solver.now m × IsSetOf m self.new.literals }
         ensures none { result ≡ Ok false → HasNoCore solver.now }
     {

@@ -113,7 +113,7 @@ abbrev pub at_line : ℕ → Result Reading WcnfFault → Result Reading WcnfErr
 at_line n (Ok r) = Ok r
 at_line n (Err f) = Err (record { line = n; fault = f })
 
--- what lines in turn say, the first of which is line n; the first fault is told
+-- what lines in turn say, the first of which is line n; the first fault is reported
 abbrev pub after_lines : Result Reading WcnfError → ℕ → List (List ℕ) → Result Reading WcnfError
 after_lines s n [] = s
 after_lines (Err e) n (line ∷ lines) = Err e

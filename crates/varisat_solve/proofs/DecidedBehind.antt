@@ -55,7 +55,7 @@ adds-text : (s : State) (P : List Clause) (t : State) → AreLow P → length P 
 adds-text s P t low few (AllAdded v mid a r e) =
     let back = reads_back (record { var_count = variable_limit; clauses = P }) (omega arith) few (are-below P low) in
     let same : (dimacs (spelled P)).clauses ≡ P = ap (λ (x : Reading). x.clauses) back in (
-      Read v (dimacs (spelled P)) (Whole (spelled P) (record { gave = refl; consumed = tt; no_more = omega arith }) (record { logged = refl; at_end = tt }) refl refl)
+      Read v (dimacs (spelled P)) (Whole (spelled P) (record { gave = refl; consumed = tt; no_more = omega arith }) (record { reported = refl; at_end = tt }) refl refl)
           (ClausesAdded mid (subst (λ Q. AddsAll by_state s Q (Ok tt) mid) (sym same) a) (NoFault (ap (λ (x : Reading). x.fault) back) refl e)),
       same,
     )

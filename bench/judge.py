@@ -67,7 +67,7 @@ def tree(clauses, assumed, variables):
 
 
 def right_proof(numbers, variables, clauses):
-    """Lines of which each follows or is RAT, where the formula has no model, with deletions among them."""
+    """Lines of which each follows or is RAT, where the formula has no model and no deletion among them takes what a later one needs."""
     lines = [("", line) for line in definitions(numbers, variables)] if numbers.below(2) else []
     for clause in tree(clauses, [], variables):
         lines.append(("", clause))
@@ -204,7 +204,8 @@ def judge(program, folder, seed, has_peer, kinds):
         return None, f"status {status}: {' '.join(printed)}"
     if status == 0 and has_model(variables, clauses):
         return True, "verified, and the formula has a model"
-    if not breaks and status == 1 and not has_model(variables, clauses):
+    # A deletion may take a clause of the formula that a later line needs.
+    if not breaks and status == 1 and refutes(clauses, lines, False):
         return False, f"a right proof is refused: {' '.join(printed)}"
     if has_peer:
         _, peer = told(["drat-trim", cnf, proof, "-f", "-w"])

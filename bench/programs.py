@@ -82,6 +82,15 @@ def build_ours():
         stop("the program was not built")
 
 
+def take_ours(file):
+    """Has the program in the file stand for ours, or where none is named the proved one, which is built where that is due."""
+    global PROGRAM
+    if file:
+        PROGRAM = os.path.abspath(file)
+    else:
+        build_ours()
+
+
 def ours():
     """Our program, as it searches a formula that it does not simplify."""
     return Program("varisat", [PROGRAM, "solve"], options=("--no-simplify",))

@@ -181,10 +181,7 @@ def run(arguments):
     names = sorted(name for name in os.listdir(arguments.folder) if name.endswith((".cnf", ".cnf.xz")))
     if not names:
         programs.stop(f"{arguments.folder} has no formula")
-    if arguments.program:
-        programs.PROGRAM = os.path.abspath(arguments.program)
-    else:
-        programs.build_ours()
+    programs.take_ours(arguments.program)
     print(programs.machine())
     decide_all(arguments, names)
     simplify_all(arguments, names)

@@ -1,4 +1,6 @@
 pub mod WrittenProofs
+pub mod CappedNames
+pub mod Effects
 pub mod Histories
 pub mod StoryAnswers
 pub mod WrongAnswers

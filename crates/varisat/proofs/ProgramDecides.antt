@@ -35,8 +35,9 @@ use Rattle.varisat_solver.specs.declared.solver.SolverError.TheVariants.{Interru
 use Rattle.varisat_solver.proofs.calls.CallStates.{same-assumptions, same-clauses, same-counted, same-ledger, same-naming}
 use Rattle.varisat.proofs.NameLaws.{stay-in-order, count-above, count-within, through-all, none-in-order, in-use-below}
 use Rattle.varisat_solver.proofs.calls.Counted.{join-more, join-has, join-only, join-once}
-use Rattle.varisat.proofs.Pasts.{Agrees, past_of, stays-but, add-text, tell-model, new-agrees}
-use Rattle.varisat.proofs.SolvedPasts.{solve}
+use Rattle.varisat.proofs.Effects.{add-text, solve, return-list}
+use Rattle.varisat.proofs.Pasts.{Agrees, past_of, stays-but, new-agrees}
+use Rattle.varisat.proofs.Histories.{is-true-too}
 use Rattle.varisat_solver.specs.promises.Calls as state
 use Rattle.varisat_solver.specs.promises.Additions as additions
 
@@ -307,8 +308,14 @@ no-target (Some target) h = absurd (h target refl)
 module _ (check : Bool) (proof : Option OpenProof) (limit : Option ℕ) (old new : Input) (s t : State) (is : s ≡ begun check proof limit)
     (adds : AddsDimacs s old done new t) where
   text-taken : (v : Findings) × additions.AddsText by_answers (begun_past check proof limit) old done new (past_of v t) × Agrees v t
-  text-taken = add-text empty_past.verdict (begun check proof limit) t old new done (begun-agrees check proof limit)
-      (subst (λ (x : State). AddsDimacs x old done new t) is adds)
+  text-taken = is-true-too (λ p q. additions.AddsText by_answers p old done new q) empty_past.verdict (begun check proof limit) t
+      (begun-agrees check proof limit)
+      (add-text by_state by_answers (begun check proof limit) t old new done (subst (λ (x : State). AddsDimacs x old done new t) is adds))
+
+  -- what an answer says of the past
+  answered : (b : Bool) (v : Findings) (u : State) → Agrees v t → state.Solves by_state t (Ok b) u →
+      (z : Findings) × state.Solves by_answers (past_of v t) (Ok b) (past_of z u) × Agrees z u
+  answered b v u g f = is-true-too (λ p q. state.Solves by_answers p (Ok b) q) v t u g (solve by_state by_answers t u (Ok b) f)
 
   -- what was found, and that the text's clauses are those of the solver and others
   abbrev pub Found : Conclusion → Type 0
@@ -318,7 +325,7 @@ module _ (check : Bool) (proof : Option OpenProof) (limit : Option ℕ) (old new
   found-none u f =
       let (v, x, g) = text-taken in
       let q = past_of v t in
-      let (z, e, h) = solve v t u (Ok false) g f in
+      let (z, e, h) = answered false v u g f in
       let n = e.right.1 in
       let w = takes old new (begun_past check proof limit) q x in
       let r = begun-took check proof limit q (dimacs w.text).clauses w.all in (
@@ -360,7 +367,7 @@ module _ (check : Bool) (proof : Option OpenProof) (limit : Option ℕ) (old new
   found-model model u y f d =
       let (v, x, g) = text-taken in
       let q = past_of v t in
-      let (z, e, h) = solve v t u (Ok true) g f in
+      let (z, e, h) = answered true v u g f in
       let s = e.right.1 in
       let k = takes old new (begun_past check proof limit) q x in
       let r = begun-took check proof limit q (dimacs k.text).clauses k.all in (
@@ -378,7 +385,8 @@ module _ (check : Bool) (proof : Option OpenProof) (limit : Option ℕ) (old new
           IsSatisfiable t.clauses → (z : Findings) → u.clauses ≡ t.clauses → u.naming ≡ t.naming → Agrees z u → IsModel P model
       outcome P (inl n) s z e same h = absurd (n s)
       outcome P (inr (clauses, order)) s z e same h =
-          let (w, (may, still), j) = tell-model z u y (Ok (Some model)) h d in
+          let (w, (may, still), j) = is-true-too (λ p q. state.ReturnsList (by_answers.model p) p (Ok (Some model)) q) z u y h
+          (return-list by_state by_answers (by_state.model u) by_answers.model u y (Ok (Some model)) (λ v k. k.model) d) in
           let o = ⊎_elim (λ x. x.1.1) (λ x. absurd (let none : Some model ≡ None = x.1 in cc)) may in
           let logged = subst (λ Q. IsCompletable u.naming Q u.assumptions u.counted model) (e ∙ clauses) o in
           own-model P u.naming u.assumptions u.counted model (subst (AreInOrder (count-all 0 P)) (sym same) order) logged

@@ -1,5 +1,5 @@
 -- What an answer of `solve` says of the state that a solver is in.
-use Rattle.std.proofs.Common.{◌≡◌, ◌≢◌, ℕ, ◌+◌, ◌-◌, arith, Bool, true, false, not, List, [], ◌∷◌, ◌⊎◌, inl, inr, ⊎_elim, sym, ap, ◌∙◌, subst, refl, Some, None, Result, Ok, Err}
+use Rattle.std.proofs.Common.{◌≡◌, ◌≢◌, ℕ, ◌+◌, ◌-◌, arith, Bool, true, false, not, List, [], ◌∷◌, ◌⊎◌, inl, inr, ⊎_elim, sym, ap, ◌∙◌, subst, refl, Some, None, Result, Ok}
 use Rattle.std.proofs.lemmas.Bool.{not-true, false_from_ne_true}
 use Rattle.varisat_theory.specs.promises.Membership.{◌⊆◌}
 use Rattle.varisat_theory.specs.promises.Literals.{Literal, SatisfiesAll, MakesTrue, IsSatisfiable, IsSatisfiableWith}
@@ -7,20 +7,20 @@ use Rattle.varisat_proof.specs.promises.Passing.{LogsConflict}
 use Rattle.varisat_proof.specs.promises.Assumed.{lists_of}
 use Rattle.varisat_solver.specs.promises.States.{State, Ledger, Verdict, Unknown, Sat, Unsat, UnsatUnderAssumptions, IsRight}
 use Rattle.varisat_solver.specs.promises.Journals.{with_entries, AreDerived, EndBy}
-use Rattle.varisat_solver.specs.promises.Calls.{by_state, CountsIf, Decided, Searched, ReturnsVerdict, IsSpent, FailsStep, Solves, with_steps, with_verdict, once_searched, answer_of}
+use Rattle.varisat_solver.specs.promises.Calls.{by_state, CountsIf, Decided, Searched, ReturnsVerdict, IsSpent, with_steps, with_verdict, once_searched, answer_of}
 use Rattle.varisat.specs.promises.Pasts as past
 use Rattle.varisat.specs.promises.Pasts.{Findings, IsAnswer, LogsFalse, by_answers}
 use Rattle.varisat_solver.specs.declared.solver.SolverError.{SolverError}
-use Rattle.varisat_solver.specs.declared.solver.SolverError.TheVariants.{Interrupted, ProofIoError, OutOfMemory, Invalid, ClauseStoreFull}
 use Rattle.varisat_solver.proofs.entries.StepEntries.{goes-adding}
 use Rattle.varisat_solver.proofs.calls.CallStates.{same-assumptions, same-clauses, same-counted, same-ledger, same-naming, same-verdict}
 use Rattle.varisat_solver.proofs.steps.SearchVerdicts.{is-unknown-or-not, answer-sat, right-false}
 use Rattle.varisat.proofs.PastJournals.{logged-more, logged-interrupted, nothing-said}
 use Rattle.varisat_solver.proofs.entries.LoggedEntries.{lists-derived, lists-ended, lists-on}
-use Rattle.varisat.proofs.Pasts.{IsCapped, Knows, Agrees, Leads, past_of, like-past, broken-past, breaks, stays, refuted, right-like}
+use Rattle.varisat.proofs.Pasts.{Knows, past_of, like-past, refuted, right-like}
+use Rattle.varisat.proofs.CappedNames.{IsCapped}
 
 -- the findings once the answer was returned
-abbrev answered : Bool → Findings → Findings
+abbrev pub answered : Bool → Findings → Findings
 answered b v = record v { has_model = b; has_core = not b }
 
 -- nothing is logged where the verdict was known
@@ -39,7 +39,7 @@ lists-solved s t b r = ⊎_elim
     (is-unknown-or-not s.verdict)
 
 -- what is known behind an answer
-solved : (v : Findings) (s t : State) (b : Bool) → Knows v s → ReturnsVerdict by_state (once_searched s) b t → Knows (answered b v) t
+pub solved : (v : Findings) (s t : State) (b : Bool) → Knows v s → ReturnsVerdict by_state (once_searched s) b t → Knows (answered b v) t
 solved v s t b k r =
     let e = r.rest in
     record {
@@ -61,14 +61,14 @@ solved v s t b k r =
     logged-false b e = let z : b ≡ false = cc in ap not z
 
 -- neither a model nor a core was found last where the verdict is unknown
-undecided : (v : Findings) (s : State) → Knows v s → s.verdict ≡ Unknown → (v.has_model ≡ false) × (v.has_core ≡ false)
+pub undecided : (v : Findings) (s : State) → Knows v s → s.verdict ≡ Unknown → (v.has_model ≡ false) × (v.has_core ≡ false)
 undecided v s k u = (
   false_from_ne_true v.has_model (λ e. let z : None ≡ Some true = ap answer_of (sym u) ∙ k.model e in cc),
   false_from_ne_true v.has_core (λ e. let z : None ≡ Some false = ap answer_of (sym u) ∙ k.failed e in cc),
 )
 
 -- and where it is known a model or a core was, or no assignment satisfies the clauses
-known-by : (v : Findings) (s : State) → Knows v s → (s.verdict ≢ Unknown) ⊎ (s.verdict ≡ Unsat) →
+pub known-by : (v : Findings) (s : State) → Knows v s → (s.verdict ≢ Unknown) ⊎ (s.verdict ≡ Unsat) →
     ((v.has_model ≡ false) × (v.has_core ≡ false) → ⊥) ⊎ (IsSatisfiable s.clauses → ⊥)
 known-by v s k n = go s.verdict refl
   where
@@ -78,13 +78,7 @@ known-by v s k n = go s.verdict refl
     go Unsat e = inr (refuted v s k e)
     go (UnsatUnderAssumptions core) e = inl (λ (m, c). let z : true ≡ false = sym (k.core core e) ∙ c in cc)
 
--- how the steps are counted of a call whether or not the verdict is known
-counted-if : (v w : Findings) (s t : State) (r : Result Bool SolverError) → Knows v s → CountsIf by_state s r t →
-    CountsIf by_answers (past_of v s) r (past_of w t)
-counted-if v w s t r k (Searched u c) = Searched (undecided v s k u) c
-counted-if v w s t r k (Decided n e logged) = Decided (known-by v s k n) e logged
-
--- and of one that returns a verdict
+-- how the steps are counted of a call that returns a verdict
 counted : (v w : Findings) (s t : State) (r : Result Bool SolverError) → Knows v s → CountsIf by_state (once_searched s) r t →
     CountsIf by_answers (once_searched (past_of v s)) r (past_of w t)
 counted v w s t r k (Searched u c) = Searched (undecided v s k u) c
@@ -159,7 +153,7 @@ answers v s t true k r = (refl, some-with s t r, logs-true s t r)
 answers v s t false k r = (refl, none-with s t r, logs-false v (answered false v) s t k r, conflict-logged s t r)
 
 -- a call is interrupted
-interrupted : (v : Findings) (s t : State) → Knows v s → IsSpent by_state (once_searched s) t →
+pub interrupted : (v : Findings) (s t : State) → Knows v s → IsSpent by_state (once_searched s) t →
     Knows (by_answers.interrupted (t.ledger.steps - s.ledger.steps) v) t
 interrupted v s t k r =
     let e = r.rest in
@@ -177,7 +171,7 @@ interrupted v s t k r =
     }
 
 -- and its steps are spent
-spent : (v : Findings) (s t : State) → Knows v s → IsSpent by_state (once_searched s) t →
+pub spent : (v : Findings) (s t : State) → Knows v s → IsSpent by_state (once_searched s) t →
     IsSpent by_answers (once_searched (past_of v s)) (past_of (by_answers.interrupted (t.ledger.steps - s.ledger.steps) v) t)
 spent v s t k r =
     let w : Findings = by_answers.interrupted (t.ledger.steps - s.ledger.steps) v in
@@ -198,38 +192,15 @@ spent v s t k r =
     none after before steps e = omega (arith, e)
 
 -- an answer is returned
-returned : (v : Findings) (s t : State) (b : Bool) → Agrees v s → ReturnsVerdict by_state (once_searched s) b t → Leads (Solves by_answers (past_of v s) (Ok b)) t
-returned v s t b g r =
-    let k = g r.valid in
-    let w = answered b v in (
-      w,
-      record {
-        valid = r.valid;
-        steps = counted v w s t (Ok b) k r.steps;
-        logged = r.logged;
-        adds = r.adds;
-        right = answers v s t b k r;
-        rest = like-past w (with_entries t.logged (with_verdict t.verdict (with_steps t.ledger.steps (once_searched s)))) t r.rest;
-      },
-      λ _. solved v s t b k r,
-    )
-
--- a step failed
-step-failed : (faults : ℕ) (v : Findings) (s t : State) (e : SolverError) → Agrees v s → FailsStep by_state faults s e t →
-    FailsStep by_answers faults (past_of v s) e (past_of v t)
-step-failed faults v s t e g (u, c, b) = (undecided v s (g b.valid) u, c, broken-past faults v (with_steps t.ledger.steps s) t b)
-
-pub solve : (v : Findings) (s t : State) (r : Result Bool SolverError) → Agrees v s → Solves by_state s r t → Leads (Solves by_answers (past_of v s) r) t
-solve v s t (Ok b) g r = returned v s t b g r
-solve v s t (Err OutOfMemory) g a = (v, step-failed 0 v s t OutOfMemory g a, breaks v (with_steps t.ledger.steps s) t a.2)
-solve v s t (Err ClauseStoreFull) g (a, full) = (v, (step-failed 0 v s t ClauseStoreFull g a, full), breaks v (with_steps t.ledger.steps s) t a.2)
-solve v s t (Err (ProofIoError cause)) g (o, inl a) =
-    (v, (o, inl (step-failed 1 v s t (ProofIoError cause) g a)), breaks v (with_steps t.ledger.steps s) t a.2)
-solve v s t (Err (ProofIoError cause)) g (o, inr (c, b)) =
-    let m = with_steps t.ledger.steps (once_searched s) in
-    (v, (o, inr (counted-if v v s t (Err (ProofIoError cause)) (g b.valid) c, broken-past 1 v m t b)), breaks v m t b)
-solve v s t (Err Interrupted) g r =
-    let k = g r.valid in
-    (by_answers.interrupted (t.ledger.steps - s.ledger.steps) v, spent v s t k r, λ _. interrupted v s t k r)
-solve v s t (Err Invalid) g (c, e) = (v, (c, ap (past_of v) e), stays v s t e g)
-solve v s t (Err e) g r = absurd r
+pub returned : (v : Findings) (s t : State) (b : Bool) → Knows v s → ReturnsVerdict by_state (once_searched s) b t →
+    ReturnsVerdict by_answers (once_searched (past_of v s)) b (past_of (answered b v) t)
+returned v s t b k r =
+    let w = answered b v in
+    record {
+      valid = r.valid;
+      steps = counted v w s t (Ok b) k r.steps;
+      logged = r.logged;
+      adds = r.adds;
+      right = answers v s t b k r;
+      rest = like-past w (with_entries t.logged (with_verdict t.verdict (with_steps t.ledger.steps (once_searched s)))) t r.rest;
+    }

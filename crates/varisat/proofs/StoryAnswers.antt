@@ -34,7 +34,8 @@ use Rattle.varisat_solver.specs.declared.solver.SolverError.TheVariants.{Interru
 use Rattle.varisat_solver.proofs.calls.CallStates.{same-counted, same-ledger, same-naming}
 use Rattle.varisat_solver.proofs.calls.Counted.{join-only}
 use Rattle.varisat_solver.proofs.calls.ModelsFit.{completable}
-use Rattle.varisat.proofs.Pasts.{IsCapped, capped-one, capped-all, capped-freed, capped-shown, model-sat, no-model}
+use Rattle.varisat.proofs.CappedNames.{IsCapped, capped-one, capped-all, capped-freed, capped-shown}
+use Rattle.varisat.proofs.Pasts.{model-sat, no-model}
 use Rattle.varisat_solver.proofs.steps.SearchVerdicts.{logged-fails, no-core, reopened-false, right-reopened, right-assumed}
 use Rattle.varisat.proofs.SolvedPasts.{some-with, none-with}
 

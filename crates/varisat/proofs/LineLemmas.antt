@@ -101,13 +101,16 @@ from_spaceless (b ∷ bs) e = go (b == 32) refl e (from_spaceless bs)
     go true h k f = absurd (let z : false ≡ true = k in cc)
     go false h k f = (h, f k)
 
+is_word : (word : List ℕ) → spaceless word ≡ true → NoSpace word
+is_word word e = no_space word (from_spaceless word e)
+
 name_has_no_space : (field : ConfigField) → NoSpace (field_text field)
-name_has_no_space VsidsDecay = no_space (codes "vsids_decay") (from_spaceless (codes "vsids_decay") refl)
-name_has_no_space ClauseActivityDecay = no_space (codes "clause_activity_decay") (from_spaceless (codes "clause_activity_decay") refl)
-name_has_no_space ReduceLocalsInterval = no_space (codes "reduce_locals_interval") (from_spaceless (codes "reduce_locals_interval") refl)
-name_has_no_space ReduceMidsInterval = no_space (codes "reduce_mids_interval") (from_spaceless (codes "reduce_mids_interval") refl)
-name_has_no_space LubyRestartIntervalScale = no_space (codes "luby_restart_interval_scale") (from_spaceless (codes "luby_restart_interval_scale") refl)
-name_has_no_space MaxSteps = no_space (codes "max_steps") (from_spaceless (codes "max_steps") refl)
+name_has_no_space VsidsDecay = is_word (codes "vsids_decay") refl
+name_has_no_space ClauseActivityDecay = is_word (codes "clause_activity_decay") refl
+name_has_no_space ReduceLocalsInterval = is_word (codes "reduce_locals_interval") refl
+name_has_no_space ReduceMidsInterval = is_word (codes "reduce_mids_interval") refl
+name_has_no_space LubyRestartIntervalScale = is_word (codes "luby_restart_interval_scale") refl
+name_has_no_space MaxSteps = is_word (codes "max_steps") refl
 
 number_has_no_space : (n : ℕ) → n < 2 ^ 64 → NoSpace (decimal n)
 number_has_no_space n h = no_space (decimal n) (decimal_has_no_space n h)
@@ -125,30 +128,24 @@ names_apart LubyRestartIntervalScale LubyRestartIntervalScale e = refl
 names_apart MaxSteps MaxSteps e = refl
 names_apart f g e = absurd (omega (arith, e))
 
+abbrev keyword : List (List ℕ) → List ℕ
+keyword [] = []
+keyword (word ∷ ws) = word
+
 pub words_have_no_space : (command : Command) → HasNumbersInRange command → AllByRecursion NoSpace (words command)
-words_have_no_space (Add ls) h = (no_space (codes "add") (refl, (refl, (refl, tt))), texts_have_no_space ls (recursion_from_All (λ l. l < 2 ^ 32) ls h))
+words_have_no_space (Add ls) h =
+    (is_word (codes "add") refl, texts_have_no_space ls (recursion_from_All (λ l. l < 2 ^ 32) ls h))
 words_have_no_space (Assume ls) h =
-    (no_space (codes "assume") (from_spaceless (codes "assume") refl), texts_have_no_space ls (recursion_from_All (λ l. l < 2 ^ 32) ls h))
-words_have_no_space New h = (no_space (codes "new") (refl, (refl, (refl, tt))), tt)
-words_have_no_space (Sample v) h = (no_space (codes "sample") (from_spaceless (codes "sample") refl), (variable_has_no_space v h, tt))
-words_have_no_space (Witness v) h = (no_space (codes "witness") (from_spaceless (codes "witness") refl), (variable_has_no_space v h, tt))
-words_have_no_space (Hide v) h = (no_space (codes "hide") (from_spaceless (codes "hide") refl), (variable_has_no_space v h, tt))
-words_have_no_space Observe h = (no_space (codes "observe") (from_spaceless (codes "observe") refl), tt)
-words_have_no_space Solve h = (no_space (codes "solve") (refl, (refl, (refl, (refl, (refl, tt))))), tt)
-words_have_no_space Model h = (no_space (codes "model") (refl, (refl, (refl, (refl, (refl, tt))))), tt)
-words_have_no_space Core h = (no_space (codes "core") (from_spaceless (codes "core") refl), tt)
+    (is_word (codes "assume") refl, texts_have_no_space ls (recursion_from_All (λ l. l < 2 ^ 32) ls h))
+words_have_no_space (Sample v) h = (is_word (codes "sample") refl, (variable_has_no_space v h, tt))
+words_have_no_space (Witness v) h = (is_word (codes "witness") refl, (variable_has_no_space v h, tt))
+words_have_no_space (Hide v) h = (is_word (codes "hide") refl, (variable_has_no_space v h, tt))
 words_have_no_space (Config field value) h =
-    (no_space (codes "config") (from_spaceless (codes "config") refl), (name_has_no_space field, (number_has_no_space value h, tt)))
-words_have_no_space Steps h = (no_space (codes "steps") (from_spaceless (codes "steps") refl), tt)
-words_have_no_space Since h = (no_space (codes "since") (from_spaceless (codes "since") refl), tt)
-words_have_no_space ProofText h =
-    (no_space (codes "proof") (from_spaceless (codes "proof") refl), (no_space (codes "text") (from_spaceless (codes "text") refl), tt))
-words_have_no_space ProofBinary h =
-    (no_space (codes "proof") (from_spaceless (codes "proof") refl), (no_space (codes "binary") (from_spaceless (codes "binary") refl), tt))
-words_have_no_space ProofMarked h =
-    (no_space (codes "proof") (from_spaceless (codes "proof") refl), (no_space (codes "marked") (from_spaceless (codes "marked") refl), tt))
-words_have_no_space Close h = (no_space (codes "close") (refl, (refl, (refl, (refl, (refl, tt))))), tt)
-words_have_no_space SelfCheck h = (no_space (codes "selfcheck") (from_spaceless (codes "selfcheck") refl), tt)
+    (is_word (codes "config") refl, (name_has_no_space field, (number_has_no_space value h, tt)))
+words_have_no_space ProofText h = (is_word (codes "proof") refl, (is_word (codes "text") refl, tt))
+words_have_no_space ProofBinary h = (is_word (codes "proof") refl, (is_word (codes "binary") refl, tt))
+words_have_no_space ProofMarked h = (is_word (codes "proof") refl, (is_word (codes "marked") refl, tt))
+words_have_no_space command h = (is_word (keyword (words command)) refl, tt)
 
 -- words that are joined are parted again
 pub words_of_joined : (w : List ℕ) (ws : List (List ℕ)) → AllByRecursion NoSpace (w ∷ ws) → words_of (join_with_byte 32 (w ∷ ws)) ≡ w ∷ ws
@@ -157,23 +154,7 @@ words_of_joined w (x ∷ xs) (h, hs) = slice_split_at (λ b. b == 32) w 32 (join
 
 words_of_spelled : (command : Command) → HasNumbersInRange command → words_of (spelling command) ≡ words command
 words_of_spelled (Add ls) h = words_of_joined (codes "add") (map literal_text ls) (words_have_no_space (Add ls) h)
-words_of_spelled (Assume ls) h = words_of_joined (codes "assume") (map literal_text ls) (words_have_no_space (Assume ls) h)
-words_of_spelled New h = words_of_joined (codes "new") [] (words_have_no_space New h)
-words_of_spelled (Sample v) h = words_of_joined (codes "sample") (variable_text v ∷ []) (words_have_no_space (Sample v) h)
-words_of_spelled (Witness v) h = words_of_joined (codes "witness") (variable_text v ∷ []) (words_have_no_space (Witness v) h)
-words_of_spelled (Hide v) h = words_of_joined (codes "hide") (variable_text v ∷ []) (words_have_no_space (Hide v) h)
-words_of_spelled Observe h = words_of_joined (codes "observe") [] (words_have_no_space Observe h)
-words_of_spelled Solve h = words_of_joined (codes "solve") [] (words_have_no_space Solve h)
-words_of_spelled Model h = words_of_joined (codes "model") [] (words_have_no_space Model h)
-words_of_spelled Core h = words_of_joined (codes "core") [] (words_have_no_space Core h)
-words_of_spelled (Config field value) h = words_of_joined (codes "config") (field_text field ∷ decimal value ∷ []) (words_have_no_space (Config field value) h)
-words_of_spelled Steps h = words_of_joined (codes "steps") [] (words_have_no_space Steps h)
-words_of_spelled Since h = words_of_joined (codes "since") [] (words_have_no_space Since h)
-words_of_spelled ProofText h = words_of_joined (codes "proof") (codes "text" ∷ []) (words_have_no_space ProofText h)
-words_of_spelled ProofBinary h = words_of_joined (codes "proof") (codes "binary" ∷ []) (words_have_no_space ProofBinary h)
-words_of_spelled ProofMarked h = words_of_joined (codes "proof") (codes "marked" ∷ []) (words_have_no_space ProofMarked h)
-words_of_spelled Close h = words_of_joined (codes "close") [] (words_have_no_space Close h)
-words_of_spelled SelfCheck h = words_of_joined (codes "selfcheck") [] (words_have_no_space SelfCheck h)
+words_of_spelled command h = words_of_joined _ _ (words_have_no_space command h)
 
 pub words_of_meant : (text : List ℕ) (command : Command) → MeansCommand text command → words_of text ≡ words command
 words_of_meant text command m = ap words_of (sym m.spelled) ∙ words_of_spelled command m.in_range
@@ -214,8 +195,7 @@ second_same a b c d e = cc
 
 -- the bytes of the first word as one number, by which the kinds of commands differ
 abbrev first_word_number : List (List ℕ) → ℕ
-first_word_number [] = 0
-first_word_number (word ∷ ws) = fold (λ n b. 256 * n + b) 0 word
+first_word_number ws = fold (λ n b. 256 * n + b) 0 (keyword ws)
 
 pub words_apart : (a b : Command) → HasNumbersInRange a → HasNumbersInRange b → words a ≡ words b → a ≡ b
 words_apart (Add ls) (Add ms) h k e = adds_apart ls ms h k e
@@ -413,7 +393,7 @@ no_list numbers ls word others none e command m =
   where
     assume_first : (numbers : List ℕ) → codes "assume" ∷ words_of numbers ≡ words_of (codes "assume " ++ numbers)
     assume_first numbers = sym (slice_split_at (λ b. b == 32) (codes "assume") 32 numbers
-        (no_space (codes "assume") (from_spaceless (codes "assume") refl)) refl)
+        (is_word (codes "assume") refl) refl)
 
 -- Behind `config` stand a setting's name and a value.
 
@@ -450,7 +430,7 @@ no_setting setting name others w none command m =
   where
     config_first : (setting : List ℕ) → codes "config" ∷ words_of setting ≡ words_of (codes "config " ++ setting)
     config_first setting = sym (slice_split_at (λ b. b == 32) (codes "config") 32 setting
-        (no_space (codes "config") (from_spaceless (codes "config") refl)) refl)
+        (is_word (codes "config") refl) refl)
 
 pub number_alone : (number word : List ℕ) → word ∷ [] ≡ words_of number → word ≡ number
 number_alone number word e = sym (one_word number word (sym e))

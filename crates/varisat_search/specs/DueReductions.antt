@@ -12,7 +12,7 @@ use Rattle.varisat_analysis.specs.HeaderChanges.{ChangesHeaders}
 use Rattle.varisat_analysis.specs.Reductions.{reasons_marked, Discards}
 use Rattle.varisat_analysis.specs.Collections.{Repacks}
 use Rattle.varisat_search.specs.Progress.{ProvesTo, StepsTo}
-use Rattle.varisat_search.specs.Restarts.{KeepsAssignment, RestartsIfDue, SavesIfDue}
+use Rattle.varisat_search.specs.Restarts.{KeepsAssignment, RestartsByPolicy, SavesUndone}
 use Rattle.varisat_search.specs.RootSimplified.{SimplifiesRootFirst}
 use Rattle.varisat_search.specs.Deletions.{unmarked_deletions}
 
@@ -74,8 +74,8 @@ pub record KeepsSearch {A : Type 0} (are : List Line → Type 0) (x y : Context 
 -- lines for which `are` holds.
 pub record BeginsStep {A : Type 0} (are : List Line → Type 0) (x z : Context A) : Type 0 where
   pub begun : Context A
-  pub restarts : RestartsIfDue x.schedule x.assumptions.levels (view x) (view begun)
-  pub saves : SavesIfDue x.schedule x.assumptions.levels (view x) x.assignment.last begun.assignment.last
+  pub restarts : RestartsByPolicy x.schedule x.assumptions.levels (view x) (view begun)
+  pub saves : SavesUndone x.assumptions.levels (view x) (view begun) x.assignment.last begun.assignment.last
   pub begins : ChangesRestarted x begun
   pub decidable : SameDecidable (view x) x.vsids (view begun) begun.vsids
   pub decay : begun.vsids.decay ≡ x.vsids.decay
@@ -88,7 +88,7 @@ pub record BeginsStep {A : Type 0} (are : List Line → Type 0) (x z : Context A
 pub record GoesBySchedule {A : Type 0} (lines : List Line) (x z : Context A) : Type 0 where
   pub begun : Context A
   pub reduced : Context A
-  pub restarts : RestartsIfDue x.schedule x.assumptions.levels (view x) (view begun)
+  pub restarts : RestartsByPolicy x.schedule x.assumptions.levels (view x) (view begun)
   pub begins : ChangesRestarted x begun
   pub first : List Line
   pub rest : List Line

@@ -1,19 +1,29 @@
 -- What a restart by the schedule does.
-use Rattle.std.specs.Prelude.{◌≡◌, ℕ, ◌<◌, ◌≤◌, Bool, List, length}
+use Rattle.std.specs.Prelude.{◌≡◌, ℕ, ◌<◌, ◌≤◌, Bool, List, length, ◌⊎◌}
 use Rattle.varisat_prop.specs.View.{View, kinds}
 use Rattle.varisat_schedule.specs.Plans.{Plan, IsDue}
-use Rattle.varisat_search.specs.Steps.{IsCut, SavesAbove, Remembers}
+use Rattle.varisat_search.specs.Steps.{IsCut, Saves, Remembers}
 
--- Where a restart is due all decisions above the level are undone, and else nothing changes.
+-- Where a restart is due it may be made: the decisions above the level are undone, or nothing changes. Lines, bound and
+-- verdicts rest on no more than this.
+pub record MayRestart (q : Plan) (level : ℕ) (s t : View) : Type 0 where
+  pub stays : (IsDue q → ⊥) → t ≡ s
+  pub undone : (t ≡ s) ⊎ ((level < length s.decisions) × IsCut s t level)
+
+-- Each restart that is due is made: all decisions above the level are undone, and else nothing changes.
 pub record RestartsIfDue (q : Plan) (level : ℕ) (s t : View) : Type 0 where
   pub stays : (IsDue q → ⊥) → t ≡ s
   pub undecided : length s.decisions ≤ level → t ≡ s
   pub undone : IsDue q → level < length s.decisions → IsCut s t level
 
--- Where a restart is due it saves the values that variables lose, and else no value is saved.
-pub record SavesIfDue (q : Plan) (level : ℕ) (s : View) (old new : List Bool) : Type 0 where
-  pub stays : (IsDue q → ⊥) → new ≡ old
-  pub saved : IsDue q → SavesAbove level s old new
+-- What the policy makes of a restart that is due: each is made. For a policy that passes some over this is `MayRestart`.
+abbrev pub RestartsByPolicy : Plan → ℕ → View → View → Type 0
+RestartsByPolicy = RestartsIfDue
+
+-- Where decisions above the level are undone, the values that variables lose are saved, and where nothing changes no value is.
+pub record SavesUndone (level : ℕ) (s t : View) (old new : List Bool) : Type 0 where
+  pub stays : t ≡ s → new ≡ old
+  pub saved : level < length s.decisions → IsCut s t level → Saves s level old new
 
 -- Clauses may go or move, and reasons follow them. All else stays, and the trail's rank with it.
 pub record KeepsAssignment (s t : View) : Type 0 where
@@ -23,5 +33,5 @@ pub record KeepsAssignment (s t : View) : Type 0 where
 -- what is remembered over a restart down to the level, where one is due, reductions that lose no value, and the step after them
 abbrev pub RestartsAndRemembers : Plan → ℕ → View → List Bool → List Bool → Type 0
 RestartsAndRemembers q level s old new =
-    (t u : View) × (between : List Bool) × RestartsIfDue q level s t × SavesIfDue q level s old between
+    (t u : View) × (between : List Bool) × RestartsByPolicy q level s t × SavesUndone level s t old between
     × KeepsAssignment t u × Remembers u between new

@@ -38,11 +38,6 @@ pub record Saves (s : View) (level : ℕ) (old new : List Bool) : Type 0 where
 abbrev pub SavesAll : View → List Bool → List Bool → Type 0
 SavesAll s old new = (s.decisions ≡ [] → new ≡ old) × (0 < length s.decisions → Saves s 0 old new)
 
--- what is remembered where the decisions above the level are undone: nothing changes where there are none
-abbrev pub SavesAbove : ℕ → View → List Bool → List Bool → Type 0
-SavesAbove level s old new =
-    (length s.decisions ≤ level → new ≡ old) × (level < length s.decisions → Saves s level old new)
-
 -- what is remembered where the search backtracks or stays
 abbrev pub SavesSome : View → List Bool → List Bool → Type 0
 SavesSome s old new = (new ≡ old) ⊎ ((level : ℕ) × (level < length s.decisions) × Saves s level old new)

@@ -63,6 +63,13 @@ cutting-end s t level k tr ds n f g c = record {
   stays = λ v h. c.stays v (λ j a b e. h (j, a, omega (arith, b, n), e));
 }
 
+-- undoing decisions changes something
+pub cut-changes : (s t : View) (level : ℕ) → level < length s.decisions → IsCut s t level → t ≡ s → ⊥
+cut-changes s t level h c e =
+    let n = ap (λ (x : View). length x.decisions) c.rest ∙ length-take-le level s.decisions (omega (arith, h)) in
+    let m = ap (λ (x : View). length x.decisions) e in
+    omega (arith, h, n, m)
+
 module _ (s t : View) (level : ℕ) (w : WellFormed s) (h : level < length s.decisions) (c : IsCut s t level) where
   abbrev pub p : ℕ
   p = decision_at s level

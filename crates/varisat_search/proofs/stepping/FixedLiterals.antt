@@ -10,7 +10,6 @@ use Rattle.varisat_theory.proofs.clauses.Members.{∈-append_left}
 use Rattle.varisat_theory.proofs.clauses.Places.{∈-get_or, place_in}
 use Rattle.varisat_clause.specs.Stored.{literals_of}
 use Rattle.varisat_theory.specs.promises.Derivations.{Line}
-use Rattle.varisat_schedule.proofs.CallSteps.{due-or-not}
 use Rattle.varisat_prop.specs.declared.prop.graph.Reason.{Reason}
 use Rattle.varisat_prop.specs.declared.prop.graph.Reason.TheVariants as reason
 use Rattle.varisat_prop.specs.declared.prop.graph.Conflict.{Conflict}
@@ -28,6 +27,7 @@ use Rattle.varisat_search.specs.DueReductions.{BeginsStep}
 use Rattle.varisat_search.specs.RootSimplified.{HasRootNews, before_decisions, fixed_literals, FixesNone, KeepsFixed}
 use Rattle.varisat_search.specs.Steps.{IsCut}
 use Rattle.varisat_search.proofs.stepping.PropagatedBeforeDecisions.{take-whole}
+use Rattle.varisat_search.proofs.stepping.RestartSteps.{restart-elim, restart-undecided}
 use Rattle.varisat_search.proofs.stepping.StepWithoutLines.{proved_back, clause_or_none}
 use Rattle.varisat_search.proofs.stepping.ViewSearch.{kept_same}
 
@@ -98,16 +98,12 @@ begun-fixed x z r b =
     let t = view b.begun in
     let level = x.assumptions.levels in
     let restarted : fixed_literals t ≡ fixed_literals s =
-    ⊎_elim
-    (λ d. ⊎_elim (λ h. fixed-undone s t level r.well h (b.restarts.undone d h)) (λ h. ap fixed_literals (b.restarts.undecided h))
-    (cases_lt level (length s.decisions)))
-    (λ n. ap fixed_literals (b.restarts.stays n))
-    (due-or-not x.schedule) in
+    restart-elim x.schedule level s t (λ u. fixed_literals u ≡ fixed_literals s) b.restarts refl (fixed-undone s t level r.well) in
     let rest = b.reduces.assigned.rest in (
       ap fixed_literals rest ∙ restarted,
       λ u.
           let n = ap (λ (ds : List ℕ). length ds) u.0 in
-          subst HasRootNews (sym rest) (subst HasRootNews (sym (b.restarts.undecided (omega (arith, n)))) u),
+          subst HasRootNews (sym rest) (subst HasRootNews (sym (restart-undecided x.schedule level s t b.restarts (omega (arith, n)))) u),
     )
 
 -- at level 0 all literals are of that level

@@ -1,5 +1,5 @@
 -- A step that may begin with a restart.
-use Rattle.std.proofs.Common.{◌≡◌, ℕ, ◌<◌, ◌≤◌, List, [], length, ⊎_elim, refl, sym, ap, subst, arith}
+use Rattle.std.proofs.Common.{◌≡◌, ℕ, ◌<◌, ◌≤◌, List, [], length, ⊎_elim, inl, inr, refl, sym, ap, subst, arith}
 use Rattle.std.proofs.lemmas.List.{length-map}
 use Rattle.std.proofs.lemmas.Bool.{cases_lt}
 use Rattle.varisat_theory.specs.inside.Rank.{rank}
@@ -11,7 +11,7 @@ use Rattle.varisat_prop.specs.Watches.{Watches, IsPropagated}
 use Rattle.varisat_schedule.specs.Plans.{Plan}
 use Rattle.varisat_schedule.specs.CallSteps.{IsPlannedStep}
 use Rattle.varisat_schedule.proofs.CallSteps.{due-or-not}
-use Rattle.varisat_search.specs.Restarts.{RestartsIfDue}
+use Rattle.varisat_search.specs.Restarts.{MayRestart, RestartsByPolicy}
 use Rattle.varisat_search.specs.Seen.{search_of}
 use Rattle.varisat_search.specs.Steps.{IsCut}
 use Rattle.varisat_search.proofs.stepping.Backtrack.{end-inside, cut-length, cut-well, cut-settled, cut-propagated}
@@ -43,24 +43,30 @@ begun-cut s t level w v h c =
           cut_moves s t level w h c;
     }
 
-module _ (q : Plan) (level : ℕ) (s t : View) (w : WellFormed s) (v : PropagatedBeforeDecisions s) (r : RestartsIfDue q level s t) where
-  unchanged : t ≡ s → Begun s t
-  unchanged e = subst (Begun s) (sym e) (begun-same s w v)
+-- What the policy does may be done: the one place that has to follow where the policy changes.
+pub permitted : (q : Plan) (level : ℕ) (s t : View) → RestartsByPolicy q level s t → MayRestart q level s t
+permitted q level s t r = record {
+  stays = r.stays;
+  undone =
+      ⊎_elim (λ d. ⊎_elim (λ h. inr (h, r.undone d h)) (λ h. inl (r.undecided h)) (cases_lt level (length s.decisions))) (λ n. inl (r.stays n))
+      (due-or-not q);
+}
 
+-- what holds of a view in which nothing changes, and of one in which decisions are undone
+pub restart-elim : (q : Plan) (level : ℕ) (s t : View) (P : View → Type 0) → RestartsByPolicy q level s t → P s →
+    (level < length s.decisions → IsCut s t level → P t) → P t
+restart-elim q level s t P r same cut = ⊎_elim (λ e. subst P (sym e) same) (λ (h, c). cut h c) (permitted q level s t r).undone
+
+-- no decision stands above the level
+pub restart-undecided : (q : Plan) (level : ℕ) (s t : View) → RestartsByPolicy q level s t → length s.decisions ≤ level → t ≡ s
+restart-undecided q level s t r n = ⊎_elim (λ e. e) (λ (h, c). absurd (omega (arith, n, h))) (permitted q level s t r).undone
+
+module _ (q : Plan) (level : ℕ) (s t : View) (w : WellFormed s) (v : PropagatedBeforeDecisions s) (r : RestartsByPolicy q level s t) where
   pub begun-view : Begun s t
-  begun-view =
-      ⊎_elim
-      (λ d. ⊎_elim (λ h. begun-cut s t level w v h (r.undone d h)) (λ h. unchanged (r.undecided h)) (cases_lt level (length s.decisions)))
-      (λ n. unchanged (r.stays n))
-      (due-or-not q)
+  begun-view = restart-elim q level s t (Begun s) r (begun-same s w v) (begun-cut s t level w v)
 
   pub begun-propagated : (W : Watches) → IsPropagated W s → IsPropagated W t
-  begun-propagated W p =
-      let same : t ≡ s → IsPropagated W t = λ e. subst (IsPropagated W) (sym e) p in
-      ⊎_elim
-      (λ d. ⊎_elim (λ h. cut-propagated s t level w h (r.undone d h) W p) (λ h. same (r.undecided h)) (cases_lt level (length s.decisions)))
-      (λ n. same (r.stays n))
-      (due-or-not q)
+  begun-propagated W p = restart-elim q level s t (IsPropagated W) r p (λ h c. cut-propagated s t level w h c W p)
 
   -- the lines of the step
   pub begun-steps : (u : View) (o : Outcome) (lines : List Line) → Steps (search_of t) (search_of u) o lines → Steps (search_of s) (search_of u) o lines
@@ -72,6 +78,6 @@ module _ (q : Plan) (level : ℕ) (s t : View) (w : WellFormed s) (v : Propagate
       let flags = length-map s.trail (λ l. is_implied (node_of s l)) in
       let b = begun-view.shorter in
       record {
-        rises = λ d n h. subst (λ (x : View). rank n (kinds x) < rank n (kinds u)) (r.stays d) (rises n (omega (arith, flags, b, h)));
+        rises = λ d n h. subst (λ (x : View). rank n (kinds x) < rank n (kinds u)) ((permitted q level s t r).stays d) (rises n (omega (arith, flags, b, h)));
         restarts = λ d n h. let a = rises n (omega (arith, flags, b, h)) in omega (arith, a);
       }

@@ -1,18 +1,20 @@
-use Rattle.std.proofs.Common.{◌≡◌, refl, ap, ◌∙◌}
+use Rattle.std.proofs.Common.{◌≡◌, length, ⊎_elim, refl, ap, ◌∙◌}
+use Rattle.std.proofs.lemmas.Bool.{cases_lt}
 use Rattle.varisat_schedule.specs.Plans.{step_begun}
 use Rattle.varisat_vsids.specs.Activities.{Activities}
 use Rattle.varisat_search.specs.declared.context.Context.{Context}
 use Rattle.varisat_search.specs.Contexts.{view}
 use Rattle.varisat_search.specs.Frames.{begun_plan}
-use Rattle.varisat_search.specs.Restarts.{RestartsIfDue}
+use Rattle.varisat_search.specs.Restarts.{RestartsByPolicy}
 use Rattle.varisat_search.proofs.assuming.AssumptionContexts.{own-levels}
 use Rattle.varisat_search.proofs.stepping.Frames.{cut-activities}
+use Rattle.varisat_search.proofs.stepping.Backtrack.{cut-changes}
 use Rattle.varisat_search.proofs.stepping.ReadyAfter.{backtracked-ready, ready-with}
 use Rattle.varisat_search.proofs.schedule.restart_if_due.Given.{Over}
 use Rattle.varisat_search.proofs.schedule.restart_if_due.Goals.{After-restart}
 use Rattle.varisat_search.proofs.schedule.restart_if_due.Goals as goal
 
-restarts : (g : Over) (c : After-restart g) → RestartsIfDue c.args.ctx.now.schedule c.args.ctx.now.assumptions.levels (view c.args.ctx.now)
+restarts : (g : Over) (c : After-restart g) → RestartsByPolicy c.args.ctx.now.schedule c.args.ctx.now.assumptions.levels (view c.args.ctx.now)
     (view c.restart.new.ctx)
 restarts g c = record {
   stays = λ n. absurd (n (c.begin_step.ensures.due.0 c.if-not-begin_step.false));
@@ -40,10 +42,14 @@ returns-clause-ready g c =
     c.restart.ensures
 
 pub returns-clause-saved : goal.returns-clause-saved
-returns-clause-saved g c = record {
-  stays = λ n. absurd (n (c.begin_step.ensures.due.0 c.if-not-begin_step.false));
-  saved = λ d. (λ e. ap (λ (x : Context g.row.A.Denot). x.assignment.last) (c.restart.ensures.same e), c.restart.ensures.saved);
-}
+returns-clause-saved g c =
+    let s = view c.args.ctx.now in
+    let level = c.args.ctx.now.assumptions.levels in
+    record {
+      stays = λ e. ⊎_elim (λ h. absurd (cut-changes s (view c.restart.new.ctx) level h (c.restart.ensures.cut h) e))
+          (λ h. ap (λ (x : Context g.row.A.Denot). x.assignment.last) (c.restart.ensures.same h)) (cases_lt level (length s.decisions));
+      saved = λ h k. c.restart.ensures.saved h;
+    }
 
 pub returns-clause-frame : goal.returns-clause-frame
 returns-clause-frame g c =

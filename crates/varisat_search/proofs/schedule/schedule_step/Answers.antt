@@ -10,7 +10,7 @@ use Rattle.varisat_search.specs.AssumptionParts.{AssumptionParts, KeepsAssumptio
 use Rattle.varisat_search.specs.Contexts.{view, IsReady}
 use Rattle.varisat_search.specs.Decisions.{SameDecidable}
 use Rattle.varisat_search.specs.DueReductions.{KeepsSearch, ReducesIfDue, GoesBySchedule}
-use Rattle.varisat_search.specs.Restarts.{RestartsIfDue, SavesIfDue, RestartsAndRemembers}
+use Rattle.varisat_search.specs.Restarts.{RestartsByPolicy, SavesUndone, RestartsAndRemembers}
 use Rattle.varisat_search.specs.Seen.{search_of}
 use Rattle.varisat_search.specs.Steps.{Remembers}
 use Rattle.varisat_search.proofs.assuming.AssumptionSteps.{keeps-after-part}
@@ -29,7 +29,7 @@ use Rattle.varisat_steps.proofs.Traced.{step-more}
 use Rattle.varisat_search.proofs.schedule.schedule_step.Goals as goal
 
 -- A step that begins with a restart and goes on with reductions, each where it is due: x is before it, t after the restart, u after the reductions.
-module _ {A : Type 0} (x t u : Context A) (r : IsReady x) (b : RestartsIfDue x.schedule x.assumptions.levels (view x) (view t))
+module _ {A : Type 0} (x t u : Context A) (r : IsReady x) (b : RestartsByPolicy x.schedule x.assumptions.levels (view x) (view t))
     {P : List Line → Type 0} (k : KeepsSearch P t u) where
   scheduled-steps : (z : View) (v : Outcome) (Q R : List Line → Type 0) → ((first more : List Line) → P first → Q more → R (first ++ more)) →
       ((more : List Line) × Steps (search_of (view u)) (search_of z) v more × Q more) → (lines : List Line)
@@ -51,7 +51,7 @@ module _ {A : Type 0} (x t u : Context A) (r : IsReady x) (b : RestartsIfDue x.s
   scheduled-decidable z first last = same-trans (view x) x.vsids (view t) t.vsids (view z) z.vsids first
       (same-trans (view t) t.vsids (view u) u.vsids (view z) z.vsids k.decidable last)
 
-  scheduled-last : (new : List Bool) → SavesIfDue x.schedule x.assumptions.levels (view x) x.assignment.last t.assignment.last →
+  scheduled-last : (new : List Bool) → SavesUndone x.assumptions.levels (view x) (view t) x.assignment.last t.assignment.last →
       u.assignment.last ≡ t.assignment.last → Remembers (view u) u.assignment.last new →
       RestartsAndRemembers x.schedule x.assumptions.levels (view x) x.assignment.last new
   scheduled-last new saved same remembers = (view t, view u, t.assignment.last, b, saved, k.assigned, subst (λ xs. Remembers (view u) xs new) same remembers)

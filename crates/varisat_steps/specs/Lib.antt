@@ -1,3 +1,1 @@
 pub mod Traces
-pub mod Recorded
-pub mod RecorderLaws

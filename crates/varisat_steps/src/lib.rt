@@ -1,7 +1,6 @@
 //! The steps of a search's proof, and what takes them.
 #![tactic(auto)]
 
-pub mod recorder;
 pub mod step;
 pub mod tracer;
 

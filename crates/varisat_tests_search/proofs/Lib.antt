@@ -1,1 +1,2 @@
 pub mod ReadySearches
+pub mod RecordedUnits

@@ -8,6 +8,7 @@ mod levels;
 mod loading;
 mod memory;
 mod naming;
+mod recorder;
 mod reductions;
 mod searches;
 mod simplifying;

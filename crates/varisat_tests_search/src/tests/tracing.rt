@@ -2,6 +2,7 @@
 ghost use Rattle.std.specs.Prelude.{OnOk};
 ghost use Rattle.varisat_search.specs.Contexts.{IsReady};
 
+use super::recorder::LineRecorder;
 use super::searches::{are, literals, loaded, make_all_available};
 use std::alloc::{Allocator, Global};
 use varisat_literals::Lit;
@@ -10,7 +11,6 @@ use varisat_search::context::Context;
 use varisat_search::error::StepError;
 use varisat_search::load::load_clause;
 use varisat_search::state::SatState;
-use varisat_steps::recorder::LineRecorder;
 
 /// Makes the clause's variables available and loads the clause, where its variables are those of the search.
 fn load_recorded<A: Allocator + Copy>(

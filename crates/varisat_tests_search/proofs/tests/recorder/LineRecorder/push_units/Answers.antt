@@ -1,6 +1,6 @@
 use Rattle.varisat_steps.proofs.Broken.{on-error}
-use Rattle.varisat_steps.proofs.RecordedUnits.{units-next, units-refused}
-use Rattle.varisat_steps.proofs.recorder.LineRecorder.push_units.Goals as goal
+use Rattle.varisat_tests_search.proofs.RecordedUnits.{units-next, units-refused}
+use Rattle.varisat_tests_search.proofs.tests.recorder.LineRecorder.push_units.Goals as goal
 
 pub loop-unit-preserved : goal.loop-unit-preserved
 loop-unit-preserved g c = units-next c.args.self.now c.loop-unit.self c.push_addition.new.self c.args.units.now c.loop-unit.unit-index

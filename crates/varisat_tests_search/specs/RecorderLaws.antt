@@ -6,7 +6,7 @@ use Rattle.std.proofs.Math.Seq.{take-append-add}
 use Rattle.varisat_theory.specs.promises.Derivations.{Line}
 use Rattle.varisat_theory.specs.promises.Journals.{Entry, lines_of}
 use Rattle.varisat_theory.proofs.journals.Journals.{lines_append}
-use Rattle.varisat_steps.specs.Recorded.{BreaksOffAt}
+use Rattle.varisat_tests_search.specs.Recorded.{BreaksOffAt}
 
 pub takes-none : (x : List Line) → x ≡ x ++ []
 takes-none x = sym (append-nil x)

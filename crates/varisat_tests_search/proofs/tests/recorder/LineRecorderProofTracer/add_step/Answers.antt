@@ -5,10 +5,10 @@ use Rattle.varisat_steps.specs.declared.step.ProofStep.{ProofStep}
 use Rattle.varisat_theory.specs.promises.Journals.{lines_of}
 use Rattle.varisat_theory.proofs.journals.Journals.{written_lines}
 use Rattle.varisat_steps.specs.Traces.{entries_of}
-use Rattle.varisat_steps.specs.Recorded.{BreaksOffAt}
+use Rattle.varisat_tests_search.specs.Recorded.{BreaksOffAt}
 use Rattle.varisat_steps.specs.declared.tracer.TraceError.TheVariants.{Memory}
 use Rattle.varisat_steps.proofs.Broken.{step-broken}
-use Rattle.varisat_steps.proofs.recorder.LineRecorderProofTracer.add_step.Goals as goal
+use Rattle.varisat_tests_search.proofs.tests.recorder.LineRecorderProofTracer.add_step.Goals as goal
 
 pub returns-in_ok-push_units-in-UnitClauses : goal.returns-in_ok-push_units-in-UnitClauses
 returns-in_ok-push_units-in-UnitClauses g c =

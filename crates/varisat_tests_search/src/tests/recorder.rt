@@ -1,14 +1,13 @@
-//! A tracer that keeps the lines, for tests and for whoever wants to look at them.
+//! A tracer that keeps the lines.
 ghost use Rattle.std.specs.Prelude.{◌≡◌, ◌<◌, ◌++◌, ◌∷◌, [], length, slice_index_or, ℕ, take, OnOk, OnErr};
 ghost use Rattle.varisat_theory.specs.inside.StepLaws.{unit_lines};
 ghost use Rattle.varisat_theory.specs.promises.Derivations.{Add, Delete};
-ghost use Rattle.varisat_steps.specs.Recorded.{clause_of, is_deletion};
+ghost use Rattle.varisat_tests_search.specs.Recorded.{clause_of, is_deletion};
 
-use crate::step::ProofStep;
-use crate::tracer::{ProofTracer, TraceError};
 use std::alloc::{AllocError, Allocator};
 use std::marker::Model;
 use varisat_literals::Lit;
+use varisat_steps::{ProofStep, ProofTracer, TraceError};
 
 /// The lines that were taken, in order. A contract sees them as a list.
 #[derive(Drop)]
@@ -100,8 +99,8 @@ impl<A: Allocator + Copy> ProofTracer for LineRecorder<A> {
     ghost use Rattle.std.specs.Prelude.{true, ◌≡◌, ◌++◌};
     ghost use Rattle.std.specs.List.Sorted.{IsNonDecreasing};
     ghost use Rattle.varisat_theory.specs.promises.Journals.{lines_of};
-    ghost use Rattle.varisat_steps.specs.Recorded.{BreaksOffAt};
-    ghost use Rattle.varisat_steps.specs.RecorderLaws.{takes-none, takes-more, takes-idle, breaks-none, breaks-behind, breaks-idle};
+    ghost use Rattle.varisat_tests_search.specs.Recorded.{BreaksOffAt};
+    ghost use Rattle.varisat_tests_search.specs.RecorderLaws.{takes-none, takes-more, takes-idle, breaks-none, breaks-behind, breaks-idle};
 
     ghost active = { λ _. true };
 

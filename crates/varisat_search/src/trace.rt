@@ -1,5 +1,5 @@
 //! What a search has its proof log before clauses change.
-ghost use Rattle.std.specs.Prelude.{◌≡◌, ℕ, ◌<◌, ◌≤◌, List, Option, Bool, length, false, OnOk};
+ghost use Rattle.std.specs.Prelude.{◌≡◌, ℕ, ◌<◌, ◌≤◌, length, OnOk};
 ghost use Rattle.varisat_theory.specs.promises.Membership.{◌∈◌};
 ghost use Rattle.varisat_theory.specs.promises.Literals.{Literal, Clause, variable_of, opposite};
 ghost use Rattle.varisat_theory.specs.inside.StepLaws.{unit_lines};
@@ -8,7 +8,6 @@ ghost use Rattle.varisat_search.specs.Deletions.{unmarked_deletions};
 ghost use Rattle.varisat_clause.specs.Stores.{stored_clauses, IsSound};
 ghost use Rattle.varisat_clause.specs.Collected.{live_clauses};
 ghost use Rattle.varisat_prop.specs.Looks.{IsInRange};
-ghost use Rattle.varisat_prop.specs.Simplified.{is_unassigned};
 ghost use Rattle.varisat_prop.specs.View.{pairs_with, pairs_from};
 ghost use Rattle.varisat_search.specs.ProvedUnits.{units_in};
 ghost use Rattle.varisat_search.specs.Simplifications.{unassigned, is_gone_pair, lines_of_pairs, lines_of_clause, lines_of_clauses};
@@ -20,6 +19,7 @@ use varisat_clause::alloc::{ClauseAlloc, ClauseRef};
 use varisat_literals::Lit;
 use varisat_prop::binary::BinaryClauses;
 use varisat_prop::prop::{Assignment, ImplGraph};
+use varisat_prop::short::has_no_value;
 use varisat_steps::{ProofStep, ProofTracer, TraceError};
 
 /// Adds each of the literals of which a clause is the reason to the proof, as a unit clause.
@@ -41,13 +41,6 @@ pub fn trace_units<A: Allocator + Copy, P: ProofTracer>(
         proof.add_step(&ProofStep::UnitClauses { units: &[*lit] })?;
     }
     Ok(())
-}
-
-/// Whether the literal's variable has no value.
-fn has_no_value(values: &[Option<bool>], lit: Lit) -> bool
-    ensures { result ≡ is_unassigned values.now lit }
-{
-    !matches!(values.get(lit.index()), Some(Some(_)))
 }
 
 /// Whether the clause of the two literals is deleted here: one of them has a value, and the first has the smaller code,

@@ -194,6 +194,33 @@ fails_checking f s t p q start mid new r e b a c same none =
     (λ bytes i. no_result f mid.clauses bytes e new.clauses (ap verdict_of (sym same) ∙ none) i)
     (subst (λ x. Checks f (record { checker = mid; source = p }) x (record { checker = new; source = q })) same (c (ap (λ x. x.spent) w.now))))
 
+-- the error in a result
+abbrev pub error_in : Result CheckVerdict CheckerError → CheckerError
+error_in (Ok v) = Spent
+error_in (Err e) = e
+
+-- An error that speaks of the bytes is the verdict that the proof is wrong.
+pub wrong_proof : (e : CheckerError) (v : Bool) → verdict_of (Err e) ≡ Some v → (is_of_bytes e ≡ true) × (v ≡ false)
+wrong_proof (CheckFailed n) v h = (refl, (let z : Some false ≡ Some v = h in cc))
+wrong_proof (NoSuchClause n) v h = (refl, (let z : Some false ≡ Some v = h in cc))
+wrong_proof (CoreNotAssumed n) v h = (refl, (let z : Some false ≡ Some v = h in cc))
+wrong_proof (Parse o) v h = (refl, (let z : Some false ≡ Some v = h in cc))
+wrong_proof (Io x) v h = absurd cc
+wrong_proof OutOfMemory v h = absurd cc
+wrong_proof (Dimacs x) v h = absurd cc
+wrong_proof Spent v h = absurd cc
+
+-- any other is a fault
+pub no_verdict : (e : CheckerError) → verdict_of (Err e) ≡ None → is_of_bytes e ≡ false
+no_verdict (CheckFailed n) h = absurd cc
+no_verdict (NoSuchClause n) h = absurd cc
+no_verdict (CoreNotAssumed n) h = absurd cc
+no_verdict (Parse o) h = absurd cc
+no_verdict (Io x) h = refl
+no_verdict OutOfMemory h = refl
+no_verdict (Dimacs x) h = refl
+no_verdict Spent h = refl
+
 no_marked : (bytes : List ℕ) (e : CheckerError) (inputs Q : List Clause) → is_of_bytes e ≡ false → IsMarkedCheck bytes (Err e) inputs Q → ⊥
 no_marked bytes (CheckFailed n) inputs Q f i = let z : true ≡ false = f in cc
 no_marked bytes (NoSuchClause n) inputs Q f i = let z : true ≡ false = f in cc

@@ -2,7 +2,6 @@
 ghost use Rattle.std.specs.Prelude.{◌≡◌, ◌⊎◌, ◌-◌, ◌^◌, ◌<◌, [], Bool, true, false, Some, Err, None, IfOk, IfErr, IsTrue, ◌↔◌};
 ghost use Rattle.varisat_formula.specs.promises.Written.{Puts};
 ghost use Rattle.varisat_proof.specs.declared.checker.error.CheckVerdict.TheVariants.{Refutation};
-ghost use Rattle.varisat_proof.specs.promises.Calls.{is_of_bytes};
 ghost use Rattle.varisat_proof.specs.promises.Verified.{sources_of, Verifies, VerifiesMarked, VerifiesBy, FailsCheck, VerifiesDrat, AreGiven, EndsBy, EndsByDrat, PrintsVerdict, GivesUnsatisfiable, verdict_of, verdict_text, verdict_status, fault_status};
 
 use crate::checker::{CheckVerdict, Checker, CheckerError, DratCounts, MarkedReport};
@@ -225,23 +224,6 @@ fn is_refuted_by<A: Allocator + Copy>(given: &Checker<A>, report: &MarkedReport<
     }
 }
 
-/// A wrong line, or bytes that are no lines: the proof is not verified. Any other fault is returned.
-fn is_of_bytes(error: CheckerError) -> Result<bool, CheckerError>
-    ensures wrong { IfOk result (λ verified. (is_of_bytes error ≡ true) × (verified ≡ false)) }
-    ensures fault { IfErr result (λ e. (e ≡ error) × (is_of_bytes error ≡ false)) }
-{
-    match error {
-        CheckerError::CheckFailed { .. }
-        | CheckerError::NoSuchClause { .. }
-        | CheckerError::CoreNotAssumed { .. }
-        | CheckerError::Parse { .. } => Ok(false),
-        CheckerError::Io { .. }
-        | CheckerError::OutOfMemory
-        | CheckerError::Dimacs { .. }
-        | CheckerError::Spent => Err(error),
-    }
-}
-
 /// Whether the marked proof is verified against the text. Two new checkers are lent: one keeps the clauses of the text, of
 /// which it finds an equal one by their literals, and the other checks the proof.
 fn verify_marked_in<A: Allocator + Copy, S: ByteSource, P: ByteSource>(
@@ -268,7 +250,7 @@ fn verify_marked_in<A: Allocator + Copy, S: ByteSource, P: ByteSource>(
     match checker.check_marked(proof) {
         Ok(report) => Ok(is_refuted_by(given, &report)),
         Err(error) => {
-            let verified = is_of_bytes(error)?;
+            let verified = is_verified(Err(error))?;
             Ok(verified)
         }
     }
@@ -322,7 +304,8 @@ fn verify<A: Allocator + Copy, S: ByteSource, P: ByteSource>(
     verified
 }
 
-/// Whether the proof is verified that a check returned this for, or its fault.
+/// Whether the proof is verified that a check returned this for: one with a wrong line, or with bytes that are no lines,
+/// is not. Any other fault is returned.
 fn is_verified(checked: Result<CheckVerdict, CheckerError>) -> Result<bool, CheckerError>
     ensures verdict { IfOk result (λ verified. verdict_of checked ≡ Some verified) }
     ensures fault { IfErr result (λ e. (checked ≡ Err e) × (verdict_of checked ≡ None)) }

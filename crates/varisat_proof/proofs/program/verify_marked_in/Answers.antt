@@ -1,7 +1,7 @@
-use Rattle.std.proofs.Common.{Ok, Err, [], subst, sym}
+use Rattle.std.proofs.Common.{Ok, Err, [], ap, subst}
 use Rattle.varisat_steps.proofs.Broken.{passed-on}
 use Rattle.varisat_proof.specs.promises.Verified.{FailsCheck, sources_of}
-use Rattle.varisat_proof.proofs.VerifiedTexts.{verifies_marked, marked_ok, marked_err, fails_reading, fails_marked}
+use Rattle.varisat_proof.proofs.VerifiedTexts.{verifies_marked, marked_ok, marked_err, fails_reading, fails_marked, error_in, wrong_proof, no_verdict}
 use Rattle.varisat_proof.proofs.program.verify_marked_in.Goals as goal
 
 pub returns-in-Ok-check_marked-clause-verified : goal.returns-in-Ok-check_marked-clause-verified
@@ -19,7 +19,7 @@ returns-in_ok-verified-in-Err-check_marked-clause-verified g c =
     c.check_marked.new.self.clauses c.in_ok-verified-in-Err-check_marked.verified c.requires.new c.in-Ok.ensures
     (marked_err c.args.checker.now c.check_marked.new.self c.in-Err-check_marked.error (g.P.ByteSource.input c.args.proof.now)
     (g.P.ByteSource.input c.check_marked.new.source) c.requires.checker_new c.in-Err-check_marked.ensures.checks)
-    c.in_ok-verified-in-Err-check_marked.ensures.wrong
+    (wrong_proof c.in-Err-check_marked.error c.in_ok-verified-in-Err-check_marked.verified c.in_ok-verified-in-Err-check_marked.ensures.verdict)
 
 pub returns-in-Err-clause-fails : goal.returns-in-Err-clause-fails
 returns-in-Err-clause-fails g c = fails_reading _ _ _ c.args.given.now _ c.in-Err.error c.requires.new c.in-Err.ensures
@@ -31,9 +31,9 @@ returns-in_err-verified-in-Err-check_marked-clause-fails g c =
     (sources_of (g.S.ByteSource.input c.add_dimacs_cnf.new.source) (g.P.ByteSource.input c.check_marked.new.source))) c.from_residual.ensures
     (subst (FailsCheck (sources_of (g.S.ByteSource.input c.args.cnf.now) (g.P.ByteSource.input c.args.proof.now))
     (sources_of (g.S.ByteSource.input c.add_dimacs_cnf.new.source) (g.P.ByteSource.input c.check_marked.new.source)))
-    (sym c.in_err-verified-in-Err-check_marked.ensures.fault.0)
+    (ap error_in c.in_err-verified-in-Err-check_marked.ensures.fault.0)
     (fails_marked _ _ _ _ c.args.given.now c.add_dimacs_cnf.new.self c.in-Err-check_marked.error c.check_marked.new.self.clauses c.requires.new
     c.in-Ok.ensures
     (marked_err c.args.checker.now c.check_marked.new.self c.in-Err-check_marked.error (g.P.ByteSource.input c.args.proof.now)
     (g.P.ByteSource.input c.check_marked.new.source) c.requires.checker_new c.in-Err-check_marked.ensures.checks)
-    c.in_err-verified-in-Err-check_marked.ensures.fault.1))
+    (no_verdict c.in-Err-check_marked.error c.in_err-verified-in-Err-check_marked.ensures.fault.1)))

@@ -20,6 +20,7 @@ ghost use Rattle.varisat_search.specs.TakenOut.{AreImpliedBefore};
 use crate::context::Context;
 use crate::decision::decide_lit;
 use crate::levels::full_restart;
+use crate::literals::copied;
 use std::alloc::{AllocError, Allocator};
 use std::marker::Model;
 use varisat_analysis::failed_core::analyze_assumption_conflict;
@@ -184,15 +185,6 @@ impl<A: Allocator + Copy> Assumptions<A> {
         analyze_assumption_conflict(core, flags, clause_alloc, impl_graph, trail, failed)?;
         Ok(())
     }
-}
-
-/// A copy of the list. Fails where it is out of memory.
-pub fn copied<A: Allocator + Copy>(alloc: A, lits: &[Lit]) -> Result<Vec<Lit, A>, AllocError>
-    ensures { IfOk result (λ copy. copy.items ≡ lits.now) }
-{
-    let mut copy = Vec::new(alloc);
-    copy.extend_from_slice(lits)?;
-    Ok(copy)
 }
 
 /// What comes of the next assumption.

@@ -1,5 +1,5 @@
 //! One step of the search: propagate and decide to a conflict or a model, and learn.
-ghost use Rattle.std.specs.Prelude.{◌≡◌, ◌≢◌, ℕ, ◌+◌, ◌^◌, ◌<◌, ◌≤◌, false, length, [], ◌∷◌, List, Ok, OnOk, IfOk, IfErr, MatchOption, MatchResult};
+ghost use Rattle.std.specs.Prelude.{◌≡◌, ◌≢◌, ℕ, ◌+◌, ◌^◌, ◌<◌, ◌≤◌, false, length, [], ◌∷◌, Ok, OnOk, IfOk, IfErr, MatchResult};
 ghost use Rattle.varisat_theory.specs.promises.Membership.{◌∈◌};
 ghost use Rattle.varisat_theory.specs.promises.Literals.{Literal, opposite};
 ghost use Rattle.varisat_theory.specs.promises.Propagation.{IsComplete};
@@ -31,6 +31,7 @@ use crate::context::Context;
 use crate::decision::make_decision;
 use crate::error::StepError;
 use crate::levels::backtrack;
+use crate::literals::first_of;
 use crate::state::SatState;
 use crate::unit_simplify::{prove_units, unit_simplify};
 use std::alloc::{AllocError, Allocator};
@@ -109,13 +110,6 @@ fn find_conflict<A: Allocator + Copy>(
             Err(found) => return Ok(Err(found)),
         }
     }
-}
-
-/// The clause's first literal.
-pub fn first_of(clause: &[Lit]) -> Option<Lit>
-    ensures { MatchOption result (clause.now ≡ []) (λ l. (others : List ℕ) × (clause.now ≡ l ∷ others)) }
-{
-    clause.first().copied()
 }
 
 /// Keeps the learned clause where it has two literals or more, one of three or more with the header, and watches it.

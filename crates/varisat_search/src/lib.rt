@@ -11,6 +11,7 @@ pub mod decision;
 pub mod error;
 pub mod forgetting;
 pub mod levels;
+pub mod literals;
 pub mod load;
 mod mend;
 pub mod model;

@@ -21,10 +21,10 @@ ghost use Rattle.varisat_steps.specs.Traces.{TakesLines, BreaksOff, faults_of, C
 ghost use Rattle.varisat_search.specs.StepErrors.{RefusesStoring, EndsStep, step_faults};
 ghost use Rattle.varisat_search.specs.Seen.{search_of};
 
-use crate::cdcl::first_of;
 use crate::context::Context;
 use crate::error::StepError;
 use crate::levels::full_restart;
+use crate::literals::first_of;
 use crate::state::SatState;
 use std::alloc::{AllocError, Allocator};
 use varisat_analysis::clause_literals::{collect_flagged, is_satisfied};

@@ -26,9 +26,9 @@ use varisat_proof::checker::Checker;
 pub use varisat_proof::proof::ProofFormat;
 use varisat_proof::proof::{close_proof, solve_finished, take_target};
 use varisat_schedule::counters::Counters;
-use varisat_search::assumptions::copied;
 use varisat_search::context::Context;
 use varisat_search::error::StepError;
+use varisat_search::literals::copied;
 use varisat_search::state::SatState;
 use varisat_tracer::SolverTracer;
 

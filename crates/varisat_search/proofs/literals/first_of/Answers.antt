@@ -1,6 +1,6 @@
 use Rattle.std.proofs.lemmas.Grind.{common_steps}
 use Rattle.std.proofs.Common.{arith}
-use Rattle.varisat_search.proofs.cdcl.first_of.Goals as goal
+use Rattle.varisat_search.proofs.literals.first_of.Goals as goal
 
 pub returns : goal.returns
 returns c = grind (arith, common_steps)

@@ -1,5 +1,5 @@
 -- The conflict of a step, and the reason that its learned clause gives.
-use Rattle.std.specs.Prelude.{◌≡◌, ℕ, ◌<◌, Bool, false, List, [], ◌∷◌, length, Result, MatchBool, MatchResult}
+use Rattle.std.specs.Prelude.{◌≡◌, ℕ, ◌<◌, false, List, [], ◌∷◌, length, Result, MatchResult}
 use Rattle.varisat_theory.specs.promises.Literals.{Literal, Clause}
 use Rattle.varisat_theory.specs.promises.Propagation.{IsComplete}
 use Rattle.varisat_prop.specs.declared.prop.graph.Reason.{Reason}
@@ -15,6 +15,8 @@ use Rattle.varisat_prop.specs.Pairs.{with_pair}
 use Rattle.varisat_prop.specs.Watches.{Watches}
 use Rattle.varisat_prop.specs.Visits.{WatchesClause}
 use Rattle.varisat_search.specs.AssumptionParts.{AssumptionParts, EndsAssumed, HasFailed}
+use Rattle.varisat_search.specs.declared.cdcl.Decision.{Decision}
+use Rattle.varisat_search.specs.declared.cdcl.Decision.TheVariants as decision
 use Rattle.varisat_search.specs.declared.cdcl.FoundConflict.{FoundConflict}
 use Rattle.varisat_search.specs.declared.cdcl.FoundConflict.TheVariants as found
 
@@ -24,11 +26,10 @@ Stops s x (found.Conflict c) = IsConflicting s c
 Stops s x found.Assumption = HasFailed s x
 
 -- What comes of a decision: the trail grows, or nothing is left to decide; or some assumption is false.
-abbrev pub ComesToDecision : View → View → AssumptionParts → Result Bool FoundConflict → Type 0
-ComesToDecision s t x decided =
-    MatchResult decided
-    (λ made. MatchBool made (length s.trail < length t.trail) ((t ≡ s) × EndsAssumed t x))
-    (λ conflict. (conflict ≡ found.Assumption) × HasFailed t x)
+abbrev pub ComesToDecision : View → View → AssumptionParts → Decision → Type 0
+ComesToDecision s t x decision.Made = length s.trail < length t.trail
+ComesToDecision s t x decision.AllAssigned = (t ≡ s) × EndsAssumed t x
+ComesToDecision s t x decision.AssumptionFailed = HasFailed t x
 
 -- Propagation came to its end and nothing is left to decide, or the search for a model stopped.
 abbrev pub EndsOrStops : View → AssumptionParts → Result (Unit {0}) FoundConflict → Type 0

@@ -52,11 +52,19 @@ pub enum FoundConflict {
     Assumption,
 }
 
-/// Decides the next assumption, or another literal once each assumption has a level. Returns false where nothing is
-/// left to decide.
-fn decide<A: Allocator + Copy>(
-    ctx: &mut Context<A>,
-) -> Result<Result<bool, FoundConflict>, AllocError>
+/// What comes of a decision.
+#[derive(Clone, Copy, Debug, PartialEq, Eq)]
+enum Decision {
+    /// A literal was decided.
+    Made,
+    /// Nothing is left to decide.
+    AllAssigned,
+    /// The next assumption is false, and a core was found.
+    AssumptionFailed,
+}
+
+/// Decides the next assumption, or another literal once each assumption has a level.
+fn decide<A: Allocator + Copy>(ctx: &mut Context<A>) -> Result<Decision, AllocError>
     requires ready { IsReady ctx.old }
     requires complete { IsComplete (kept (view ctx.old)) ctx.old.trail.literals }
     requires propagated { IsPropagatedToEnd (view ctx.old) }
@@ -70,11 +78,15 @@ fn decide<A: Allocator + Copy>(
 {
     match enqueue_assumption(ctx)? {
         EnqueueAssumption::Done => {}
-        EnqueueAssumption::Enqueued => return Ok(Ok(true)),
-        EnqueueAssumption::Conflict => return Ok(Err(FoundConflict::Assumption)),
+        EnqueueAssumption::Enqueued => return Ok(Decision::Made),
+        EnqueueAssumption::Conflict => return Ok(Decision::AssumptionFailed),
     }
     let made = make_decision(ctx)?;
-    Ok(Ok(made))
+    Ok(if made {
+        Decision::Made
+    } else {
+        Decision::AllAssigned
+    })
 }
 
 /// Propagates and decides until a clause or an assumption is false, or each variable has a value.
@@ -105,9 +117,9 @@ fn find_conflict<A: Allocator + Copy>(
             return Ok(Err(FoundConflict::Conflict(conflict)));
         }
         match decide(ctx)? {
-            Ok(true) => {}
-            Ok(false) => return Ok(Ok(())),
-            Err(found) => return Ok(Err(found)),
+            Decision::Made => {}
+            Decision::AllAssigned => return Ok(Ok(())),
+            Decision::AssumptionFailed => return Ok(Err(FoundConflict::Assumption)),
         }
     }
 }

@@ -8,20 +8,19 @@ use Rattle.varisat_prop.proofs.trails.EnqueueAssignment.{decided-grows, decided-
 use Rattle.varisat_search.specs.declared.context.Context.{Context}
 use Rattle.varisat_search.specs.AssumptionParts.{AssumptionParts, HasAssumptions, ComesToNext}
 use Rattle.varisat_search.specs.Contexts.{view, KeepsSchedule, IsReady}
-use Rattle.varisat_search.specs.Frames.{ChangesDecided, ChangesDecisions}
+use Rattle.varisat_search.specs.Frames.{ChangesDecided, ChangesDecisions, GoesForward}
 use Rattle.varisat_search.specs.Decisions.{AreDecidable, CanDecide, SameDecidable}
 use Rattle.varisat_search.specs.Steps.{IsFree}
 use Rattle.varisat_search.proofs.assuming.AssumptionLevels.{has-grown}
 use Rattle.varisat_search.proofs.assuming.AssumptionContexts.{still-assumable}
 use Rattle.varisat_search.proofs.stepping.ReadyAfter.{decided-ready, ready-with}
 use Rattle.varisat_search.proofs.stepping.StepOutcome.{decided-longer}
-use Rattle.std.proofs.lemmas.Grind.{common_steps}
 use Rattle.varisat_prop.proofs.views.ViewGrowth.{grows-refl}
 use Rattle.varisat_search.specs.RootSimplified.{FixesNone}
 use Rattle.varisat_search.proofs.stepping.FixedLiterals.{fixed-decided, fixed-still}
 use Rattle.varisat_search.proofs.stepping.Frames.{schedule-through, forward-through, searches-fails}
 use Rattle.varisat_search.proofs.cdcl.decide.Given.{Over}
-use Rattle.varisat_search.proofs.cdcl.decide.Goals.{After-enqueue_assumption}
+use Rattle.varisat_search.proofs.cdcl.decide.Goals.{After-enqueue_assumption, In_ok-made}
 use Rattle.varisat_search.proofs.cdcl.decide.Goals as goal
 
 -- A search in which a literal is decided, or none is left to decide.
@@ -93,8 +92,9 @@ returns-in-Conflict-clause-fixed g c =
     let n = subst (ComesToNext s (view x) x.assumptions) c.in-Conflict.is c.in_ok-enqueue_assumption.ensures.next in
     subst (FixesNone s) (sym n.0) (fixed-still s c.requires.propagated)
 
-pub returns-clause-ready : goal.returns-clause-ready
-returns-clause-ready g c =
+-- what the choice of a literal leaves, whether there was one or none
+ready : (g : Over) (c : In_ok-made g) → IsReady c.make_decision.new.ctx
+ready g c =
     let s = view c.args.ctx.now in
     let x = c.enqueue_assumption.new.ctx in
     let z = c.make_decision.new.ctx in
@@ -106,8 +106,14 @@ returns-clause-ready g c =
     (subst (λ (t : View). t.queue_head ≡ length t.trail) (sym n.0) c.requires.propagated) p.0 p.1 p.2)
     (λ p. end-ready x z r n.1 m.frame m.decidable m.forward.decidable p.0)
 
-pub returns-clause-grows : goal.returns-clause-grows
-returns-clause-grows g c =
+pub returns-then-made-clause-ready : goal.returns-then-made-clause-ready
+returns-then-made-clause-ready g c = ready g (goal.at.returns-then-made-clause-ready g c).In_ok-made
+
+pub returns-else-made-clause-ready : goal.returns-else-made-clause-ready
+returns-else-made-clause-ready g c = ready g (goal.at.returns-else-made-clause-ready g c).In_ok-made
+
+grows : (g : Over) (c : In_ok-made g) → GrowsTrail (view c.args.ctx.now) (view c.make_decision.new.ctx)
+grows g c =
     let x = c.enqueue_assumption.new.ctx in
     let z = c.make_decision.new.ctx in
     let n = subst (ComesToNext (view c.args.ctx.now) (view x) x.assumptions) c.in-Done.is c.in_ok-enqueue_assumption.ensures.next in
@@ -115,8 +121,14 @@ returns-clause-grows g c =
     (λ p. subst (λ (t : View). GrowsTrail t (view z)) n.0 (literal-grows (view x) (view z) c.in_ok-enqueue_assumption.ensures.ready.well p.0 p.1 p.2))
     (λ p. subst (GrowsTrail (view c.args.ctx.now)) (sym (ap (λ (y : Context g.row.A.Denot). view y) p.0 ∙ n.0)) (grows-refl (view c.args.ctx.now)))
 
-pub returns-clause-fixed : goal.returns-clause-fixed
-returns-clause-fixed g c =
+pub returns-then-made-clause-grows : goal.returns-then-made-clause-grows
+returns-then-made-clause-grows g c = grows g (goal.at.returns-then-made-clause-grows g c).In_ok-made
+
+pub returns-else-made-clause-grows : goal.returns-else-made-clause-grows
+returns-else-made-clause-grows g c = grows g (goal.at.returns-else-made-clause-grows g c).In_ok-made
+
+fixed : (g : Over) (c : In_ok-made g) → FixesNone (view c.args.ctx.now) (view c.make_decision.new.ctx)
+fixed g c =
     let s = view c.args.ctx.now in
     let x = c.enqueue_assumption.new.ctx in
     let z = c.make_decision.new.ctx in
@@ -126,8 +138,11 @@ returns-clause-fixed g c =
     (subst (FixesNone (view x)) (sym p.2) (fixed-decided (view x) p.0 c.in_ok-enqueue_assumption.ensures.ready.well)))
     (λ p. subst (FixesNone s) (sym (ap (λ (y : Context g.row.A.Denot). view y) p.0 ∙ n.0)) (fixed-still s c.requires.propagated))
 
-pub returns-clause-decided : goal.returns-clause-decided
-returns-clause-decided g c = grind (arith, common_steps)
+pub returns-then-made-clause-fixed : goal.returns-then-made-clause-fixed
+returns-then-made-clause-fixed g c = fixed g (goal.at.returns-then-made-clause-fixed g c).In_ok-made
+
+pub returns-else-made-clause-fixed : goal.returns-else-made-clause-fixed
+returns-else-made-clause-fixed g c = fixed g (goal.at.returns-else-made-clause-fixed g c).In_ok-made
 
 -- the schedule stays
 planned : (g : Over) (c : After-enqueue_assumption g) → KeepsSchedule c.args.ctx.now c.enqueue_assumption.new.ctx
@@ -156,9 +171,19 @@ returns-in_err-made-clause-goes g c =
     (schedule-through (planned g (goal.at.returns-in_err-made-clause-goes g c).After-enqueue_assumption)
     (subst (KeepsSchedule c.enqueue_assumption.new.ctx) (sym c.make_decision.ensures.frame) (record { schedule = refl; solver_config = refl })))
 
-pub returns-clause-goes : goal.returns-clause-goes
-returns-clause-goes g c = record {
-  forward = forward-through c.in_ok-enqueue_assumption.ensures.forward c.in_ok-made.ensures.forward;
-  schedule = schedule-through (planned g (goal.at.returns-clause-goes g c).After-enqueue_assumption)
+forward : (g : Over) (c : In_ok-made g) → GoesForward c.args.ctx.now c.make_decision.new.ctx
+forward g c = forward-through c.in_ok-enqueue_assumption.ensures.forward c.in_ok-made.ensures.forward
+
+pub returns-then-made-clause-goes : goal.returns-then-made-clause-goes
+returns-then-made-clause-goes g c = record {
+  forward = forward g (goal.at.returns-then-made-clause-goes g c).In_ok-made;
+  schedule = schedule-through (planned g (goal.at.returns-then-made-clause-goes g c).After-enqueue_assumption)
+      (subst (KeepsSchedule c.enqueue_assumption.new.ctx) (sym c.make_decision.ensures.frame) (record { schedule = refl; solver_config = refl }));
+}
+
+pub returns-else-made-clause-goes : goal.returns-else-made-clause-goes
+returns-else-made-clause-goes g c = record {
+  forward = forward g (goal.at.returns-else-made-clause-goes g c).In_ok-made;
+  schedule = schedule-through (planned g (goal.at.returns-else-made-clause-goes g c).After-enqueue_assumption)
       (subst (KeepsSchedule c.enqueue_assumption.new.ctx) (sym c.make_decision.ensures.frame) (record { schedule = refl; solver_config = refl }));
 }

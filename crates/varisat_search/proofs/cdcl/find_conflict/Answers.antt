@@ -105,55 +105,54 @@ levels-init g c = record {
   schedule = schedule-nothing c.args.ctx.now;
 }
 
-pub returns-in-Ok-false-clause-grows : goal.returns-in-Ok-false-clause-grows
-returns-in-Ok-false-clause-grows g c =
-    let here = (goal.at.returns-in-Ok-false-clause-grows g c).After-count in
+pub returns-in-AllAssigned-clause-grows : goal.returns-in-AllAssigned-clause-grows
+returns-in-AllAssigned-clause-grows g c =
+    let here = (goal.at.returns-in-AllAssigned-clause-grows g c).After-count in
     grows-trans (view c.args.ctx.now) (view (mid g here)) (view c.decide.new.ctx) (grown g here) c.in_ok-decide.ensures.grows
 
-pub returns-in-Ok-false-clause-fixed : goal.returns-in-Ok-false-clause-fixed
-returns-in-Ok-false-clause-fixed g c calm =
-    let here = (goal.at.returns-in-Ok-false-clause-fixed g c).After-count in
+pub returns-in-AllAssigned-clause-fixed : goal.returns-in-AllAssigned-clause-fixed
+returns-in-AllAssigned-clause-fixed g c calm =
+    let here = (goal.at.returns-in-AllAssigned-clause-fixed g c).After-count in
     fixes-through (view c.args.ctx.now) (view (mid g here)) (view c.decide.new.ctx) (fixed g here calm) c.in_ok-decide.ensures.fixed
 
-pub returns-in-Ok-false-clause-taken : goal.returns-in-Ok-false-clause-taken
-returns-in-Ok-false-clause-taken g c =
-    let here = (goal.at.returns-in-Ok-false-clause-taken g c).After-count in
+pub returns-in-AllAssigned-clause-taken : goal.returns-in-AllAssigned-clause-taken
+returns-in-AllAssigned-clause-taken g c =
+    let here = (goal.at.returns-in-AllAssigned-clause-taken g c).After-count in
     takes-trans (view c.args.ctx.now) (view (mid g here)) c.args.ctx.now.assumptions c.levels.ctx.assumptions c.decide.new.ctx.assumptions
     (grown g here) c.levels.invariant.taken c.in_ok-decide.ensures.taken
 
-pub returns-in-Ok-false-clause-goes : goal.returns-in-Ok-false-clause-goes
-returns-in-Ok-false-clause-goes g c =
-    let here = (goal.at.returns-in-Ok-false-clause-goes g c).After-count in
+pub returns-in-AllAssigned-clause-goes : goal.returns-in-AllAssigned-clause-goes
+returns-in-AllAssigned-clause-goes g c =
+    let here = (goal.at.returns-in-AllAssigned-clause-goes g c).After-count in
     let e = c.in_ok-decide.ensures.goes in
     record { forward = forward-through (forward g here) e.forward; schedule = schedule-through (planned g here) e.schedule }
 
-pub returns-in-Err-2-clause-grows : goal.returns-in-Err-2-clause-grows
-returns-in-Err-2-clause-grows g c =
-    let here = (goal.at.returns-in-Err-2-clause-grows g c).After-count in
+pub returns-in-AssumptionFailed-clause-grows : goal.returns-in-AssumptionFailed-clause-grows
+returns-in-AssumptionFailed-clause-grows g c =
+    let here = (goal.at.returns-in-AssumptionFailed-clause-grows g c).After-count in
     grows-trans (view c.args.ctx.now) (view (mid g here)) (view c.decide.new.ctx) (grown g here) c.in_ok-decide.ensures.grows
 
-pub returns-in-Err-2-clause-fixed : goal.returns-in-Err-2-clause-fixed
-returns-in-Err-2-clause-fixed g c calm =
-    let here = (goal.at.returns-in-Err-2-clause-fixed g c).After-count in
+pub returns-in-AssumptionFailed-clause-fixed : goal.returns-in-AssumptionFailed-clause-fixed
+returns-in-AssumptionFailed-clause-fixed g c calm =
+    let here = (goal.at.returns-in-AssumptionFailed-clause-fixed g c).After-count in
     fixes-through (view c.args.ctx.now) (view (mid g here)) (view c.decide.new.ctx) (fixed g here calm) c.in_ok-decide.ensures.fixed
 
-pub returns-in-Err-2-clause-taken : goal.returns-in-Err-2-clause-taken
-returns-in-Err-2-clause-taken g c =
-    let here = (goal.at.returns-in-Err-2-clause-taken g c).After-count in
+pub returns-in-AssumptionFailed-clause-taken : goal.returns-in-AssumptionFailed-clause-taken
+returns-in-AssumptionFailed-clause-taken g c =
+    let here = (goal.at.returns-in-AssumptionFailed-clause-taken g c).After-count in
     takes-trans (view c.args.ctx.now) (view (mid g here)) c.args.ctx.now.assumptions c.levels.ctx.assumptions c.decide.new.ctx.assumptions
     (grown g here) c.levels.invariant.taken c.in_ok-decide.ensures.taken
 
-pub returns-in-Err-2-clause-goes : goal.returns-in-Err-2-clause-goes
-returns-in-Err-2-clause-goes g c =
-    let here = (goal.at.returns-in-Err-2-clause-goes g c).After-count in
+pub returns-in-AssumptionFailed-clause-goes : goal.returns-in-AssumptionFailed-clause-goes
+returns-in-AssumptionFailed-clause-goes g c =
+    let here = (goal.at.returns-in-AssumptionFailed-clause-goes g c).After-count in
     let e = c.in_ok-decide.ensures.goes in
     record { forward = forward-through (forward g here) e.forward; schedule = schedule-through (planned g here) e.schedule }
 
 pub levels-smaller : goal.levels-smaller
 levels-smaller g c =
     let here = (goal.at.levels-smaller g c).After-count in
-    let d = rw c.in-Ok-true.is at c.in_ok-decide.ensures.decided in
-    let n = rw c.in-Ok-true.field-0-test at d in
+    let n = rw c.in-Made.is at c.in_ok-decide.ensures.decided in
     let p = propagated g here in
     let short = trail-short (view c.decide.new.ctx) c.in_ok-decide.ensures.ready.well in
     let m = grows-longer (view c.levels.ctx) (view (mid g here)) p.grows in

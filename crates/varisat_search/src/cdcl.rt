@@ -9,9 +9,11 @@ ghost use Rattle.varisat_clause.specs.Tiers.{is_tier};
 ghost use Rattle.varisat_clause.specs.Databases.{Tracks};
 ghost use Rattle.varisat_prop.specs.View.{View, kept, GrowsTrail};
 ghost use Rattle.varisat_prop.specs.Changes.{IsConflicting};
+ghost use Rattle.varisat_prop.specs.Looks.{Propagates};
+ghost use Rattle.varisat_prop.specs.QueueSteps.{EndsPropagation, IsFullyPropagated};
 ghost use Rattle.varisat_analysis.specs.Learned.{IsLearned, AreInvolved};
 ghost use Rattle.varisat_search.specs.Contexts.{view, IsNotUnsat, IsReady};
-ghost use Rattle.varisat_search.specs.Frames.{ChangesAnalysis, ChangesClauses, ChangesRootSimplified, SearchesOn};
+ghost use Rattle.varisat_search.specs.Frames.{ChangesAnalysis, ChangesClauses, ChangesPropagated, ChangesRootSimplified, SearchesOn};
 ghost use Rattle.varisat_search.specs.Steps.{IsPropagatedToEnd, SavesSome};
 ghost use Rattle.varisat_search.specs.Seen.{search_of};
 ghost use Rattle.varisat_theory.specs.promises.Journals.{Fails};
@@ -50,6 +52,31 @@ pub enum FoundConflict {
     Conflict(Conflict),
     /// An assumption is false, and a core was found.
     Assumption,
+}
+
+/// Propagates, and counts the literals that were propagated.
+fn propagate_counted<A: Allocator + Copy>(
+    ctx: &mut Context<A>,
+) -> Result<Result<(), Conflict>, AllocError>
+    requires { IsReady ctx.old }
+    ensures ready { OnOk result (IsReady ctx.new) }
+    ensures propagates { OnOk result (Propagates (view ctx.old) (view ctx.new)) }
+    ensures ends { IfOk result (EndsPropagation IsFullyPropagated (view ctx.new)) }
+    ensures last { OnOk result (ctx.new.assignment.last ≡ ctx.old.assignment.last) }
+    ensures frame { ChangesPropagated ctx.old ctx.new }
+{
+    let before = ctx.trail.propagated_count();
+    let propagated = propagate(
+        &mut ctx.assignment,
+        &mut ctx.clause_alloc,
+        &mut ctx.impl_graph,
+        &mut ctx.trail,
+        &ctx.binary_clauses,
+        &mut ctx.watchlists,
+    )?;
+    let taken = ctx.trail.propagated_count().saturating_sub(before);
+    count(&mut ctx.counters.propagations, taken as u64);
+    Ok(propagated)
 }
 
 /// What comes of a decision.
@@ -102,17 +129,7 @@ fn find_conflict<A: Allocator + Copy>(
     ensures goes { SearchesOn result ctx.old ctx.new }
 {
     'levels: loop {
-        let before = ctx.trail.propagated_count();
-        let propagated = propagate(
-            &mut ctx.assignment,
-            &mut ctx.clause_alloc,
-            &mut ctx.impl_graph,
-            &mut ctx.trail,
-            &ctx.binary_clauses,
-            &mut ctx.watchlists,
-        )?;
-        let taken = ctx.trail.propagated_count().saturating_sub(before);
-        count(&mut ctx.counters.propagations, taken as u64);
+        let propagated = propagate_counted(ctx)?;
         if let Err(conflict) = propagated {
             return Ok(Err(FoundConflict::Conflict(conflict)));
         }
@@ -277,17 +294,7 @@ pub fn simplify_root<A: Allocator + Copy, P: ProofTracer>(
     ensures frame { ChangesRootSimplified ctx.old ctx.new }
     ensures broken { IfErr result (λ error. BreaksOff P.breaks_off proof.old (faults_of error) proof.new) }
 {
-    let before = ctx.trail.propagated_count();
-    let propagated = propagate(
-        &mut ctx.assignment,
-        &mut ctx.clause_alloc,
-        &mut ctx.impl_graph,
-        &mut ctx.trail,
-        &ctx.binary_clauses,
-        &mut ctx.watchlists,
-    )?;
-    let taken = ctx.trail.propagated_count().saturating_sub(before);
-    count(&mut ctx.counters.propagations, taken as u64);
+    let propagated = propagate_counted(ctx)?;
     prove_units(ctx, proof)?;
     if let Err(conflict) = propagated {
         return Ok(Err(conflict));

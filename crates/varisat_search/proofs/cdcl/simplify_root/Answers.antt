@@ -17,33 +17,24 @@ use Rattle.varisat_steps.specs.Traces.{TakesLines, AdmitsFor}
 use Rattle.varisat_steps.proofs.Traced.{lines-more, holds_on, holds_still}
 use Rattle.varisat_search.proofs.stepping.StepWithoutLines.{grows_prove}
 use Rattle.varisat_search.proofs.stepping.FixedLiterals.{none-was-conflicting}
-use Rattle.varisat_search.proofs.stepping.PropagatedContext.{propagated-ready}
 use Rattle.varisat_search.proofs.simplifying.ProvedUnits.{units-all}
 use Rattle.varisat_search.proofs.simplifying.RootSimplified.{ProvedAfter, goes-trans, goes-simplified, goes-to-units, simplifies_root-to-units, still-conflicting, settled-down}
 use Rattle.varisat_search.proofs.cdcl.simplify_root.Given.{Over}
-use Rattle.varisat_search.proofs.cdcl.simplify_root.Goals.{After-count}
+use Rattle.varisat_search.proofs.cdcl.simplify_root.Goals.{In_ok-propagated}
 use Rattle.varisat_search.proofs.cdcl.simplify_root.Goals as goal
 
 -- the context after propagation
-abbrev mid : (g : Over) (c : After-count g) → Context g.row.A.Denot
-mid g c = record c.args.ctx.now {
-  assignment = c.propagate.new.assignment;
-  clause_alloc = c.propagate.new.alloc;
-  counters = record c.args.ctx.now.counters { propagations = c.count.new.counter };
-  impl_graph = c.propagate.new.graph;
-  trail =
-      c.propagate.new.trail;
-  watchlists = c.propagate.new.watchlists;
-}
+abbrev mid : (g : Over) (c : In_ok-propagated g) → Context g.row.A.Denot
+mid g c = c.propagate_counted.new.ctx
 
-ready : (g : Over) (c : After-count g) → IsReady (mid g c)
-ready g c = let e = c.in_ok-propagated.ensures in propagated-ready c.args.ctx.now (mid g c) c.requires.ready e.propagates e.propagated e.store refl
+ready : (g : Over) (c : In_ok-propagated g) → IsReady (mid g c)
+ready g c = c.in_ok-propagated.ensures.ready
 
-none : (g : Over) (c : After-count g) → (mid g c).trail.decisions ≡ []
+none : (g : Over) (c : In_ok-propagated g) → (mid g c).trail.decisions ≡ []
 none g c = c.in_ok-propagated.ensures.propagates.decisions ∙ c.requires.undecided
 
 -- once the units are proved
-facts : (g : Over) (h : After-count g) (p : Context g.row.A.Denot) → IsReady p →
+facts : (g : Over) (h : In_ok-propagated g) (p : Context g.row.A.Denot) → IsReady p →
     ((mid g h).trail.decisions ≡ [] → ProvesUnits (view (mid g h)) (view p)) →
     ((mid g h).trail.decisions ≡ [] → Proves 0 (search_of (view (mid g h))) (search_of (view p))
     (unit_lines (implied_units (view (mid g h))))) → p ≡ record (mid g h) { impl_graph = p.impl_graph } → ProvedAfter h.args.ctx.now (mid g h) p
@@ -55,7 +46,7 @@ facts g h p r f l k =
       none = none g h;
       propagates = e.propagates;
       last = e.last;
-      kept = refl;
+      kept = h.propagate_counted.ensures.frame;
       end_ready = r;
       proved = f (none g h);
       proves = l (none g h);
@@ -63,21 +54,18 @@ facts g h p r f l k =
     }
 
 -- what the tracer may hold fits the search after propagation
-holds : (g : Over) (c : After-count g) → AdmitsFor (g.P.ProofTracer.holds c.args.proof.now) (search_of (view (mid g c)))
+holds : (g : Over) (c : In_ok-propagated g) → AdmitsFor (g.P.ProofTracer.holds c.args.proof.now) (search_of (view (mid g c)))
 holds g c =
     let x = c.args.ctx.now in
     holds_still (g.P.ProofTracer.holds c.args.proof.now) 0 (search_of (view x)) (search_of (view (mid g c))) c.requires.holds
     (grows_prove (view x) (view (mid g c)) c.requires.ready.well (ready g c).well c.in_ok-propagated.ensures.propagates.grows)
 
-pub prove_units-requires-clause-ready : goal.prove_units-requires-clause-ready
-prove_units-requires-clause-ready g c = ready g (goal.at.prove_units-requires-clause-ready g c).After-count
-
 pub prove_units-requires-clause-holds : goal.prove_units-requires-clause-holds
-prove_units-requires-clause-holds g c = holds g (goal.at.prove_units-requires-clause-holds g c).After-count
+prove_units-requires-clause-holds g c = holds g (goal.at.prove_units-requires-clause-holds g c).In_ok-propagated
 
 pub unit_simplify-requires-clause-holds : goal.unit_simplify-requires-clause-holds
 unit_simplify-requires-clause-holds g c =
-    let h = (goal.at.unit_simplify-requires-clause-holds g c).After-count in
+    let h = (goal.at.unit_simplify-requires-clause-holds g c).In_ok-propagated in
     let p = c.in_ok-prove_units.ensures in
     let m = mid g h in
     holds_on g.P.ProofTracer.holds g.P.ProofTracer.takes g.met.P.ProofTracer.holds_after c.args.proof.now c.prove_units.new.proof 0
@@ -86,7 +74,7 @@ unit_simplify-requires-clause-holds g c =
 
 pub unit_simplify-requires-clause-can : goal.unit_simplify-requires-clause-can
 unit_simplify-requires-clause-can g c =
-    let h = (goal.at.unit_simplify-requires-clause-can g c).After-count in
+    let h = (goal.at.unit_simplify-requires-clause-can g c).In_ok-propagated in
     let m = mid g h in
     let y = c.prove_units.new.ctx in
     let p = c.in_ok-prove_units.ensures in
@@ -103,7 +91,7 @@ unit_simplify-requires-clause-can g c =
 
 pub returns-in-Err-clause-goes_on : goal.returns-in-Err-clause-goes_on
 returns-in-Err-clause-goes_on g c =
-    let h = (goal.at.returns-in-Err-clause-goes_on g c).After-count in
+    let h = (goal.at.returns-in-Err-clause-goes_on g c).In_ok-propagated in
     let m = mid g h in
     let p = c.in_ok-prove_units.ensures in
     let t = view c.prove_units.new.ctx in
@@ -120,7 +108,7 @@ returns-in-Err-clause-goes_on g c =
 
 pub returns-in-Err-clause-conflict : goal.returns-in-Err-clause-conflict
 returns-in-Err-clause-conflict g c =
-    let h = (goal.at.returns-in-Err-clause-conflict g c).After-count in
+    let h = (goal.at.returns-in-Err-clause-conflict g c).In_ok-propagated in
     let m = mid g h in
     let t = view c.prove_units.new.ctx in
     let ends = subst (λ r. MatchResult r (λ _. IsComplete (kept (view m)) m.trail.literals × (m.trail.queue_head ≡ length m.trail.literals))
@@ -132,7 +120,7 @@ returns-in-Err-clause-finds g c f k e = absurd cc
 
 pub returns-clause-finds : goal.returns-clause-finds
 returns-clause-finds g c f k e =
-    let h = (goal.at.returns-clause-finds g c).After-count in
+    let h = (goal.at.returns-clause-finds g c).In_ok-propagated in
     let m = mid g h in
     let ends = subst (λ r. MatchResult r (λ _. IsComplete (kept (view m)) m.trail.literals × (m.trail.queue_head ≡ length m.trail.literals))
     (λ f. IsConflicting (view m) f)) c.in_default.is c.in_ok-propagated.ensures.ends in
@@ -140,18 +128,18 @@ returns-clause-finds g c f k e =
 
 pub returns-in-Err-clause-at_zero : goal.returns-in-Err-clause-at_zero
 returns-in-Err-clause-at_zero g c =
-    let h = (goal.at.returns-in-Err-clause-at_zero g c).After-count in
+    let h = (goal.at.returns-in-Err-clause-at_zero g c).In_ok-propagated in
     ap (λ (z : Context g.row.A.Denot). z.trail.decisions) c.prove_units.ensures.frame ∙ none g h
 
 pub returns-clause-at_zero : goal.returns-clause-at_zero
 returns-clause-at_zero g c =
-    let h = (goal.at.returns-clause-at_zero g c).After-count in
+    let h = (goal.at.returns-clause-at_zero g c).In_ok-propagated in
     ap (λ (z : Context g.row.A.Denot). z.trail.decisions) c.unit_simplify.ensures.frame
     ∙ ap (λ (z : Context g.row.A.Denot). z.trail.decisions) c.prove_units.ensures.frame ∙ none g h
 
 pub returns-clause-goes_on : goal.returns-clause-goes_on
 returns-clause-goes_on g c =
-    let h = (goal.at.returns-clause-goes_on g c).After-count in
+    let h = (goal.at.returns-clause-goes_on g c).In_ok-propagated in
     let x = c.args.ctx.now in
     let m = mid g h in
     let y = c.prove_units.new.ctx in
@@ -179,7 +167,7 @@ returns-clause-goes_on g c =
 
 pub returns-clause-settled : goal.returns-clause-settled
 returns-clause-settled g c =
-    let h = (goal.at.returns-clause-settled g c).After-count in
+    let h = (goal.at.returns-clause-settled g c).In_ok-propagated in
     let m = mid g h in
     let p = c.in_ok-prove_units.ensures in
     let ends = subst (λ r. MatchResult r (λ _. IsComplete (kept (view m)) m.trail.literals × (m.trail.queue_head ≡ length m.trail.literals))
@@ -204,7 +192,7 @@ returns-in_err-prove_units-clause-broken g c =
 
 pub returns-in_err-unit_simplify-clause-broken : goal.returns-in_err-unit_simplify-clause-broken
 returns-in_err-unit_simplify-clause-broken g c =
-    let h = (goal.at.returns-in_err-unit_simplify-clause-broken g c).After-count in
+    let h = (goal.at.returns-in_err-unit_simplify-clause-broken g c).In_ok-propagated in
     error-broken g.P.ProofTracer.breaks_off c.args.proof.now c.unit_simplify.new.proof c.from_residual-in_err-unit_simplify.result
     c.in_err-unit_simplify.field-0.0 c.from_residual-in_err-unit_simplify.ensures
     (breaks-on g.P.ProofTracer.takes g.P.ProofTracer.breaks_off g.met.P.ProofTracer.breaks_behind

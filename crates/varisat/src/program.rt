@@ -18,7 +18,7 @@ use std::io::{self, BufRead, BufReader, Empty, Read, Write};
 use varisat_formula::io::{ByteSource, MemoryTarget, ProofTarget, ReadSource};
 use varisat_literals::Lit;
 use varisat_proof::program::print_text;
-pub use varisat_proof::program::{STATUS_FAULT, check_drat_lines, check_lines};
+pub use varisat_proof::program::{STATUS_FAULT, check_drat_lines, check_lines, print_fault};
 use varisat_solver::solver::{Solver, SolverError};
 
 /// The status of a command that came to its end.
@@ -134,15 +134,6 @@ fn put_literal<T: ProofTarget>(out: &mut T, buffer: &mut Buffer, literal: Lit) -
 {
     out.put(b" ")?;
     out.put(buffer.format(literal.to_dimacs()).as_bytes())
-}
-
-/// Tells a fault, and returns the status for it.
-pub fn print_fault<E: Write, F: Display>(err: &mut E, fault: &F) -> u8
-    ensures { result ≡ fault_status }
-{
-    // A writer that fails here leaves nothing to report.
-    let _ = writeln!(err, "error: {fault}");
-    STATUS_FAULT
 }
 
 /// Tells how the program is called, and returns the status for a bad command line.

@@ -389,7 +389,7 @@ pub fn print_text<T: ProofTarget>(target: &mut T, text: &[u8]) -> io::Result<()>
 }
 
 /// Prints a fault, and returns the status for it.
-fn print_fault<E: Write, F: Display>(err: &mut E, fault: &F) -> u8
+pub fn print_fault<E: Write, F: Display>(err: &mut E, fault: &F) -> u8
     ensures { result ≡ fault_status }
 {
     // Where this writer fails too, nothing is left to print to.

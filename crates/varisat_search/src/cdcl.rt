@@ -1,5 +1,5 @@
 //! One step of the search: propagate and decide to a conflict or a model, and learn.
-ghost use Rattle.std.specs.Prelude.{◌≡◌, ◌≢◌, ℕ, ◌+◌, ◌^◌, ◌<◌, ◌≤◌, false, length, [], ◌∷◌, Ok, OnOk, IfOk, IfErr, MatchResult};
+ghost use Rattle.std.specs.Prelude.{◌≡◌, ◌≢◌, ℕ, ◌+◌, ◌^◌, ◌<◌, ◌≤◌, false, length, [], ◌∷◌, Ok, OnOk, IfOk, IfErr, IsTrue, ◌↔◌, MatchResult};
 ghost use Rattle.varisat_theory.specs.promises.Membership.{◌∈◌};
 ghost use Rattle.varisat_theory.specs.promises.Literals.{Literal, opposite};
 ghost use Rattle.varisat_theory.specs.promises.Propagation.{IsComplete};
@@ -303,6 +303,14 @@ pub fn simplify_root<A: Allocator + Copy, P: ProofTracer>(
     Ok(Ok(()))
 }
 
+/// Whether at level 0 literals are still to be propagated.
+pub fn has_root_news<A: Allocator + Copy>(ctx: &Context<A>) -> bool
+    requires { IsReady ctx.now }
+    ensures { IsTrue result ↔ HasRootNews (view ctx.now) }
+{
+    ctx.trail.current_level() == 0 && !ctx.trail.fully_propagated()
+}
+
 /// Settles the units of level 0, as `simplify_root`. Nothing happens at another level, nor where nothing is left to be
 /// propagated.
 fn simplify_root_if_news<A: Allocator + Copy, P: ProofTracer>(
@@ -322,7 +330,7 @@ fn simplify_root_if_news<A: Allocator + Copy, P: ProofTracer>(
     ensures frame { ChangesRootSimplified ctx.old ctx.new }
     ensures broken { IfErr result (λ error. BreaksOff P.breaks_off proof.old (faults_of error) proof.new) }
 {
-    if ctx.trail.current_level() > 0 || ctx.trail.fully_propagated() {
+    if !has_root_news(ctx) {
         return Ok(Ok(()));
     }
     let end = simplify_root(ctx, proof)?;

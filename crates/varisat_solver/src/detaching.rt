@@ -21,7 +21,7 @@ use std::alloc::{AllocError, Allocator};
 use varisat_formula::io::ProofTarget;
 use varisat_literals::{Lit, Var};
 use varisat_names::variables::LinkedVariables;
-use varisat_search::cdcl::simplify_root;
+use varisat_search::cdcl::{has_root_news, simplify_root};
 use varisat_search::context::Context;
 use varisat_search::error::StepError;
 use varisat_search::forgetting::{detach_variables, flag_mentioned};
@@ -267,7 +267,7 @@ pub fn detach_fixed<W: ProofTarget, A: Allocator + Copy>(
     ensures broken { IfErr result (λ error. BreaksProof tracer.old.proof (step_faults error) tracer.new.proof) }
     ensures full { IfErr result (λ error. error ≢ StepError.Full) }
 {
-    if ctx.trail.current_level() > 0 || ctx.trail.fully_propagated() {
+    if !has_root_news(ctx) {
         return Ok(());
     }
     let settled = match simplify_root(ctx, tracer) {

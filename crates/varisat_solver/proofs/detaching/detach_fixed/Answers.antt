@@ -18,7 +18,7 @@ use Rattle.varisat_solver.proofs.steps.RootSimplifiedParts.{settled-parts}
 use Rattle.varisat_solver.specs.promises.Summaries.{undecided_spaces, IsValidSolver}
 use Rattle.varisat_solver.proofs.steps.SearchVerdicts.{kept-on}
 use Rattle.varisat_solver.proofs.detaching.detach_fixed.Given.{Over}
-use Rattle.varisat_solver.proofs.detaching.detach_fixed.Goals.{In-Ok, In_ok-detach_unneeded, then-current_level-gt0-via-then-current_level-gt0, then-current_level-gt0-via-else-current_level-gt0+then-fully_propagated}
+use Rattle.varisat_solver.proofs.detaching.detach_fixed.Goals.{In-Ok, In_ok-detach_unneeded}
 use Rattle.varisat_search.specs.declared.context.Context.{Context}
 use Rattle.varisat_search.specs.Contexts.{view}
 use Rattle.varisat_solver.proofs.entries.CheckedHeld.{relied}
@@ -76,14 +76,10 @@ pub returns-clause-count : goal.returns-clause-count
 returns-clause-count g c =
     (c.in_ok-detach_unneeded.ensures {u = tt}).leave.count ∙ (c.in_ok-detach_listed.ensures {u = tt}).leave.count ∙ (c.in-Ok.ensures {u = tt}).goes_on.extends.count
 
-pub returns-then-current_level-gt0-clause-leaves : goal.returns-then-current_level-gt0-clause-leaves
-returns-then-current_level-gt0-clause-leaves g c h =
+pub returns-then-not-has_root_news-clause-leaves : goal.returns-then-not-has_root_news-clause-leaves
+returns-then-not-has_root_news-clause-leaves g c h =
     let calm : HasRootNews (view c.args.ctx.now) → ⊥ = λ u.
-    elim c.then-current_level-gt0.branch [
-      | then-current_level-gt0-via-then-current_level-gt0 w ↦ (let n = ap length u.0 in omega (arith, n, c.current_level.ensures, w.if-current_level-gt0.true))
-      | then-current_level-gt0-via-else-current_level-gt0+then-fully_propagated w ↦
-          (let n = w.fully_propagated.ensures.0 w.if-fully_propagated.true in omega (arith, n, u.1))
-    ] in
+    let b = c.has_root_news.ensures.1 u in let n = c.if-not-has_root_news.true in absurd cc in
     ⊎_elim (λ n. inl (n, calm)) (λ u. absurd (calm u)) h
 
 pub returns-then-is_err-clause-leaves : goal.returns-then-is_err-clause-leaves
@@ -105,8 +101,8 @@ returns-clause-leaves g c h =
       λ u. let head = d.propagated in let low = u.1 in omega (arith, head, low),
     )
 
-pub returns-then-current_level-gt0-clause-logged : goal.returns-then-current_level-gt0-clause-logged
-returns-then-current_level-gt0-clause-logged g c = some-none c.args.tracer.now.proof
+pub returns-then-not-has_root_news-clause-logged : goal.returns-then-not-has_root_news-clause-logged
+returns-then-not-has_root_news-clause-logged g c = some-none c.args.tracer.now.proof
 
 pub returns-then-is_err-clause-logged : goal.returns-then-is_err-clause-logged
 returns-then-is_err-clause-logged g c = settled-logged g (goal.at.returns-then-is_err-clause-logged g c).In-Ok
@@ -121,8 +117,8 @@ returns-clause-logs g c =
     let (given, logged) = returns-clause-logged g c in
     logs-logged c.args.tracer.now.proof c.detach_unneeded.new.tracer.proof given logged c.requires.logs
 
-pub returns-then-current_level-gt0-clause-stands : goal.returns-then-current_level-gt0-clause-stands
-returns-then-current_level-gt0-clause-stands g c at s fit = comes-nowhere at 0 s c.args.tracer.now.proof _ refl
+pub returns-then-not-has_root_news-clause-stands : goal.returns-then-not-has_root_news-clause-stands
+returns-then-not-has_root_news-clause-stands g c at s fit = comes-nowhere at 0 s c.args.tracer.now.proof _ refl
     (unknown-undecided c.args.tracer.now.tables c.args.tracer.now.proof.checker c.args.ctx.now s fit) fit
 
 pub returns-then-is_err-clause-stands : goal.returns-then-is_err-clause-stands
@@ -148,13 +144,9 @@ returns-clause-stands g c at =
     (leaving-comes at r.proof last.proof (undecided_spaces r.tables r.proof.checker u) (undecided_spaces last.tables last.proof.checker z)
     (unknown-undecided r.tables r.proof.checker u) (c.in_ok-detach_unneeded.ensures {u = tt}).leave.stands))
 
-pub returns-then-current_level-gt0-clause-calm : goal.returns-then-current_level-gt0-clause-calm
-returns-then-current_level-gt0-clause-calm g c = inl (λ u.
-    elim c.then-current_level-gt0.branch [
-      | then-current_level-gt0-via-then-current_level-gt0 w ↦ (let n = ap length u.0 in omega (arith, n, c.current_level.ensures, w.if-current_level-gt0.true))
-      | then-current_level-gt0-via-else-current_level-gt0+then-fully_propagated w ↦
-          (let n = w.fully_propagated.ensures.0 w.if-fully_propagated.true in omega (arith, n, u.1))
-    ])
+pub returns-then-not-has_root_news-clause-calm : goal.returns-then-not-has_root_news-clause-calm
+returns-then-not-has_root_news-clause-calm g c =
+    inl (λ u. let b = c.has_root_news.ensures.1 u in let n = c.if-not-has_root_news.true in absurd cc)
 
 pub returns-then-is_err-clause-calm : goal.returns-then-is_err-clause-calm
 returns-then-is_err-clause-calm g c =

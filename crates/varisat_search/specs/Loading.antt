@@ -18,7 +18,7 @@ use Rattle.varisat_search.specs.declared.state.SatState.TheVariants as verdict
 use Rattle.varisat_search.specs.declared.context.Context.{Context}
 use Rattle.varisat_search.specs.Contexts.{view}
 use Rattle.varisat_search.specs.Seen.{search_of}
-use Rattle.varisat_search.specs.Steps.{IsFree}
+use Rattle.varisat_search.specs.Steps.{IsFree, SavesAll, accepted_with}
 
 -- a loaded clause at the place, which is Irred
 abbrev pub loaded_at : ℕ → Clause → StoredClause
@@ -103,3 +103,12 @@ pub record LoadsClause (ordered : Clause → Type 0) (are : List Line → Type 0
 abbrev pub LoadsTo : {A : Type 0} → (Clause → Type 0) → (List Line → Type 0) → Clause → Context A → Context A → Type 0
 LoadsTo ordered are c x y =
     LoadsClause ordered are (search_of (view x)) (search_of (view y)) c (loaded_outcome y.solver_state.sat_state)
+
+-- It does so where the clause is accepted: all decisions are undone, their values are remembered, and no assumption has a level.
+pub record LoadsAccepted {A : Type 0} (ordered : Clause → Type 0) (are : List Line → Type 0) (c : Clause)
+    (x y : Context A) : Type 0 where
+  pub lines : LoadsTo ordered are c x y
+  pub undecided : y.trail.decisions ≡ []
+  pub last : SavesAll (view x) x.assignment.last y.assignment.last
+  pub assumptions : y.assumptions ≡ record x.assumptions { levels = 0 }
+  pub state : y.solver_state ≡ accepted_with y.solver_state.sat_state x.solver_state

@@ -12,10 +12,10 @@ ghost use Rattle.varisat_prop.specs.Looks.{IsInRange};
 ghost use Rattle.varisat_prop.specs.View.{WellFormed, kept};
 ghost use Rattle.varisat_prop.specs.Watches.{IsPropagated};
 ghost use Rattle.varisat_search.specs.Contexts.{view, IsNotUnsat, IsReady};
-ghost use Rattle.varisat_search.specs.Steps.{IsPropagatedToEnd, SavesAll, reopened_state, IsVerdictAfter, accepted_with};
+ghost use Rattle.varisat_search.specs.Steps.{IsPropagatedToEnd, reopened_state, IsVerdictAfter, accepted_with};
 ghost use Rattle.varisat_search.specs.Decisions.{AreDecidable};
 ghost use Rattle.varisat_search.specs.Frames.{ChangesLoaded, ClearsFlags, KeepsVariables, KeepsScheduleAndVariables};
-ghost use Rattle.varisat_search.specs.Loading.{HasFalseLiteral, IsHeadAfter, AddsLoaded, LoadsUnit, DeletesInOrder, LoadsTo};
+ghost use Rattle.varisat_search.specs.Loading.{HasFalseLiteral, IsHeadAfter, AddsLoaded, LoadsUnit, DeletesInOrder, LoadsAccepted};
 ghost use Rattle.varisat_search.specs.Forgotten.{IsUnmentioned};
 ghost use Rattle.varisat_steps.specs.Traces.{TakesLines, BreaksOff, faults_of, CanTake, AdmitsWith};
 ghost use Rattle.varisat_search.specs.StepErrors.{RefusesStoring, EndsStep, step_faults};
@@ -164,19 +164,11 @@ pub fn load_clause<A: Allocator + Copy, P: ProofTracer>(
     ensures ready { OnOk result (IsReady ctx.new) }
     ensures unsat { ctx.old.solver_state.sat_state ≡ SatState.Unsat →
         (result ≡ Ok tt) × (ctx.new ≡ ctx.old) × (proof.new ≡ proof.old) }
+    ensures loads { OnOk result (IsNotUnsat ctx.old →
+        LoadsAccepted (P.in_order proof.old) (λ ls. TakesLines P.takes proof.old ls proof.new) lits.now ctx.old ctx.new) }
     // Under assumptions the verdict stays, unless it becomes Unsat.
-    ensures lines { OnOk result (IsNotUnsat ctx.old →
-        LoadsTo (P.in_order proof.old) (λ ls. TakesLines P.takes proof.old ls proof.new) lits.now ctx.old ctx.new) }
     ensures verdict { OnOk result (IsVerdictAfter ctx.old.solver_state.sat_state ctx.new.solver_state.sat_state) }
-    ensures assumptions { OnOk result
-        (IsNotUnsat ctx.old → ctx.new.assumptions ≡ record ctx.old.assumptions { levels = 0 }) }
     ensures keeps { OnOk result (KeepsVariables ctx.old ctx.new) }
-    ensures last { OnOk result
-        (IsNotUnsat ctx.old → SavesAll (view ctx.old) ctx.old.assignment.last ctx.new.assignment.last) }
-    ensures state { OnOk result
-        (IsNotUnsat ctx.old →
-        ctx.new.solver_state ≡ accepted_with ctx.new.solver_state.sat_state ctx.old.solver_state) }
-    ensures undecided { OnOk result (IsNotUnsat ctx.old → ctx.new.trail.decisions ≡ []) }
     ensures single { OnOk result ((l : Literal) → lits.now ≡ l ∷ [] → LoadsUnit (view ctx.old) (view ctx.new) l) }
     ensures ends { EndsStep result ctx.old ctx.new }
     ensures broken { IfErr result (λ error. BreaksOff P.breaks_off proof.old (step_faults error) proof.new) }

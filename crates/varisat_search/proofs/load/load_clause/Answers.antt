@@ -135,15 +135,15 @@ returns-then-branch g c =
       broken = tt;
       ready = o.ready;
       unsat = λ e. absurd (c.in_default.not-Unsat e);
-      lines = o.lines;
-      verdict =
-          o.kept_verdict;
-      assumptions = λ n. o.assumptions;
-      last = λ n. o.last;
-      state = λ n. o.state;
+      loads = λ n. record {
+        lines = o.lines n;
+        undecided = o.undecided;
+        last = o.last;
+        assumptions = o.assumptions;
+        state = o.state;
+      };
+      verdict = o.kept_verdict;
       keeps = o.keeps;
-      undecided =
-          λ n. o.undecided;
       ends = record { schedule = o.schedule; full = tt };
       single =
           λ l e. loaded-none (loading g (goal.at.returns-then-branch g c).In_ok-collect_distinct) l e;
@@ -194,15 +194,15 @@ returns-then-is_satisfied g c =
       broken = tt;
       ready = o.ready;
       unsat = λ e. absurd (c.in_default.not-Unsat e);
-      lines = o.lines;
-      verdict =
-          o.kept_verdict;
-      assumptions = λ n. o.assumptions;
-      last = λ n. o.last;
-      state = λ n. o.state;
+      loads = λ n. record {
+        lines = o.lines n;
+        undecided = o.undecided;
+        last = o.last;
+        assumptions = o.assumptions;
+        state = o.state;
+      };
+      verdict = o.kept_verdict;
       keeps = o.keeps;
-      undecided =
-          λ n. o.undecided;
       ends = record { schedule = o.schedule; full = tt };
       single = λ l e. loaded-none d l e;
     }
@@ -233,15 +233,15 @@ returns g c =
       broken = tt;
       ready = o.ready;
       unsat = λ e. absurd (c.in_default.not-Unsat e);
-      lines = o.lines;
-      verdict =
-          o.kept_verdict;
-      assumptions = λ n. o.assumptions;
-      last = λ n. o.last;
-      state = λ n. o.state;
+      loads = λ n. record {
+        lines = o.lines n;
+        undecided = o.undecided;
+        last = o.last;
+        assumptions = o.assumptions;
+        state = o.state;
+      };
+      verdict = o.kept_verdict;
       keeps = o.keeps;
-      undecided =
-          λ n. o.undecided;
       ends = record { schedule = o.schedule; full = tt };
       single =
           λ l i. loaded-one (loading g (goal.at.returns g c).In_ok-collect_distinct) l i c.add_distinct.new.ctx

@@ -95,14 +95,14 @@ loaded g c =
     let z = c.load_clause.new.ctx in
     let e = c.in-Ok.ensures in
     let n = c.in_default.not-Unsat in
-    let p = unit-loads _ _ (search_of (view x)) (search_of (view z)) c.args.lit (loaded_outcome z.solver_state.sat_state) (e.lines n) in
+    let p = unit-loads _ _ (search_of (view x)) (search_of (view z)) c.args.lit (loaded_outcome z.solver_state.sat_state) (e.loads n).lines in
     let v = unit-verdict (search_of (view x)) (search_of (view z)) c.args.lit
     (reopened_state x.solver_state.sat_state) z.solver_state.sat_state c.requires.unopposed p e.verdict in
     record {
       lines = unit-lines (search_of (view x)) (search_of (view z)) c.args.lit
           (reopened_state x.solver_state.sat_state) z.solver_state.sat_state c.requires.unopposed p e.verdict;
-      state = e.state n ∙ ap (λ (b : SatState). record x.solver_state { sat_state = b; formula_is_empty = false }) v;
-      assumptions = e.assumptions n;
+      state = (e.loads n).state ∙ ap (λ (b : SatState). record x.solver_state { sat_state = b; formula_is_empty = false }) v;
+      assumptions = (e.loads n).assumptions;
       keeps = e.keeps;
       schedule = c.load_clause.ensures.ends.schedule;
     }
@@ -115,7 +115,7 @@ skip_unmentioned-requires g c =
     let e = c.in-Ok.ensures in
     record {
       ready = e.ready;
-      undecided = e.undecided c.in_default.not-Unsat;
+      undecided = (e.loads c.in_default.not-Unsat).undecided;
       head = sym c.queue_head.ensures ∙ is-literal c.queue_head.result c.args.lit (sym c.if-eq.ensures);
       unmentioned = λ d h. c.requires.unmentioned d (subst (λ P. d ∈ P) (e.single c.args.lit refl).clauses h);
     }

@@ -126,13 +126,13 @@ load_clause-requires-clause-holds g c n =
 same-tables : (g : Over) (c : In_ok-load_clause g) → c.load_clause.new.proof.tables ≡ c.mark_joined.new.variables
 same-tables g c =
     let here = (goal.at.returns-clause-valid g c).In_ok-solver_from_user_lits in
-    ((c.in_ok-load_clause.ensures {u = tt}).lines (opened g here)).written.tables ∙ (c.in_ok-log_clause.ensures {u = tt}).logged.tables
+    ((c.in_ok-load_clause.ensures {u = tt}).loads (opened g here)).lines.written.tables ∙ (c.in_ok-log_clause.ensures {u = tt}).logged.tables
 
 pub returns-clause-state : goal.returns-clause-state
 returns-clause-state g c =
     let here = (goal.at.returns-clause-state g c).In_ok-solver_from_user_lits in
     let sat = c.load_clause.new.ctx.solver_state.sat_state in
-    (c.in_ok-load_clause.ensures {u = tt}).state (opened g here)
+    ((c.in_ok-load_clause.ensures {u = tt}).loads (opened g here)).state
     ∙ ap (λ (x : SolverState). record x { sat_state = sat; formula_is_empty = false })
     ((have g here).verdict.state ∙ ap
     (λ (x : SolverState). record x { formula_is_empty = c.solver_from_user_lits.new.ctx.solver_state.formula_is_empty }) c.reopen.ensures)
@@ -149,7 +149,7 @@ returns-clause-valid g c =
     let marks = joined-same c.args.clause.now taken joined mark in
     let long = ap (λ (m : BiMap). length m.backward) mark.solvers in
     let r = c.in_ok-load_clause.ensures {u = tt} in
-    let parts = r.assumptions (opened g here) in
+    let parts = (r.loads (opened g here)).assumptions in
     let user = ap (λ (x : AssumptionParts). x.user) parts in
     subst (λ (t : Tables). IsValidSolver t new) (sym (same-tables g c)) (record {
       bounded = marks-bounded taken joined k.bounded marks;
@@ -168,13 +168,13 @@ pub returns-clause-logs : goal.returns-clause-logs
 returns-clause-logs g c =
     let here = goal.at.returns-clause-logs g c in
     logs-on (tracer_state c.log_clause.new.tracer) (tracer_state c.load_clause.new.proof) _
-    ((c.in_ok-load_clause.ensures {u = tt}).lines (opened g here.In_ok-solver_from_user_lits)).written (can-tell g here.In_ok-log_clause)
+    ((c.in_ok-load_clause.ensures {u = tt}).loads (opened g here.In_ok-solver_from_user_lits)).lines.written (can-tell g here.In_ok-log_clause)
 
 pub returns-clause-logged : goal.returns-clause-logged
 returns-clause-logged g c =
     let here = goal.at.returns-clause-logged g c in
     some-through c.args.tracer.now.proof c.log_clause.new.tracer.proof c.load_clause.new.proof.proof (_, (c.in_ok-log_clause.ensures {u = tt}).logged.logged)
-    (_, ((c.in_ok-load_clause.ensures {u = tt}).lines (opened g here.In_ok-solver_from_user_lits)).written.logged)
+    (_, ((c.in_ok-load_clause.ensures {u = tt}).loads (opened g here.In_ok-solver_from_user_lits)).lines.written.logged)
 
 pub returns-clause-accepted : goal.returns-clause-accepted
 returns-clause-accepted g c s f =
@@ -193,11 +193,11 @@ returns-clause-accepted g c s f =
     (sym c.mark_joined.ensures.solvers) in
     let items = c.as_slice-lits.ensures.value ∙ over-carried to list c.solver_from_user_lits.new.solver_lits.items over ∙ carried in
     let n = with_naming (name_all list s.naming) s in
-    let lines = (r.lines (opened g here)).lines in
+    let lines = (r.loads (opened g here)).lines.lines in
     let before : TracerState = record { tables = joined; proof = c.args.tracer.now.proof } in
     let after = tracer_state c.load_clause.new.proof in
     let taken = takes-more before (tracer_state c.log_clause.new.tracer) after (Accepts c.as_slice-lits.result.now ∷ []) (written lines)
-    (c.in_ok-log_clause.ensures {u = tt}).logged (r.lines (opened g here)).written in
+    (c.in_ok-log_clause.ensures {u = tt}).logged (r.loads (opened g here)).lines.written in
     let (variables, keep, named) = all-named-in g here s f in
     let n2 = with_variables variables (with_verdict (reopened_verdict s.verdict) n) in
     let (x, logged, v, more, logged-as, k) =
@@ -212,11 +212,11 @@ returns-clause-accepted g c s f =
       well_new = r.ready.well;
       in_use = in-use-all m (view new) new.vsids (same-in-use m (view mid) mid.vsids (view new) new.vsids all.kept.decidable r.keeps.decidable)
           r.ready.decidable r.ready.well;
-      lines = (r.lines (opened g here)).lines;
+      lines = (r.loads (opened g here)).lines.lines;
       loads = subst (λ xs. Loads (search_of (view mid)) (search_of (view new)) xs (loaded_outcome new.solver_state.sat_state)
-          (r.lines (opened g here)).lines) items (r.lines (opened g here)).loads;
+          (r.loads (opened g here)).lines.lines) items (r.loads (opened g here)).lines.loads;
       verdict = r.verdict;
-      parts_stay = r.assumptions (opened g here);
+      parts_stay = (r.loads (opened g here)).assumptions;
     })
     (subst (λ es. IsCheckedIf before.proof.checker es after.proof.checker)
     (ap (λ (b : BiMap). logged_as (carry (at b.backward)) (Accepts c.as_slice-lits.result.now ∷ written lines)) c.mark_joined.ensures.solvers

@@ -10,11 +10,10 @@ ghost use Rattle.varisat_search.specs.Contexts.{view, KeepsSchedule};
 ghost use Rattle.varisat_search.specs.RootSimplified.{IsRootSimplified};
 ghost use Rattle.varisat_solver.specs.inside.SinceChange.{GoesOnWithin};
 ghost use Rattle.varisat_solver.specs.inside.Accepting.{AreBounded};
-ghost use Rattle.varisat_solver.specs.inside.Searches.{LogsSome, Turn, ComesOnUndecided};
+ghost use Rattle.varisat_solver.specs.inside.Searches.{CanSearch, LogsSome, Turn, ComesOnUndecided};
 ghost use Rattle.varisat_tracer.specs.inside.Tracing.{tracer_state, open_parts, BreaksProof, CanLog};
 ghost use Rattle.varisat_search.specs.StepErrors.{step_faults};
-ghost use Rattle.varisat_solver.specs.inside.Spaces.{FitSome};
-ghost use Rattle.varisat_solver.specs.promises.Summaries.{undecided_spaces, IsValidSolver};
+ghost use Rattle.varisat_solver.specs.promises.Summaries.{IsValidSolver};
 ghost use Rattle.varisat_solver.specs.promises.Detaching.{leads_to_unassumed, unassumed_among, AreOverAssumed, DetachesInTime, IsCalm, HasDetached, FlagsVariables, LosesSolverVar, AreDetachedAlone, leads_to_hidden, ListsUnneeded, AreDetached, HasOnlyNeeded, DetachesWhereNews, DetachesFromTables, Detaches};
 
 use std::alloc::{AllocError, Allocator};
@@ -25,7 +24,6 @@ use varisat_search::cdcl::{has_root_news, simplify_root};
 use varisat_search::context::Context;
 use varisat_search::error::StepError;
 use varisat_search::forgetting::{detach_variables, flag_mentioned};
-use varisat_search::state::SatState;
 use varisat_tracer::SolverTracer;
 
 /// Whether the solver variable is that of a global variable that is not assumed.
@@ -244,10 +242,7 @@ pub fn detach_fixed<W: ProofTarget, A: Allocator + Copy>(
     ctx: &mut Context<A>,
     literals: &mut Vec<Lit, A>,
 ) -> Result<(), StepError>
-    requires valid { IsValidSolver tracer.old.tables ctx.old }
-    requires logs { CanLog tracer.old.proof }
-    requires stands { FitSome (undecided_spaces tracer.old.tables tracer.old.proof.checker ctx.old) }
-    requires unknown { ctx.old.solver_state.sat_state ≡ SatState.Unknown }
+    requires { CanSearch (tracer_state tracer.old) ctx.old }
     ensures valid { OnOk result (IsValidSolver tracer.new.tables ctx.new) }
     ensures logs { OnOk result (CanLog tracer.new.proof) }
     ensures schedule { KeepsSchedule ctx.old ctx.new }

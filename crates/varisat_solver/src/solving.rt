@@ -7,12 +7,10 @@ ghost use Rattle.varisat_search.specs.Contexts.{KeepsSchedule};
 ghost use Rattle.varisat_search.specs.StepErrors.{step_faults, HasNoRoom};
 ghost use Rattle.varisat_solver.specs.promises.Budgets.{returned_verdict};
 ghost use Rattle.varisat_solver.specs.inside.SinceChange.{CountsOnSince, CountsStepsFrom};
-ghost use Rattle.varisat_tracer.specs.inside.Tracing.{tracer_state, BreaksProof, CanLog};
-ghost use Rattle.varisat_solver.specs.inside.Searches.{BeginsSolverStep, MakesNamedStep, MakesSolverStep, FindsVerdict};
+ghost use Rattle.varisat_tracer.specs.inside.Tracing.{tracer_state, BreaksProof};
+ghost use Rattle.varisat_solver.specs.inside.Searches.{CanSearch, BeginsSolverStep, MakesNamedStep, MakesSolverStep, FindsVerdict};
 ghost use Rattle.varisat_solver.specs.inside.Accepting.{HasUser};
 ghost use Rattle.varisat_solver.specs.inside.Carried.{named_literals};
-ghost use Rattle.varisat_solver.specs.inside.Spaces.{FitSome};
-ghost use Rattle.varisat_solver.specs.promises.Summaries.{undecided_spaces, IsValidSolver};
 
 use crate::carrying::carry_literals;
 use crate::detaching::detach_fixed;
@@ -34,10 +32,7 @@ fn begin<W: ProofTarget, A: Allocator + Copy>(
     ctx: &mut Context<A>,
     literals: &mut Vec<Lit, A>,
 ) -> Result<(), StepError>
-    requires valid { IsValidSolver tracer.old.tables ctx.old }
-    requires logs { CanLog tracer.old.proof }
-    requires stands { FitSome (undecided_spaces tracer.old.tables tracer.old.proof.checker ctx.old) }
-    requires unknown { ctx.old.solver_state.sat_state ≡ SatState.Unknown }
+    requires can { CanSearch (tracer_state tracer.old) ctx.old }
     requires counted { ctx.old.schedule.steps < 2 ^ 64 - 1 }
     ensures begins { OnOk result
         (BeginsSolverStep (tracer_state tracer.old) (tracer_state tracer.new) ctx.old ctx.new) }
@@ -83,10 +78,7 @@ fn named_conflict_step<W: ProofTarget, A: Allocator + Copy>(
     ctx: &mut Context<A>,
     literals: &mut Vec<Lit, A>,
 ) -> Result<(), StepError>
-    requires valid { IsValidSolver tracer.old.tables ctx.old }
-    requires logs { CanLog tracer.old.proof }
-    requires stands { FitSome (undecided_spaces tracer.old.tables tracer.old.proof.checker ctx.old) }
-    requires unknown { ctx.old.solver_state.sat_state ≡ SatState.Unknown }
+    requires { CanSearch (tracer_state tracer.old) ctx.old }
     ensures made { OnOk result (MakesNamedStep (tracer_state tracer.old) (tracer_state tracer.new) ctx.old ctx.new) }
     ensures schedule { KeepsSchedule ctx.old ctx.new }
     ensures broken { IfErr result (λ error. BreaksProof tracer.old.proof (step_faults error) tracer.new.proof) }
@@ -110,10 +102,7 @@ fn make_step<W: ProofTarget, A: Allocator + Copy>(
     ctx: &mut Context<A>,
     literals: &mut Vec<Lit, A>,
 ) -> Result<(), StepError>
-    requires valid { IsValidSolver tracer.old.tables ctx.old }
-    requires logs { CanLog tracer.old.proof }
-    requires stands { FitSome (undecided_spaces tracer.old.tables tracer.old.proof.checker ctx.old) }
-    requires unknown { ctx.old.solver_state.sat_state ≡ SatState.Unknown }
+    requires can { CanSearch (tracer_state tracer.old) ctx.old }
     requires counted { ctx.old.schedule.steps < 2 ^ 64 - 1 }
     ensures made { OnOk result (MakesSolverStep (tracer_state tracer.old) (tracer_state tracer.new) ctx.old ctx.new) }
     ensures schedule { OnOk result
@@ -144,10 +133,7 @@ pub fn find_verdict<W: ProofTarget, A: Allocator + Copy>(
     literals: &mut Vec<Lit, A>,
     max_steps: u64,
 ) -> Result<Option<bool>, StepError>
-    requires valid { IsValidSolver tracer.old.tables ctx.old }
-    requires logs { CanLog tracer.old.proof }
-    requires stands { FitSome (undecided_spaces tracer.old.tables tracer.old.proof.checker ctx.old) }
-    requires unknown { ctx.old.solver_state.sat_state ≡ SatState.Unknown }
+    requires { CanSearch (tracer_state tracer.old) ctx.old }
     ensures found { IfOk result
         (λ found. FindsVerdict (tracer_state tracer.old) (tracer_state tracer.new) ctx.old ctx.new found) }
     ensures counted { CountsStepsFrom max_steps ctx.old ctx.new (returned_verdict result) }

@@ -23,7 +23,7 @@ use Rattle.varisat_solver.specs.promises.Detaching.{DetachesWhereNews, DetachesI
 use Rattle.varisat_solver.specs.promises.Journals.{with_entries, LogsMore, BeginsInSteps, EndBy, LogsToProof}
 use Rattle.varisat_solver.specs.promises.StepEntries.{LogsInSteps, SpeakOfAdded, HasStayed}
 use Rattle.varisat_solver.specs.inside.SinceChange.{GoesOnSince, BeginsWithin}
-use Rattle.varisat_solver.specs.inside.Spaces.{Spaces, SpacesFit}
+use Rattle.varisat_solver.specs.inside.Spaces.{Spaces, SpacesFit, FitSome}
 use Rattle.varisat_solver.specs.promises.States.{State, Verdict, Unknown}
 use Rattle.varisat_solver.specs.promises.Summaries.{undecided_spaces, spaces_with, IsValidSolver}
 
@@ -33,6 +33,13 @@ answer_at verdict.Unknown = None
 answer_at verdict.Sat = Some true
 answer_at verdict.Unsat = Some false
 answer_at verdict.UnsatUnderAssumptions = Some false
+
+-- What a solver needs so that it can make steps: it is valid, its proof can log, it represents some state, and no verdict is known.
+pub record CanSearch {A : Type 0} (p : TracerState) (x : Context A) : Type 0 where
+  pub valid : IsValidSolver p.tables x
+  pub logs : CanLog p.proof
+  pub stands : FitSome (undecided_spaces p.tables p.proof.checker x)
+  pub unknown : x.solver_state.sat_state ≡ verdict.Unknown
 
 -- some entries were logged to an open proof
 abbrev pub LogsSome : ProofParts → ProofParts → Type 0

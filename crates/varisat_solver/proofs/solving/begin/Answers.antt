@@ -21,7 +21,7 @@ use Rattle.varisat_solver.proofs.solving.begin.Goals as goal
 
 pub begin_step-requires-clause-holds : goal.begin_step-requires-clause-holds
 begin_step-requires-clause-holds g c = relied c.args.tracer.now.tables c.args.tracer.now.proof
-    (view c.args.ctx.now) c.args.ctx.now.assumptions c.requires.logs c.requires.stands
+    (view c.args.ctx.now) c.args.ctx.now.assumptions c.requires.can.logs c.requires.can.stands
 
 -- how the step began
 begun : (g : Over) (c : In_ok-begin_step g) →
@@ -34,30 +34,24 @@ kept g c =
     let b = begun g c in
     subst (λ (t : Tables). IsValidSolver t c.begin_step.new.ctx)
     (sym (begin-tables (tracer_state c.args.tracer.now) (tracer_state c.begin_step.new.proof) c.args.ctx.now c.begin_step.new.ctx b))
-    (begin-kept c.args.ctx.now c.begin_step.new.ctx b c.requires.valid.ready c.args.tracer.now.tables c.requires.valid)
+    (begin-kept c.args.ctx.now c.begin_step.new.ctx b c.requires.can.valid.ready c.args.tracer.now.tables c.requires.can.valid)
 
 -- no step is counted yet
 steps-still : (g : Over) (c : In_ok-begin_step g) → c.begin_step.new.ctx.schedule.steps ≡ c.args.ctx.now.schedule.steps
 steps-still g c = ap (λ (x : Context g.row.A.Denot). x.schedule.steps) c.begin_step.ensures.frame ∙ steps-begun _ c.args.ctx.now.schedule
 
-pub detach_fixed-requires-clause-valid : goal.detach_fixed-requires-clause-valid
-detach_fixed-requires-clause-valid g c = kept g (goal.at.detach_fixed-requires-clause-valid g c).In_ok-begin_step
-
-pub detach_fixed-requires-clause-logs : goal.detach_fixed-requires-clause-logs
-detach_fixed-requires-clause-logs g c = begin-logs (tracer_state c.args.tracer.now)
-    (tracer_state c.begin_step.new.proof) c.args.ctx.now c.begin_step.new.ctx
-    (begun g (goal.at.detach_fixed-requires-clause-logs g c).In_ok-begin_step) c.requires.logs
-
-pub detach_fixed-requires-clause-unknown : goal.detach_fixed-requires-clause-unknown
-detach_fixed-requires-clause-unknown g c = ap (λ (x : Context g.row.A.Denot). x.solver_state.sat_state) c.begin_step.ensures.frame ∙ c.requires.unknown
-
-pub detach_fixed-requires-clause-stands : goal.detach_fixed-requires-clause-stands
-detach_fixed-requires-clause-stands g c =
+pub detach_fixed-requires : goal.detach_fixed-requires
+detach_fixed-requires g c =
+    let here = (goal.at.detach_fixed-requires g c).In_ok-begin_step in
     let p = tracer_state c.args.tracer.now in
     let q = tracer_state c.begin_step.new.proof in
-    some-on _ 0 _ _ p.proof q.proof (begin-comes p q c.args.ctx.now c.begin_step.new.ctx c.requires.valid
-    (steps-still g (goal.at.detach_fixed-requires-clause-stands g c).In_ok-begin_step)
-    (begun g (goal.at.detach_fixed-requires-clause-stands g c).In_ok-begin_step)) c.requires.stands
+    record {
+      valid = kept g here;
+      logs = begin-logs p q c.args.ctx.now c.begin_step.new.ctx (begun g here) c.requires.can.logs;
+      stands = some-on _ 0 _ _ p.proof q.proof
+          (begin-comes p q c.args.ctx.now c.begin_step.new.ctx c.requires.can.valid (steps-still g here) (begun g here)) c.requires.can.stands;
+      unknown = ap (λ (x : Context g.row.A.Denot). x.solver_state.sat_state) c.begin_step.ensures.frame ∙ c.requires.can.unknown;
+    }
 
 pub returns-clause-begins : goal.returns-clause-begins
 returns-clause-begins g c =
@@ -69,23 +63,23 @@ returns-clause-begins g c =
     let z = c.detach_fixed.new.ctx in
     let b = begun g (goal.at.returns-clause-begins g c).In_ok-begin_step in
     let e = c.in_ok-detach_fixed.ensures {u = tt} in
-    let count = begin-count x y b c.requires.valid.ready in
+    let count = begin-count x y b c.requires.can.valid.ready in
     let config = ap (λ (c : Context g.row.A.Denot). c.solver_config) c.begin_step.ensures.frame in
     record {
       kept = e.valid;
       logs = e.logs;
       logged = some-through p.proof q.proof r.proof (begin-logged (tracer_state p) (tracer_state q) x y b) e.logged;
       within = λ i k. e.within i x.schedule
-          (come-begun _ x y c.requires.valid.ready c.prove_in_range.ensures.luby_restart_interval_scale c.requires.counted b config count i k);
+          (come-begun _ x y c.requires.can.valid.ready c.prove_in_range.ensures.luby_restart_interval_scale c.requires.counted b config count i k);
       state = c.detach_fixed.ensures.state ∙ ap (λ (c : Context g.row.A.Denot). c.solver_state) c.begin_step.ensures.frame;
       count = e.count ∙ count;
       left = record { reduced = y; begins = begins-any x y b; left = e.left };
-      leaves = λ h. e.leaves (leaves-begun p.tables q.tables x y c.requires.valid.ready b (begin-tables (tracer_state p) (tracer_state q) x y b) h);
+      leaves = λ h. e.leaves (leaves-begun p.tables q.tables x y c.requires.can.valid.ready b (begin-tables (tracer_state p) (tracer_state q) x y b) h);
       calm = e.calm;
       stands = comes-through (turn_of x) p.proof q.proof r.proof (undecided_spaces p.tables p.proof.checker x)
           (undecided_spaces q.tables q.proof.checker y) (undecided_spaces r.tables r.proof.checker z)
           (unknown-undecided q.tables q.proof.checker y)
-          (begin-comes (tracer_state p) (tracer_state q) x y c.requires.valid
+          (begin-comes (tracer_state p) (tracer_state q) x y c.requires.can.valid
           (steps-still g (goal.at.returns-clause-begins g c).In_ok-begin_step) b) (e.stands (turn_of x));
     }
 

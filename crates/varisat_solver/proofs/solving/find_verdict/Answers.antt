@@ -73,11 +73,15 @@ found g c answer e = record {
   still = λ s. absurd (stepping-moved (stepping g c) s);
 }
 
-pub make_step-requires-clause-stands : goal.make_step-requires-clause-stands
-make_step-requires-clause-stands g c = some-on _ _ _ _ c.args.tracer.now.proof c.steps.tracer.proof c.steps.invariant.stands c.requires.stands
-
-pub make_step-requires-clause-unknown : goal.make_step-requires-clause-unknown
-make_step-requires-clause-unknown g c = ap (λ (s : SolverState). s.sat_state) c.steps.invariant.state ∙ c.requires.unknown
+pub make_step-requires-clause-can : goal.make_step-requires-clause-can
+make_step-requires-clause-can g c =
+    let i = c.steps.invariant in
+    record {
+      valid = i.kept;
+      logs = i.logs;
+      stands = some-on _ _ _ _ c.args.tracer.now.proof c.steps.tracer.proof i.stands c.requires.stands;
+      unknown = ap (λ (s : SolverState). s.sat_state) i.state ∙ c.requires.unknown;
+    }
 
 pub make_step-requires-clause-counted : goal.make_step-requires-clause-counted
 make_step-requires-clause-counted g c = room c.steps.ctx.schedule c.steps-steps.result c.steps-steps.ensures.steps c.steps-steps.type_inv c.if-steps.false

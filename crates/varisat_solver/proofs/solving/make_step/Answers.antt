@@ -26,20 +26,15 @@ named : (g : Over) (c : In_ok-named_conflict_step g) → MakesNamedStep (tracer_
     (tracer_state c.named_conflict_step.new.tracer) c.begin.new.ctx c.named_conflict_step.new.ctx
 named g c = (c.in_ok-named_conflict_step.ensures {u = tt}).made
 
-pub named_conflict_step-requires-clause-valid : goal.named_conflict_step-requires-clause-valid
-named_conflict_step-requires-clause-valid g c = (begun g (goal.at.named_conflict_step-requires-clause-valid g c).In_ok-begin).kept
-
-pub named_conflict_step-requires-clause-logs : goal.named_conflict_step-requires-clause-logs
-named_conflict_step-requires-clause-logs g c = (begun g (goal.at.named_conflict_step-requires-clause-logs g c).In_ok-begin).logs
-
-pub named_conflict_step-requires-clause-stands : goal.named_conflict_step-requires-clause-stands
-named_conflict_step-requires-clause-stands g c =
-    some-on _ 0 _ _ c.args.tracer.now.proof c.begin.new.tracer.proof
-    (begun g (goal.at.named_conflict_step-requires-clause-stands g c).In_ok-begin).stands c.requires.stands
-
-pub named_conflict_step-requires-clause-unknown : goal.named_conflict_step-requires-clause-unknown
-named_conflict_step-requires-clause-unknown g c = ap (λ (s : SolverState). s.sat_state)
-    (begun g (goal.at.named_conflict_step-requires-clause-unknown g c).In_ok-begin).state ∙ c.requires.unknown
+pub named_conflict_step-requires : goal.named_conflict_step-requires
+named_conflict_step-requires g c =
+    let b = begun g (goal.at.named_conflict_step-requires g c).In_ok-begin in
+    record {
+      valid = b.kept;
+      logs = b.logs;
+      stands = some-on _ 0 _ _ c.args.tracer.now.proof c.begin.new.tracer.proof b.stands c.requires.can.stands;
+      unknown = ap (λ (s : SolverState). s.sat_state) b.state ∙ c.requires.can.unknown;
+    }
 
 pub returns-clause-made : goal.returns-clause-made
 returns-clause-made g c =

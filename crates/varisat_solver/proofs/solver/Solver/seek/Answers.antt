@@ -188,10 +188,12 @@ on : {at : Turn} {n : ℕ} {before after : Spaces} {p q : ProofParts} {started :
     RepresentsSome after started
 on comes (s, fits, fresh) = let c = comes s fits in (_, c.fits, fresh)
 
-pub find_verdict-requires-clause-stands : goal.find_verdict-requires-clause-stands
-find_verdict-requires-clause-stands g c = let (s, fits, fresh) =
-    begins c.self.inside.tracer.tables c.self.inside.tracer.proof.checker c.self.inside.started c.self.inside.ctx c.in-Unknown.is
-    (c.self.invariant c.in_ok-ensure_valid.ensures).stands in (s, fits)
+pub find_verdict-requires : goal.find_verdict-requires
+find_verdict-requires g c =
+    let i = c.self.invariant c.in_ok-ensure_valid.ensures in
+    let (s, fits, fresh) = begins c.self.inside.tracer.tables c.self.inside.tracer.proof.checker c.self.inside.started c.self.inside.ctx
+    c.in-Unknown.is i.stands in
+    record { valid = i.kept; logs = i.logs; stands = (s, fits); unknown = c.in-Unknown.is }
 
 pub invariant_of-self : goal.invariant_of-self
 invariant_of-self g c _ =

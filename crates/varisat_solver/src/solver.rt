@@ -277,6 +277,8 @@ impl<W: ProofTarget, A: Allocator + Copy> Solver<W, A> {
     ghost use Rattle.varisat_solver.specs.promises.Detaching.{GoesOnDetaching};
     ghost use Rattle.varisat_proof.specs.promises.Proving.{IsClosed};
     ghost use Rattle.varisat_solver.specs.promises.ProofCalls.{OpensProof, EnablesChecking, ClosesProof};
+    ghost use Rattle.varisat_solver.specs.promises.ReturnedLists.{returned_variables};
+    ghost use Rattle.varisat_solver.specs.promises.Usage.{ChangesMode, SamplesVar, WitnessesVar, HidesVar, Observes};
 
     /// A solver with no clause. It takes no memory.
     pub fn new_in(alloc: A) -> Self
@@ -292,112 +294,7 @@ impl<W: ProofTarget, A: Allocator + Copy> Solver<W, A> {
         }
     }
 
-    /// Changes the settings for which the update has values. Refused in an invalid solver, and where a value is out of
-    /// its range: then nothing changes, and the first such setting is returned.
-    pub fn config(&mut self, update: &SolverConfigUpdate) -> Result<(), SolverError>
-        ensures { LeadsRepresented self.old (λ s t. Configures s update.now result t) self.new }
-    {
-        ensure_valid(&self.ctx)?;
-        match self.ctx.config_changed(update) {
-            Ok(()) => {}
-            Err(error) => return Err(SolverError::ConfigOutOfRange { field: error.field }),
-        }
-        self.changed_at = self.ctx.schedule.steps();
-        Ok(())
-    }
-
-    /// How many steps a call of `solve` may make.
-    pub(crate) fn max_steps(&self) -> u64
-        ensures { result ≡ self.now.ledger.settings.max_steps }
-    {
-        self.ctx.solver_config.max_steps()
-    }
-
-    /// Sets how many steps a call of `solve` may make. Unlike `config` this is no change, so that the steps since the last
-    /// change are counted on: a search can be made in rounds of steps.
-    pub fn set_max_steps(&mut self, max_steps: u64)
-        ensures { (s : State) → Represents self.old s → Represents self.new (with_max_steps max_steps s) }
-    {
-        let mut update = SolverConfigUpdate::new();
-        update.max_steps = Some(max_steps);
-        let _ = self.ctx.config_changed(&update);
-    }
-
-    /// How many steps all calls of `solve` made together.
-    pub fn steps(&self) -> u64
-        ensures { LeadsRepresented self.now (λ s t. ReturnsSteps s result t) self.now }
-    {
-        self.ctx.schedule.steps()
-    }
-
-    /// How many steps calls of `solve` made together since the last change. A change is any call but `solve` and those
-    /// that only return something, unless it was refused; and one that accepted a clause before it was refused. In a
-    /// valid solver they are fewer than (n+2)*2^(n+2), and so than 2^(2n+3), where the clauses and all assumptions so far
-    /// name n variables, however often a call was interrupted.
-    pub fn steps_since_change(&self) -> u64
-        ensures { LeadsRepresented self.now (λ s t. ReturnsSince s result t) self.now }
-    {
-        self.ctx.schedule.steps().saturating_sub(self.changed_at)
-    }
-
-    /// What was counted of the search so far. It only reads, and no contract says what the numbers are: no call relation
-    /// knows of them.
-    pub fn statistics(&self) -> Counters {
-        self.ctx.counters
-    }
-
-    /// How large the search is.
-    pub(crate) fn size(&self) -> SearchSize {
-        let db = &self.ctx.clause_db;
-        let present = count_mapped(self.tracer.tables.global_from_solver());
-        SearchSize {
-            variables: present.saturating_sub(self.ctx.trail.top_level_assignment_count()),
-            binary: self.ctx.binary_clauses.count(),
-            irred: db.count_by_tier(Tier::Irred),
-            core: db.count_by_tier(Tier::Core),
-            mid: db.count_by_tier(Tier::Mid),
-            local: db.count_by_tier(Tier::Local),
-        }
-    }
-
-    /// Counts steps anew from here on.
-    fn begin_count(&mut self)
-        ensures frame { self.new ≡ record self.old { ledger = self.new.ledger } }
-        ensures call { (s : State) → Represents self.old s → Represents self.new (count_anew s) }
-    {
-        self.changed_at = self.ctx.schedule.steps();
-    }
-
-    /// One above the highest variable that the search ever had. As a step of `solve` begins at level 0 with literals that
-    /// are not propagated yet, variables leave the search whose values are fixed, unless they are assumed, and hidden ones
-    /// that no clause names that it still keeps. The next variable that clauses or assumptions name takes the place of one
-    /// of them.
-    pub fn solver_watermark(&self) -> usize
-        ensures { result ≡ length self.now.tables.solvers.backward }
-    {
-        self.tracer.tables.solver_watermark()
-    }
-
-    /// False once a call that changes the solver failed with an error from which there is no way back: out of memory, a
-    /// full clause store, or the target of a proof. From then on the calls that change it are refused, `model` and
-    /// `failed_core` return None, and `close_proof` hands back the target as it is.
-    pub fn is_valid(&self) -> bool
-        ensures now { result ≡ self.now.ledger.valid }
-        ensures call { LeadsRepresented self.now (λ s t. ReturnsValid s result t) self.now }
-    {
-        !self.ctx.solver_state.state_is_invalid
-    }
-
-    /// Does nothing when it runs. Its contract says of a valid solver that what a proof would have logged so far is
-    /// right, and that an open proof has just its lines. Where no variable was ever hidden these are a derivation from
-    /// the accepted clauses, which refutes them once they are known to be unsatisfiable. And few steps were made since the
-    /// last change.
-    pub fn prove_journal(&self)
-        ensures journal { (s : State) → Represents self.now s → IsValid s → IsJournal s }
-        ensures few { (s : State) → Represents self.now s → IsValid s → AreFew (length s.counted) s.ledger.since }
-    {
-        let _is_valid = !self.ctx.solver_state.state_is_invalid;
-    }
+    // ---- Problem specification ----
 
     /// Accepts a clause, and brings its names into use. Once the clauses are known to be unsatisfiable a clause is
     /// accepted without a change, but that steps are counted anew. Refused in an invalid solver; where `solve` was
@@ -461,20 +358,6 @@ impl<W: ProofTarget, A: Allocator + Copy> Solver<W, A> {
         Ok(())
     }
 
-    /// The refusal for a fault of a text. Where memory ran out in the reader the solver is invalid then.
-    fn refuse_text(&mut self, fault: DimacsError) -> SolverError
-        ensures same { self.new.opened ≡ self.old.opened }
-        ensures faults { returned_faults result ≡ 0 }
-        ensures full { result ≢ SolverError.ClauseStoreFull }
-        ensures call { (s : State) → Represents self.old s → IsValid s →
-            (t : State) × ReturnsFault by_state (Some fault) s (Err result) t × Represents self.new t }
-    {
-        if let DimacsErrorKind::OutOfMemory = fault.kind {
-            return invalidate(&mut self.ctx, SolverError::OutOfMemory);
-        }
-        SolverError::Dimacs { cause: fault }
-    }
-
     /// Accepts the clauses of a DIMACS CNF text in turn, up to the first that is refused or the text's first fault,
     /// which is then returned, whatever the pieces in which the source gives the text. The clauses before it stay. Out
     /// of memory in the reader is returned as in any call.
@@ -496,6 +379,130 @@ impl<W: ProofTarget, A: Allocator + Copy> Solver<W, A> {
         }
     }
 
+    /// The refusal for a fault of a text. Where memory ran out in the reader the solver is invalid then.
+    fn refuse_text(&mut self, fault: DimacsError) -> SolverError
+        ensures same { self.new.opened ≡ self.old.opened }
+        ensures faults { returned_faults result ≡ 0 }
+        ensures full { result ≢ SolverError.ClauseStoreFull }
+        ensures call { (s : State) → Represents self.old s → IsValid s →
+            (t : State) × ReturnsFault by_state (Some fault) s (Err result) t × Represents self.new t }
+    {
+        if let DimacsErrorKind::OutOfMemory = fault.kind {
+            return invalidate(&mut self.ctx, SolverError::OutOfMemory);
+        }
+        SolverError::Dimacs { cause: fault }
+    }
+
+    // ---- Solving ----
+
+    /// Assumes that these literals are true, in place of the assumptions before, and brings their names into use.
+    /// Refused in an invalid solver, where a proof is open that is no marked one, and for its names as a clause is: then
+    /// nothing changes, and the assumptions before stay. Where memory runs out or the target of an open proof fails, the
+    /// solver is invalid.
+    pub fn assume(&mut self, lits: &[Lit]) -> Result<(), SolverError>
+        ensures target { WritesOn self.old.opened result self.new.opened }
+        ensures call { LeadsRepresented self.old (λ s t. Assumes s lits.now result t) self.new }
+        // The target is asked last: where it fails the list is assumed already, so that there was memory for it.
+        ensures last { (cause : Error) → result ≡ Err (SolverError.ProofIoError cause) →
+            self.new.assumed.user ≡ lits.now }
+    {
+        ensure_valid(&self.ctx)?;
+        if self.tracer.proof.bars_assumptions() {
+            return Err(SolverError::ProofOpen);
+        }
+        check_names(&self.tracer.tables, lits)?;
+        let assumed = assume_list(&mut self.tracer, &mut self.ctx, &mut self.literals, lits);
+        end_change(&mut self.ctx, &mut self.changed_at, assumed)?;
+        self.started = true;
+        Ok(())
+    }
+
+    /// Whether some assignment satisfies the accepted clauses and makes the assumptions true. A call makes fewer than
+    /// (n+2)*2^(n+2) steps, and so than 2^(2n+3), where the clauses and all assumptions so far name n variables. The lines
+    /// of the steps are written to an open proof, which is then flushed, also where nothing is left to search. Refused in
+    /// an invalid solver, and where the steps are spent before it is known: `max_steps` of the settings, or 2^64-1 in all.
+    /// The next call then goes on. Where memory runs out, the clause store is full or the target of an open proof fails,
+    /// the solver is invalid; a proof that cannot be flushed is returned in place of spent steps.
+    pub fn solve(&mut self) -> Result<bool, SolverError>
+        ensures call { LeadsRepresented self.old (λ s t. Solves by_state s result t) self.new }
+        ensures satisfiable { result ≡ Ok true → (s : State) → Represents self.old s →
+            IsSatisfiableWith s.clauses s.assumptions }
+        ensures unsatisfiable { result ≡ Ok false → (s : State) → Represents self.old s →
+            IsSatisfiableWith s.clauses s.assumptions → ⊥ }
+        ensures model { result ≡ Ok true → (s : State) → Represents self.new s → HasModel s }
+        ensures core { result ≡ Ok false → (s : State) → Represents self.new s → HasCore s }
+        // The target is as after the steps, but that a search is noted to have run under the proof.
+        ensures target { WritesOn (marked_searched self.old.opened) result (marked_searched self.new.opened) }
+        ensures full { result ≡ Err SolverError.ClauseStoreFull → HasFullStore self.new }
+        // Variables go on to leave in time: those whose values are fixed, unless they are assumed.
+        ensures leaves { GoesOnDetaching self.old self.new }
+    {
+        self.begin_search();
+        let found = self.seek();
+        if self.ctx.solver_state.state_is_invalid {
+            return found;
+        }
+        self.end_search()?;
+        found
+    }
+
+    /// Notes that a search was begun, which no call returns.
+    fn begin_search(&mut self)
+        ensures { self.new ≡ self.old }
+    {
+        self.ctx.solver_state.solver_invoked = true;
+    }
+
+    /// Makes steps until it is known whether some assignment satisfies the accepted clauses and makes the assumptions
+    /// true; none where that is known. Errors are those of `solve`, but for that of a flush.
+    pub(crate) fn seek(&mut self) -> Result<bool, SolverError>
+        ensures call { LeadsRepresented self.old (λ s t. Searches s result t) self.new }
+        ensures satisfiable { result ≡ Ok true → (s : State) → Represents self.old s →
+            IsSatisfiableWith s.clauses s.assumptions }
+        ensures unsatisfiable { result ≡ Ok false → (s : State) → Represents self.old s →
+            IsSatisfiableWith s.clauses s.assumptions → ⊥ }
+        ensures model { result ≡ Ok true → (s : State) → Represents self.new s → HasModel s }
+        ensures core { result ≡ Ok false → (s : State) → Represents self.new s → HasCore s }
+        ensures target { WritesOn self.old.opened result self.new.opened }
+        // In a valid solver it has all lines.
+        ensures whole { self.new.ledger.valid ≡ true → WritesAll self.old.opened self.new.opened }
+        ensures full { result ≡ Err SolverError.ClauseStoreFull → HasFullStore self.new }
+        ensures leaves { GoesOnDetaching self.old self.new }
+    {
+        ensure_valid(&self.ctx)?;
+        match self.ctx.solver_state.sat_state {
+            SatState::Sat => Ok(true),
+            SatState::Unsat | SatState::UnsatUnderAssumptions => Ok(false),
+            SatState::Unknown => {
+                let max_steps = self.ctx.solver_config.max_steps();
+                match find_verdict(
+                    &mut self.tracer,
+                    &mut self.ctx,
+                    &mut self.literals,
+                    max_steps,
+                ) {
+                    Ok(Some(found)) => Ok(found),
+                    Ok(None) => Err(SolverError::Interrupted),
+                    Err(error) => Err(invalidate(&mut self.ctx, error)),
+                }
+            }
+        }
+    }
+
+    /// Marks an open proof as one under which `solve` was called, and flushes it. Where that fails the solver is
+    /// invalid.
+    pub(crate) fn end_search(&mut self) -> Result<(), SolverError>
+        requires { self.old.ledger.valid ≡ true }
+        ensures { EndsSearch self.old result self.new }
+    {
+        match solve_finished(&mut self.tracer.proof) {
+            Ok(()) => Ok(()),
+            Err(cause) => Err(invalidate(&mut self.ctx, SolverError::ProofIoError { cause })),
+        }
+    }
+
+    // ---- Variables ----
+
     /// Brings the least free name into use. Refused in an invalid solver, where all 2^28 names are in use or so many
     /// variables were made, and then nothing changes; and where memory runs out, which makes the solver invalid.
     pub fn new_var(&mut self) -> Result<Var, SolverError>
@@ -513,6 +520,226 @@ impl<W: ProofTarget, A: Allocator + Copy> Solver<W, A> {
         let user = end_change(&mut self.ctx, &mut self.changed_at, made)?;
         self.started = true;
         Ok(user)
+    }
+
+    /// Lets clauses and assumptions name the variable, as they may from the first. A free name comes into use. Refused
+    /// as a clause is for its name, and where the variable is assumed; then nothing changes.
+    pub fn sample_var(&mut self, var: Var) -> Result<(), SolverError>
+        ensures { LeadsRepresented self.old (λ s t. SamplesVar s var result t) self.new }
+    {
+        self.set_mode(var, SamplingMode::Sample)
+    }
+
+    /// Makes the variable a witness: from then on no clause and no assumption may name it, and models list it as
+    /// before. A free name comes into use. Refused as `sample_var` is.
+    pub fn witness_var(&mut self, var: Var) -> Result<(), SolverError>
+        ensures { LeadsRepresented self.old (λ s t. WitnessesVar s var result t) self.new }
+    {
+        self.set_mode(var, SamplingMode::Witness)
+    }
+
+    /// Frees the name of the variable, which lives on in the clauses, hidden. The name may come back for another
+    /// variable. A free name comes into use first. The variable may leave for good, as one does that no clause holds,
+    /// unless the clauses are known to be unsatisfiable; the clause permits it. Refused as `sample_var` is.
+    pub fn hide_var(&mut self, var: Var) -> Result<(), SolverError>
+        ensures { LeadsRepresented self.old (λ s t. HidesVar s var result t) self.new }
+    {
+        self.set_mode(var, SamplingMode::Hide)
+    }
+
+    /// Names the variable, and changes its mode. Refused as `sample_var` is.
+    fn set_mode(&mut self, var: Var, mode: SamplingMode) -> Result<(), SolverError>
+        ensures { LeadsRepresented self.old (λ s t. ChangesMode mode s var result t) self.new }
+    {
+        ensure_valid(&self.ctx)?;
+        check_change(&self.tracer.tables, var)?;
+        let verdict = self.ctx.solver_state.sat_state;
+        let changed = change_mode(&mut self.tracer, var, mode, verdict);
+        end_change(&mut self.ctx, &mut self.changed_at, changed)?;
+        Ok(())
+    }
+
+    /// Brings hidden variables back as witnesses, each under the least free name, and returns these names in increasing
+    /// order. One stays hidden only if no accepted clause of two or more different literals, which is no tautology,
+    /// names it, or if the clauses force its value. Refused in an invalid solver, and then nothing changes, and where
+    /// memory runs out. There are no more variables than names below the limit.
+    pub fn observe_internal_vars(&mut self) -> Result<Vec<Var, A>, SolverError>
+        ensures { LeadsRepresented self.old (λ s t. Observes s (returned_variables result) t) self.new }
+    {
+        ensure_valid(&self.ctx)?;
+        self.tracer.tables.prove_linked();
+        let shown = observe_internal_vars(&mut self.tracer.tables, self.alloc);
+        let names = end_change(&mut self.ctx, &mut self.changed_at, shown)?;
+        Ok(names)
+    }
+
+    /// One above the highest variable that the search ever had. As a step of `solve` begins at level 0 with literals that
+    /// are not propagated yet, variables leave the search whose values are fixed, unless they are assumed, and hidden ones
+    /// that no clause names that it still keeps. The next variable that clauses or assumptions name takes the place of one
+    /// of them.
+    pub fn solver_watermark(&self) -> usize
+        ensures { result ≡ length self.now.tables.solvers.backward }
+    {
+        self.tracer.tables.solver_watermark()
+    }
+
+    // ---- Reading the state ----
+
+    /// The names in use in increasing order with the values that were found, if the last thing that was found out is
+    /// that the clauses are satisfiable; else None, as in an invalid solver. Where memory runs out nothing changes.
+    pub fn model(&self) -> Result<Option<Vec<Lit, A>>, AllocError>
+        ensures call { LeadsRepresented self.now
+            (λ s t. ReturnsList (by_state.model s) s (returned_list result) t) self.now }
+        ensures completable { (m : List ℕ) → returned_list result ≡ Ok (Some m) → (s : State) → Represents self.now s →
+            IsCompletableIn s m }
+        ensures absent { returned_list result ≡ Ok None → (s : State) → Represents self.now s → IsValid s →
+            answer_of s.verdict ≡ Some true → ⊥ }
+    {
+        if self.ctx.solver_state.state_is_invalid {
+            return Ok(None);
+        }
+        match self.ctx.solver_state.sat_state {
+            SatState::Sat => {
+                let values = self.ctx.assignment.assignment();
+                let list = list_model(self.alloc, &self.tracer.tables, values)?;
+                Ok(Some(list))
+            }
+            SatState::Unknown | SatState::Unsat | SatState::UnsatUnderAssumptions => Ok(None),
+        }
+    }
+
+    /// Some of the assumptions, which no assignment makes true together with the accepted clauses, if the last thing
+    /// that was found out is that these are unsatisfiable under the assumptions; an empty list where the clauses alone
+    /// are; else None, as in an invalid solver.
+    pub fn failed_core(&self) -> Option<&[Lit]>
+        ensures call { LeadsRepresented self.now
+            (λ s t. ReturnsList (by_state.core s) s (Ok (lent_list result)) t) self.now }
+        ensures fails { (core : List ℕ) → lent_list result ≡ Some core → (s : State) → Represents self.now s →
+            IsNamedCore s core }
+        ensures absent { lent_list result ≡ None → (s : State) → Represents self.now s → IsValid s →
+            answer_of s.verdict ≡ Some false → ⊥ }
+    {
+        if self.ctx.solver_state.state_is_invalid {
+            return None;
+        }
+        let core = self.ctx.assumptions.user_failed_core();
+        match self.ctx.solver_state.sat_state {
+            SatState::UnsatUnderAssumptions => Some(core),
+            SatState::Unsat => Some(&core[..0]),
+            SatState::Unknown | SatState::Sat => None,
+        }
+    }
+
+    /// A copy of the failed core. Where memory runs out nothing changes.
+    pub fn copy_core(&self) -> Result<Option<Vec<Lit, A>>, AllocError>
+        ensures { LeadsRepresented self.now (λ s t. ReturnsList (by_state.core s) s (returned_list result) t) self.now }
+    {
+        match self.failed_core() {
+            Some(core) => {
+                let copy = copied(self.alloc, core)?;
+                Ok(Some(copy))
+            }
+            None => Ok(None),
+        }
+    }
+
+    /// False once a call that changes the solver failed with an error from which there is no way back: out of memory, a
+    /// full clause store, or the target of a proof. From then on the calls that change it are refused, `model` and
+    /// `failed_core` return None, and `close_proof` hands back the target as it is.
+    pub fn is_valid(&self) -> bool
+        ensures now { result ≡ self.now.ledger.valid }
+        ensures call { LeadsRepresented self.now (λ s t. ReturnsValid s result t) self.now }
+    {
+        !self.ctx.solver_state.state_is_invalid
+    }
+
+    /// What was counted of the search so far. It only reads, and no contract says what the numbers are: no call relation
+    /// knows of them.
+    pub fn statistics(&self) -> Counters {
+        self.ctx.counters
+    }
+
+    /// How large the search is.
+    pub(crate) fn size(&self) -> SearchSize {
+        let db = &self.ctx.clause_db;
+        let present = count_mapped(self.tracer.tables.global_from_solver());
+        SearchSize {
+            variables: present.saturating_sub(self.ctx.trail.top_level_assignment_count()),
+            binary: self.ctx.binary_clauses.count(),
+            irred: db.count_by_tier(Tier::Irred),
+            core: db.count_by_tier(Tier::Core),
+            mid: db.count_by_tier(Tier::Mid),
+            local: db.count_by_tier(Tier::Local),
+        }
+    }
+
+    /// Does nothing when it runs. Its contract says of a valid solver that what a proof would have logged so far is
+    /// right, and that an open proof has just its lines. Where no variable was ever hidden these are a derivation from
+    /// the accepted clauses, which refutes them once they are known to be unsatisfiable. And few steps were made since the
+    /// last change.
+    pub fn prove_journal(&self)
+        ensures journal { (s : State) → Represents self.now s → IsValid s → IsJournal s }
+        ensures few { (s : State) → Represents self.now s → IsValid s → AreFew (length s.counted) s.ledger.since }
+    {
+        let _is_valid = !self.ctx.solver_state.state_is_invalid;
+    }
+
+    // ---- Limits and proofs ----
+
+    /// Changes the settings for which the update has values. Refused in an invalid solver, and where a value is out of
+    /// its range: then nothing changes, and the first such setting is returned.
+    pub fn config(&mut self, update: &SolverConfigUpdate) -> Result<(), SolverError>
+        ensures { LeadsRepresented self.old (λ s t. Configures s update.now result t) self.new }
+    {
+        ensure_valid(&self.ctx)?;
+        match self.ctx.config_changed(update) {
+            Ok(()) => {}
+            Err(error) => return Err(SolverError::ConfigOutOfRange { field: error.field }),
+        }
+        self.changed_at = self.ctx.schedule.steps();
+        Ok(())
+    }
+
+    /// How many steps a call of `solve` may make.
+    pub(crate) fn max_steps(&self) -> u64
+        ensures { result ≡ self.now.ledger.settings.max_steps }
+    {
+        self.ctx.solver_config.max_steps()
+    }
+
+    /// Sets how many steps a call of `solve` may make. Unlike `config` this is no change, so that the steps since the last
+    /// change are counted on: a search can be made in rounds of steps.
+    pub fn set_max_steps(&mut self, max_steps: u64)
+        ensures { (s : State) → Represents self.old s → Represents self.new (with_max_steps max_steps s) }
+    {
+        let mut update = SolverConfigUpdate::new();
+        update.max_steps = Some(max_steps);
+        let _ = self.ctx.config_changed(&update);
+    }
+
+    /// How many steps all calls of `solve` made together.
+    pub fn steps(&self) -> u64
+        ensures { LeadsRepresented self.now (λ s t. ReturnsSteps s result t) self.now }
+    {
+        self.ctx.schedule.steps()
+    }
+
+    /// How many steps calls of `solve` made together since the last change. A change is any call but `solve` and those
+    /// that only return something, unless it was refused; and one that accepted a clause before it was refused. In a
+    /// valid solver they are fewer than (n+2)*2^(n+2), and so than 2^(2n+3), where the clauses and all assumptions so far
+    /// name n variables, however often a call was interrupted.
+    pub fn steps_since_change(&self) -> u64
+        ensures { LeadsRepresented self.now (λ s t. ReturnsSince s result t) self.now }
+    {
+        self.ctx.schedule.steps().saturating_sub(self.changed_at)
+    }
+
+    /// Counts steps anew from here on.
+    fn begin_count(&mut self)
+        ensures frame { self.new ≡ record self.old { ledger = self.new.ledger } }
+        ensures call { (s : State) → Represents self.old s → Represents self.new (count_anew s) }
+    {
+        self.changed_at = self.ctx.schedule.steps();
     }
 
     /// Opens a proof, to which the lines of the search are written from here on, and to a marked one also the clauses,
@@ -586,227 +813,6 @@ impl<W: ProofTarget, A: Allocator + Copy> Solver<W, A> {
                 target,
             )),
         }
-    }
-
-    /// Assumes that these literals are true, in place of the assumptions before, and brings their names into use.
-    /// Refused in an invalid solver, where a proof is open that is no marked one, and for its names as a clause is: then
-    /// nothing changes, and the assumptions before stay. Where memory runs out or the target of an open proof fails, the
-    /// solver is invalid.
-    pub fn assume(&mut self, lits: &[Lit]) -> Result<(), SolverError>
-        ensures target { WritesOn self.old.opened result self.new.opened }
-        ensures call { LeadsRepresented self.old (λ s t. Assumes s lits.now result t) self.new }
-        // The target is asked last: where it fails the list is assumed already, so that there was memory for it.
-        ensures last { (cause : Error) → result ≡ Err (SolverError.ProofIoError cause) →
-            self.new.assumed.user ≡ lits.now }
-    {
-        ensure_valid(&self.ctx)?;
-        if self.tracer.proof.bars_assumptions() {
-            return Err(SolverError::ProofOpen);
-        }
-        check_names(&self.tracer.tables, lits)?;
-        let assumed = assume_list(&mut self.tracer, &mut self.ctx, &mut self.literals, lits);
-        end_change(&mut self.ctx, &mut self.changed_at, assumed)?;
-        self.started = true;
-        Ok(())
-    }
-
-    /// Whether some assignment satisfies the accepted clauses and makes the assumptions true. A call makes fewer than
-    /// (n+2)*2^(n+2) steps, and so than 2^(2n+3), where the clauses and all assumptions so far name n variables. The lines
-    /// of the steps are written to an open proof, which is then flushed, also where nothing is left to search. Refused in
-    /// an invalid solver, and where the steps are spent before it is known: `max_steps` of the settings, or 2^64-1 in all.
-    /// The next call then goes on. Where memory runs out, the clause store is full or the target of an open proof fails,
-    /// the solver is invalid; a proof that cannot be flushed is returned in place of spent steps.
-    pub fn solve(&mut self) -> Result<bool, SolverError>
-        ensures call { LeadsRepresented self.old (λ s t. Solves by_state s result t) self.new }
-        ensures satisfiable { result ≡ Ok true → (s : State) → Represents self.old s →
-            IsSatisfiableWith s.clauses s.assumptions }
-        ensures unsatisfiable { result ≡ Ok false → (s : State) → Represents self.old s →
-            IsSatisfiableWith s.clauses s.assumptions → ⊥ }
-        ensures model { result ≡ Ok true → (s : State) → Represents self.new s → HasModel s }
-        ensures core { result ≡ Ok false → (s : State) → Represents self.new s → HasCore s }
-        // The target is as after the steps, but that a search is noted to have run under the proof.
-        ensures target { WritesOn (marked_searched self.old.opened) result (marked_searched self.new.opened) }
-        ensures full { result ≡ Err SolverError.ClauseStoreFull → HasFullStore self.new }
-        // Variables go on to leave in time: those whose values are fixed, unless they are assumed.
-        ensures leaves { GoesOnDetaching self.old self.new }
-    {
-        self.begin_search();
-        let found = self.seek();
-        if self.ctx.solver_state.state_is_invalid {
-            return found;
-        }
-        self.end_search()?;
-        found
-    }
-
-    /// Notes that a search was begun, which no call returns.
-    fn begin_search(&mut self)
-        ensures { self.new ≡ self.old }
-    {
-        self.ctx.solver_state.solver_invoked = true;
-    }
-
-    /// Marks an open proof as one under which `solve` was called, and flushes it. Where that fails the solver is
-    /// invalid.
-    pub(crate) fn end_search(&mut self) -> Result<(), SolverError>
-        requires { self.old.ledger.valid ≡ true }
-        ensures { EndsSearch self.old result self.new }
-    {
-        match solve_finished(&mut self.tracer.proof) {
-            Ok(()) => Ok(()),
-            Err(cause) => Err(invalidate(&mut self.ctx, SolverError::ProofIoError { cause })),
-        }
-    }
-
-    /// Makes steps until it is known whether some assignment satisfies the accepted clauses and makes the assumptions
-    /// true; none where that is known. Errors are those of `solve`, but for that of a flush.
-    pub(crate) fn seek(&mut self) -> Result<bool, SolverError>
-        ensures call { LeadsRepresented self.old (λ s t. Searches s result t) self.new }
-        ensures satisfiable { result ≡ Ok true → (s : State) → Represents self.old s →
-            IsSatisfiableWith s.clauses s.assumptions }
-        ensures unsatisfiable { result ≡ Ok false → (s : State) → Represents self.old s →
-            IsSatisfiableWith s.clauses s.assumptions → ⊥ }
-        ensures model { result ≡ Ok true → (s : State) → Represents self.new s → HasModel s }
-        ensures core { result ≡ Ok false → (s : State) → Represents self.new s → HasCore s }
-        ensures target { WritesOn self.old.opened result self.new.opened }
-        // In a valid solver it has all lines.
-        ensures whole { self.new.ledger.valid ≡ true → WritesAll self.old.opened self.new.opened }
-        ensures full { result ≡ Err SolverError.ClauseStoreFull → HasFullStore self.new }
-        ensures leaves { GoesOnDetaching self.old self.new }
-    {
-        ensure_valid(&self.ctx)?;
-        match self.ctx.solver_state.sat_state {
-            SatState::Sat => Ok(true),
-            SatState::Unsat | SatState::UnsatUnderAssumptions => Ok(false),
-            SatState::Unknown => {
-                let max_steps = self.ctx.solver_config.max_steps();
-                match find_verdict(
-                    &mut self.tracer,
-                    &mut self.ctx,
-                    &mut self.literals,
-                    max_steps,
-                ) {
-                    Ok(Some(found)) => Ok(found),
-                    Ok(None) => Err(SolverError::Interrupted),
-                    Err(error) => Err(invalidate(&mut self.ctx, error)),
-                }
-            }
-        }
-    }
-
-    /// The names in use in increasing order with the values that were found, if the last thing that was found out is
-    /// that the clauses are satisfiable; else None, as in an invalid solver. Where memory runs out nothing changes.
-    pub fn model(&self) -> Result<Option<Vec<Lit, A>>, AllocError>
-        ensures call { LeadsRepresented self.now
-            (λ s t. ReturnsList (by_state.model s) s (returned_list result) t) self.now }
-        ensures completable { (m : List ℕ) → returned_list result ≡ Ok (Some m) → (s : State) → Represents self.now s →
-            IsCompletableIn s m }
-        ensures absent { returned_list result ≡ Ok None → (s : State) → Represents self.now s → IsValid s →
-            answer_of s.verdict ≡ Some true → ⊥ }
-    {
-        if self.ctx.solver_state.state_is_invalid {
-            return Ok(None);
-        }
-        match self.ctx.solver_state.sat_state {
-            SatState::Sat => {
-                let values = self.ctx.assignment.assignment();
-                let list = list_model(self.alloc, &self.tracer.tables, values)?;
-                Ok(Some(list))
-            }
-            SatState::Unknown | SatState::Unsat | SatState::UnsatUnderAssumptions => Ok(None),
-        }
-    }
-
-    /// Some of the assumptions, which no assignment makes true together with the accepted clauses, if the last thing
-    /// that was found out is that these are unsatisfiable under the assumptions; an empty list where the clauses alone
-    /// are; else None, as in an invalid solver.
-    pub fn failed_core(&self) -> Option<&[Lit]>
-        ensures call { LeadsRepresented self.now
-            (λ s t. ReturnsList (by_state.core s) s (Ok (lent_list result)) t) self.now }
-        ensures fails { (core : List ℕ) → lent_list result ≡ Some core → (s : State) → Represents self.now s →
-            IsNamedCore s core }
-        ensures absent { lent_list result ≡ None → (s : State) → Represents self.now s → IsValid s →
-            answer_of s.verdict ≡ Some false → ⊥ }
-    {
-        if self.ctx.solver_state.state_is_invalid {
-            return None;
-        }
-        let core = self.ctx.assumptions.user_failed_core();
-        match self.ctx.solver_state.sat_state {
-            SatState::UnsatUnderAssumptions => Some(core),
-            SatState::Unsat => Some(&core[..0]),
-            SatState::Unknown | SatState::Sat => None,
-        }
-    }
-
-    /// A copy of the failed core. Where memory runs out nothing changes.
-    pub fn copy_core(&self) -> Result<Option<Vec<Lit, A>>, AllocError>
-        ensures { LeadsRepresented self.now (λ s t. ReturnsList (by_state.core s) s (returned_list result) t) self.now }
-    {
-        match self.failed_core() {
-            Some(core) => {
-                let copy = copied(self.alloc, core)?;
-                Ok(Some(copy))
-            }
-            None => Ok(None),
-        }
-    }
-}
-
-impl<W: ProofTarget, A: Allocator + Copy> Solver<W, A> {
-    ghost use Rattle.varisat_solver.specs.promises.ReturnedLists.{returned_variables};
-    ghost use Rattle.varisat_solver.specs.promises.Usage.{ChangesMode, SamplesVar, WitnessesVar, HidesVar, Observes};
-    ghost use Rattle.varisat_solver.specs.promises.Summaries.{LeadsRepresented};
-
-    /// Names the variable, and changes its mode. Refused as `sample_var` is.
-    fn set_mode(&mut self, var: Var, mode: SamplingMode) -> Result<(), SolverError>
-        ensures { LeadsRepresented self.old (λ s t. ChangesMode mode s var result t) self.new }
-    {
-        ensure_valid(&self.ctx)?;
-        check_change(&self.tracer.tables, var)?;
-        let verdict = self.ctx.solver_state.sat_state;
-        let changed = change_mode(&mut self.tracer, var, mode, verdict);
-        end_change(&mut self.ctx, &mut self.changed_at, changed)?;
-        Ok(())
-    }
-
-    /// Lets clauses and assumptions name the variable, as they may from the first. A free name comes into use. Refused
-    /// as a clause is for its name, and where the variable is assumed; then nothing changes.
-    pub fn sample_var(&mut self, var: Var) -> Result<(), SolverError>
-        ensures { LeadsRepresented self.old (λ s t. SamplesVar s var result t) self.new }
-    {
-        self.set_mode(var, SamplingMode::Sample)
-    }
-
-    /// Makes the variable a witness: from then on no clause and no assumption may name it, and models list it as
-    /// before. A free name comes into use. Refused as `sample_var` is.
-    pub fn witness_var(&mut self, var: Var) -> Result<(), SolverError>
-        ensures { LeadsRepresented self.old (λ s t. WitnessesVar s var result t) self.new }
-    {
-        self.set_mode(var, SamplingMode::Witness)
-    }
-
-    /// Frees the name of the variable, which lives on in the clauses, hidden. The name may come back for another
-    /// variable. A free name comes into use first. The variable may leave for good, as one does that no clause holds,
-    /// unless the clauses are known to be unsatisfiable; the clause permits it. Refused as `sample_var` is.
-    pub fn hide_var(&mut self, var: Var) -> Result<(), SolverError>
-        ensures { LeadsRepresented self.old (λ s t. HidesVar s var result t) self.new }
-    {
-        self.set_mode(var, SamplingMode::Hide)
-    }
-
-    /// Brings hidden variables back as witnesses, each under the least free name, and returns these names in increasing
-    /// order. One stays hidden only if no accepted clause of two or more different literals, which is no tautology,
-    /// names it, or if the clauses force its value. Refused in an invalid solver, and then nothing changes, and where
-    /// memory runs out. There are no more variables than names below the limit.
-    pub fn observe_internal_vars(&mut self) -> Result<Vec<Var, A>, SolverError>
-        ensures { LeadsRepresented self.old (λ s t. Observes s (returned_variables result) t) self.new }
-    {
-        ensure_valid(&self.ctx)?;
-        self.tracer.tables.prove_linked();
-        let shown = observe_internal_vars(&mut self.tracer.tables, self.alloc);
-        let names = end_change(&mut self.ctx, &mut self.changed_at, shown)?;
-        Ok(names)
     }
 }
 

@@ -335,7 +335,7 @@ fn decide_from<R: Read + Drop>(
 {
     let mut err = rt.stderr();
     match BufWriter::new(rt.alloc(), io::writer(rt)) {
-        Ok(out) => decide_text(
+        Ok(out) => decide_in_heap(
             rt,
             words.heap,
             &mut ReadSource::new(cnf),
@@ -395,7 +395,7 @@ fn refuse_stream(number: RawFd) -> io::Result<()> {
 // Decides the text that a reader gives, with a proof if there is a target for it. All that the solver has is a heap of the
 // size that is given, if one is. Nobody knows a file's bytes beforehand, but the status and the proof are right for those
 // that were read.
-fn decide_text<R: Read + Drop, T: ProofTarget, E: Write>(
+fn decide_in_heap<R: Read + Drop, T: ProofTarget, E: Write>(
     rt: &HostRuntime,
     heap: Option<usize>,
     cnf: &mut ReadSource<R>,

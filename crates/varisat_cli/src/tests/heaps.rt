@@ -34,7 +34,7 @@ fn decides(rt: &HostRuntime, heap: Option<usize>, text: &[u8], wanted: (&[u8], &
         simplify: true,
     };
     let mut cnf = ReadSource::new(Cursor::new(text));
-    let status = decide_text(rt, heap, &mut cnf, &mut None, options, &mut out, &mut err);
+    let status = decide_in_heap(rt, heap, &mut cnf, &mut None, options, &mut out, &mut err);
     (out.bytes() == wanted.0) & (err.as_slice() == wanted.1) & (status == wanted.2)
 }
 

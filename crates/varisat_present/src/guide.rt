@@ -4,7 +4,8 @@ use crate::clause::mentions;
 use crate::copies::{Copies, NO_COPY, Step, number_of};
 use crate::known::{Known, PLACE_LIMIT};
 use crate::places::clause_at;
-use crate::watches::{OF_TWO, Watch, Watches, best_two};
+use crate::tiers::Tiers;
+use crate::watches::{OF_TWO, Tier, Watch, best_two};
 use std::alloc::{AllocError, Allocator};
 use std::mem;
 use varisat_literals::{Lit, Var};
@@ -36,7 +37,7 @@ const GIVEN: u32 = 0xffff_ffff;
 #[derive(Drop)]
 pub struct Guide<A: Allocator + Copy> {
     copies: Copies<A>,
-    watches: Watches<A>,
+    tiers: Tiers<A>,
     /// The literals that are taken as true. After a conflict the last one clashes with one before it.
     trail: Known<A>,
     /// By place in the trail.
@@ -78,7 +79,7 @@ impl<A: Allocator + Copy> Guide<A> {
     pub fn new_in(alloc: A) -> Guide<A> {
         Guide {
             copies: Copies::new_in(alloc),
-            watches: Watches::new_in(alloc),
+            tiers: Tiers::new_in(alloc),
             trail: Known::new_in(alloc),
             reasons: Vec::new(alloc),
             needed: Vec::new(alloc),
@@ -93,9 +94,15 @@ impl<A: Allocator + Copy> Guide<A> {
 
     /// The next place has a clause, which is watched by the two literals that are best to watch, if it has two. A watch has
     /// all of a clause of two literals, which needs no copy.
-    fn watch_next(&mut self, known: &Known<A>, clause: &[Lit]) -> Result<(), AllocError> {
+    fn watch_next(
+        &mut self,
+        tier: Tier,
+        known: &Known<A>,
+        clause: &[Lit],
+    ) -> Result<(), AllocError> {
         let Some((one, other)) = best_two(known, clause) else {
             self.copies.skip()?;
+            self.tiers.skip()?;
             return Ok(());
         };
         let key = if clause.len() == 2 {
@@ -103,7 +110,7 @@ impl<A: Allocator + Copy> Guide<A> {
         } else {
             self.copies.add(clause, one, other)?
         };
-        self.watches.add_both(key, one, other)
+        self.tiers.add_next(tier, key, one, other)
     }
 
     /// Takes all clauses out, and adds those that are there.
@@ -113,13 +120,14 @@ impl<A: Allocator + Copy> Guide<A> {
         known: &Known<A>,
     ) -> Result<(), AllocError> {
         self.copies.clear();
-        self.watches.clear();
+        self.tiers.clear();
         for place in 0..places.len() {
             match clause_at(places, place) {
                 None => {
                     self.copies.skip()?;
+                    self.tiers.skip()?;
                 }
-                Some(clause) => self.watch_next(known, clause)?,
+                Some(clause) => self.watch_next(Tier::Cold, known, clause)?,
             }
         }
         Ok(())
@@ -135,7 +143,8 @@ impl<A: Allocator + Copy> Guide<A> {
         if self.copies.is_wasteful() {
             self.begin_anew(places, known)?;
         }
-        self.watch_next(known, clause)?;
+        let tier = self.tiers.newest();
+        self.watch_next(tier, known, clause)?;
         Ok(())
     }
 
@@ -147,8 +156,7 @@ impl<A: Allocator + Copy> Guide<A> {
         }
         if let Some((one, other)) = best_two(&self.trail, clause) {
             let key = number_of(place) | OF_TWO;
-            self.watches.remove(key, one);
-            self.watches.remove(key, other);
+            self.tiers.remove(place, key, one, other);
         }
     }
 
@@ -183,7 +191,13 @@ impl<A: Allocator + Copy> Guide<A> {
     }
 
     /// Looks at a watch with this key on a literal that is false, whose blocking literal is not true.
-    fn look(&mut self, key: u32, blocking: Lit, literal: Lit) -> Result<Looked, AllocError> {
+    fn look(
+        &mut self,
+        tier: Tier,
+        key: u32,
+        blocking: Lit,
+        literal: Lit,
+    ) -> Result<Looked, AllocError> {
         match self.step(key, blocking, literal) {
             Step::Leaves(other) => {
                 let is_false = self.trail.is_false(other);
@@ -199,13 +213,8 @@ impl<A: Allocator + Copy> Guide<A> {
             }
             Step::Stays(other) => Ok(Looked::Stays(other)),
             Step::Moves(free, other) => {
-                self.watches.add(
-                    free,
-                    Watch {
-                        key,
-                        blocking: other,
-                    },
-                )?;
+                let blocking = other;
+                self.tiers.add(tier, free, Watch { key, blocking })?;
                 Ok(Looked::Gone)
             }
             Step::Gone => Ok(Looked::Gone),
@@ -213,7 +222,12 @@ impl<A: Allocator + Copy> Guide<A> {
     }
 
     /// Looks at the watches on a literal that is false. Returns whether a clause is false.
-    fn look_at_all(&mut self, literal: Lit, list: &mut Vec<Watch, A>) -> Result<bool, AllocError> {
+    fn look_at_all(
+        &mut self,
+        tier: Tier,
+        literal: Lit,
+        list: &mut Vec<Watch, A>,
+    ) -> Result<bool, AllocError> {
         let mut i = 0;
         for _ in 0..list.len() {
             if i >= list.len() {
@@ -224,7 +238,7 @@ impl<A: Allocator + Copy> Guide<A> {
                 i += 1;
                 continue;
             }
-            let looked = self.look(watch.key, watch.blocking, literal)?;
+            let looked = self.look(tier, watch.key, watch.blocking, literal)?;
             match looked {
                 Looked::Conflict => return Ok(true),
                 Looked::Stays(blocking) => {
@@ -245,15 +259,45 @@ impl<A: Allocator + Copy> Guide<A> {
         Ok(false)
     }
 
-    /// Propagates from this place of the trail on. Returns whether a clause is false.
-    fn propagate(&mut self, first: usize) -> Result<bool, AllocError> {
+    /// Looks at the watches of a tier on a literal that is false. Returns whether a clause is false.
+    fn visit(&mut self, tier: Tier, literal: Lit) -> Result<bool, AllocError> {
+        if self.tiers.is_empty(tier, literal) {
+            return Ok(false);
+        }
+        let mut list = self.tiers.take_list(tier, literal);
+        let is_conflict = self.look_at_all(tier, literal, &mut list)?;
+        self.tiers.put_list(tier, literal, list);
+        Ok(is_conflict)
+    }
+
+    /// Propagates from this place of the trail on by hot watches alone. Returns whether a clause is false.
+    fn propagate_hot(&mut self, first: usize) -> Result<bool, AllocError> {
         for place in first..usize::MAX {
             let Some(literal) = self.trail.get(place) else {
                 return Ok(false);
             };
-            let mut list = self.watches.take_list(!literal);
-            let is_conflict = self.look_at_all(!literal, &mut list)?;
-            self.watches.put_list(!literal, list);
+            let is_conflict = self.visit(Tier::Hot, !literal)?;
+            if is_conflict {
+                return Ok(true);
+            }
+        }
+        Ok(false)
+    }
+
+    /// Propagates from this place of the trail on, by a cold list only where no hot one is left. Returns whether a clause is
+    /// false.
+    fn propagate(&mut self, first: usize) -> Result<bool, AllocError> {
+        let mut next = first;
+        for place in first..usize::MAX {
+            let is_conflict = self.propagate_hot(next)?;
+            if is_conflict {
+                return Ok(true);
+            }
+            next = self.trail.len();
+            let Some(literal) = self.trail.get(place) else {
+                return Ok(false);
+            };
+            let is_conflict = self.visit(Tier::Cold, !literal)?;
             if is_conflict {
                 return Ok(true);
             }
@@ -274,15 +318,24 @@ impl<A: Allocator + Copy> Guide<A> {
         let place = self.place_of(reason.key);
         self.way.push(place)?;
         if reason.key >= OF_TWO {
-            return mark(&mut self.needed, !reason.false_literal);
+            mark(&mut self.needed, !reason.false_literal)?;
+            return self
+                .tiers
+                .warm(place, reason.key, literal, reason.false_literal);
         }
-        for code in self.copies.codes(reason.key) {
+        let codes = self.copies.codes(reason.key);
+        for code in codes {
             let other = Lit::from_code(*code as usize);
             if other.code() != literal.code() {
                 mark(&mut self.needed, !other)?;
             }
         }
-        Ok(())
+        if codes.len() < 2 {
+            return Ok(());
+        }
+        let one = Lit::from_code(codes[0] as usize);
+        let other = Lit::from_code(codes[1] as usize);
+        self.tiers.warm(place, reason.key, one, other)
     }
 
     /// Makes the way to the last literal and its opposite.
@@ -334,6 +387,7 @@ impl<A: Allocator + Copy> Guide<A> {
             };
             self.push(literal, reason)?;
         }
+        self.tiers.begin()?;
         let is_conflict = self.propagate(first)?;
         if is_conflict {
             return self.trace(first);

@@ -13,6 +13,7 @@ pub mod present;
 mod propagation;
 mod resolvents;
 pub mod sets;
+mod tiers;
 mod watches;
 
 pub use known::Known;

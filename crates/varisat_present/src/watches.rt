@@ -18,11 +18,30 @@ pub struct Watch {
 /// Marks the keys of clauses of two literals.
 pub const OF_TWO: u32 = 0x8000_0000;
 
-/// For each literal the watches on it.
+/// Which watches on a literal are meant.
+#[derive(Clone, Copy)]
+pub enum Tier {
+    Hot,
+    Cold,
+}
+
+/// The number of a literal's list. The two of a literal lie side by side.
+fn slot_of(tier: Tier, literal: Lit) -> usize {
+    let cold = literal.code().saturating_mul(2);
+    match tier {
+        Tier::Hot => cold.saturating_add(1),
+        Tier::Cold => cold,
+    }
+}
+
+/// From this number on lists are looked up in a map.
+const SLOT_LIMIT: usize = PLACE_LIMIT * 2;
+
+/// For each literal the watches on it, in two lists.
 #[derive(Drop)]
 pub struct Watches<A: Allocator + Copy> {
     alloc: A,
-    /// By a literal's code, for those below `PLACE_LIMIT`.
+    /// By their numbers, for those below `SLOT_LIMIT`.
     lists: Vec<Vec<Watch, A>, A>,
     /// For the others.
     far: BTreeMap<usize, Vec<Watch, A>, A>,
@@ -40,87 +59,90 @@ impl<A: Allocator + Copy> Watches<A> {
 
     /// Takes all watches out.
     pub fn clear(&mut self) {
-        for code in 0..self.lists.len() {
-            self.lists[code].clear();
+        for slot in 0..self.lists.len() {
+            self.lists[slot].clear();
         }
         self.far.clear();
     }
 
-    /// The list of the literal of this code, if it has one.
-    fn list_mut(&mut self, code: usize) -> Option<&mut Vec<Watch, A>> {
-        if code >= PLACE_LIMIT {
-            self.far.get_mut(&code)
+    /// The list of this number, if it was made.
+    fn list_mut(&mut self, slot: usize) -> Option<&mut Vec<Watch, A>> {
+        if slot >= SLOT_LIMIT {
+            self.far.get_mut(&slot)
         } else {
-            self.lists.get_mut(code)
+            self.lists.get_mut(slot)
         }
     }
 
-    /// Takes out the watches on a literal.
-    pub fn take_list(&mut self, literal: Lit) -> Vec<Watch, A> {
+    /// Whether a list has no watches.
+    pub fn is_empty(&self, tier: Tier, literal: Lit) -> bool {
+        let slot = slot_of(tier, literal);
+        if slot < self.lists.len() {
+            return self.lists[slot].is_empty();
+        }
+        match self.far.get(&slot) {
+            None => true,
+            Some(list) => list.is_empty(),
+        }
+    }
+
+    /// Takes a list out.
+    pub fn take_list(&mut self, tier: Tier, literal: Lit) -> Vec<Watch, A> {
         let empty = Vec::new(self.alloc);
-        match self.list_mut(literal.code()) {
+        match self.list_mut(slot_of(tier, literal)) {
             Some(list) => mem::replace(list, empty),
             None => empty,
         }
     }
 
-    /// Puts the watches on a literal back.
-    pub fn put_list(&mut self, literal: Lit, list: Vec<Watch, A>) {
-        if let Some(place) = self.list_mut(literal.code()) {
+    /// Puts a list back.
+    pub fn put_list(&mut self, tier: Tier, literal: Lit, list: Vec<Watch, A>) {
+        if let Some(place) = self.list_mut(slot_of(tier, literal)) {
             *place = list;
         }
     }
 
     // The rare cases of `add` have functions of their own, so that it saves few registers.
-    /// One more watch on a literal whose code is not below `PLACE_LIMIT`.
+    /// One more watch in a list whose number is not below `SLOT_LIMIT`.
     #[cold]
     #[inline(never)]
-    fn add_far(&mut self, literal: Lit, watch: Watch) -> Result<(), AllocError> {
+    fn add_far(&mut self, slot: usize, watch: Watch) -> Result<(), AllocError> {
         self.far
-            .entry(literal.code())?
+            .entry(slot)?
             .or_insert(Vec::new(self.alloc))
             .push(watch)?;
         Ok(())
     }
 
-    /// Makes lists up to that of the literal.
+    /// Makes lists up to that of the number.
     #[cold]
     #[inline(never)]
-    fn reach(&mut self, literal: Lit) -> Result<(), AllocError> {
-        for _ in self.lists.len()..literal.code() + 1 {
+    fn reach(&mut self, slot: usize) -> Result<(), AllocError> {
+        for _ in self.lists.len()..slot.saturating_add(1) {
             self.lists.push(Vec::new(self.alloc))?;
         }
         Ok(())
     }
 
     /// One more watch on a literal.
-    pub fn add(&mut self, literal: Lit, watch: Watch) -> Result<(), AllocError> {
-        let code = literal.code();
-        if code >= PLACE_LIMIT {
-            self.add_far(literal, watch)?;
+    pub fn add(&mut self, tier: Tier, literal: Lit, watch: Watch) -> Result<(), AllocError> {
+        let slot = slot_of(tier, literal);
+        if slot >= SLOT_LIMIT {
+            self.add_far(slot, watch)?;
             return Ok(());
         }
-        if code >= self.lists.len() {
-            self.reach(literal)?;
+        if slot >= self.lists.len() {
+            self.reach(slot)?;
         }
-        if code < self.lists.len() {
-            self.lists[code].push(watch)?;
+        if slot < self.lists.len() {
+            self.lists[slot].push(watch)?;
         }
-        Ok(())
-    }
-
-    /// Both literals are watched by this key.
-    pub fn add_both(&mut self, key: u32, one: Lit, other: Lit) -> Result<(), AllocError> {
-        let blocking = other;
-        self.add(one, Watch { key, blocking })?;
-        let blocking = one;
-        self.add(other, Watch { key, blocking })?;
         Ok(())
     }
 
     /// Takes out a watch on a literal by this key.
-    pub fn remove(&mut self, key: u32, literal: Lit) {
-        let Some(list) = self.list_mut(literal.code()) else {
+    pub fn remove(&mut self, tier: Tier, key: u32, literal: Lit) {
+        let Some(list) = self.list_mut(slot_of(tier, literal)) else {
             return;
         };
         for i in 0..list.len() {

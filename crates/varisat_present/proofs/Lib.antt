@@ -8,3 +8,4 @@ pub mod KnownGrowth
 pub mod KeptLiterals
 pub mod RatPlaces
 pub mod FirstPlaces
+pub mod QuietPairs

@@ -8,6 +8,7 @@ mod firsts;
 mod guide;
 mod index;
 pub mod known;
+mod pairs;
 mod places;
 pub mod present;
 mod propagation;

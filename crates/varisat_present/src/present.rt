@@ -9,6 +9,7 @@ ghost use Rattle.varisat_theory.specs.promises.Rat.{ResolventsFollow};
 ghost use Rattle.varisat_theory.specs.promises.Membership.{◌∈◌, SameSet};
 ghost use Rattle.varisat_theory.specs.promises.Propagation.{Conflicts, Follows, HasClash, IsComplete, IsFalse, LeavesOnly};
 ghost use Rattle.varisat_present.specs.inside.Places.{present, present_at};
+ghost use Rattle.varisat_present.specs.inside.Pairs.{HaveLiterals};
 ghost use Rattle.varisat_present.specs.inside.Knowing.{IsSpare, Asks, Sees, AreImplied, Keeps, IsPropagatedTo};
 ghost use Rattle.varisat_present.specs.promises.Resolving.{AllConflict, IsForced, IsRatOnSome, IsDeletionOf, IsResolventFound};
 
@@ -17,6 +18,7 @@ use crate::firsts::{UNSEEN, first_of, note_all};
 use crate::guide::Guide;
 use crate::index::{ClauseIndex, key_of};
 use crate::known::Known;
+use crate::pairs::list_literals;
 use crate::places::{clause_at, drop_mentions, find_place, has_clause, is_equal_at};
 use crate::propagation::{assume, propagate, saturate};
 use crate::resolvents::{add_others, negated};
@@ -25,9 +27,12 @@ use std::marker::Model;
 use varisat_literals::{Lit, Var};
 use varisat_plain::propagation::ClauseStatus;
 
+/// Literals of clauses are chosen anew where one of so many clauses has none.
+const FEW: usize = 64;
+
 /// Present clauses, in the order in which they were added. What they imply by propagation alone is kept between calls,
 /// so that a question costs in proportion to what is propagated for it. A deletion of the only clause that implied a
-/// kept literal, and each new literal that the clauses imply, costs a look at every clause.
+/// kept literal, and each new literal that the clauses imply, costs a pass over all clauses.
 #[derive(Drop)]
 pub struct PresentClauses<A: Allocator + Copy> {
     alloc: A,
@@ -36,6 +41,9 @@ pub struct PresentClauses<A: Allocator + Copy> {
     known: Known<A>,
     /// Whether propagation came to its end with them.
     is_saturated: bool,
+    /// For each of the first places two literals of its clause, which tell whether a pass has to look at it.
+    ones: Vec<Lit, A>,
+    others: Vec<Lit, A>,
     guide: Guide<A>,
     index: ClauseIndex<A>,
     /// By a literal's code, for those below `PLACE_LIMIT`, a place before which no clause has it.
@@ -49,13 +57,15 @@ impl<A: Allocator + Copy> Model for PresentClauses<A> {
     ghost use Rattle.varisat_theory.specs.promises.Literals.{Clause};
     ghost use Rattle.varisat_present.specs.inside.Places.{present};
     ghost use Rattle.varisat_present.specs.inside.Knowing.{Keeps};
+    ghost use Rattle.varisat_present.specs.inside.Pairs.{HaveLiterals};
     ghost use Rattle.varisat_present.specs.promises.Resolving.{AreFirst};
 
     ghost Value = { List Clause };
 
     ghost view = { λ p. present p.places.items };
 
-    ghost invariant = { λ p. Keeps p.is_saturated (present p.places.items) p.known × AreFirst p.places.items p.firsts.items };
+    ghost invariant = { λ p. Keeps p.is_saturated (present p.places.items) p.known × AreFirst p.places.items p.firsts.items
+        × HaveLiterals p.places.items p.ones.items × HaveLiterals p.places.items p.others.items };
 }
 
 /// The place of a clause that is equal as a set, if the index leads to one.
@@ -176,15 +186,19 @@ fn propagate_to_end<A: Allocator + Copy>(
     places: &[Option<Vec<Lit, A>>],
     known: &mut Known<A>,
     guide: &mut Guide<A>,
+    ones: &[Lit],
+    others: &[Lit],
     is_saturated: bool,
 ) -> Result<bool, AllocError>
-    requires { Keeps is_saturated (present places.now) known.old }
+    requires keeps { Keeps is_saturated (present places.now) known.old }
+    requires ones { HaveLiterals places.now ones.now }
+    requires others { HaveLiterals places.now others.now }
     ensures { IfOk result (λ found. IsPropagatedTo (present places.now) found known.new) }
 {
     if is_saturated {
         return Ok(false);
     }
-    let found = saturate(places, known, guide)?;
+    let found = saturate(places, known, guide, ones, others)?;
     Ok(found)
 }
 
@@ -208,7 +222,7 @@ fn ask<A: Allocator + Copy>(
     if conflicts {
         return Ok(true);
     }
-    let found = saturate(places, known, guide)?;
+    let found = saturate(places, known, guide, &[], &[])?;
     Ok(found)
 }
 
@@ -307,6 +321,8 @@ impl<A: Allocator + Copy> PresentClauses<A> {
             places: Vec::new(alloc),
             known: Known::new_in(alloc),
             is_saturated: false,
+            ones: Vec::new(alloc),
+            others: Vec::new(alloc),
             guide: Guide::new_in(alloc),
             index: ClauseIndex::new_in(alloc),
             firsts: Vec::new(alloc),
@@ -400,6 +416,19 @@ impl<A: Allocator + Copy> PresentClauses<A> {
         true
     }
 
+    /// Chooses two literals of each clause anew, if all clauses are to be passed and many were added since.
+    fn note_literals(&mut self) -> Result<(), AllocError>
+        ensures { self.new ≡ self.old }
+    {
+        let few = self.places.len() / FEW;
+        if self.is_saturated || self.others.len().saturating_add(few) >= self.places.len() {
+            return Ok(());
+        }
+        list_literals(&self.places, &self.known, &[], &mut self.ones)?;
+        list_literals(&self.places, &self.known, &self.ones, &mut self.others)?;
+        Ok(())
+    }
+
     /// Whether all literals of the clause but one are implied to be false, if the clause is present.
     fn is_forced(&mut self, clause: &[Lit]) -> Result<bool, AllocError>
         ensures yes { IfOk result (λ found. found ≡ true → IsForced self.old clause.now) }
@@ -412,6 +441,8 @@ impl<A: Allocator + Copy> PresentClauses<A> {
             &self.places,
             &mut self.known,
             &mut self.guide,
+            &self.ones,
+            &self.others,
             self.is_saturated,
         ) {
             Ok(found) => {
@@ -454,6 +485,8 @@ impl<A: Allocator + Copy> PresentClauses<A> {
         drop_mentions(&mut self.places, var);
         self.known.cut(0);
         self.is_saturated = false;
+        self.ones.clear();
+        self.others.clear();
     }
 
     /// Whether unit propagation over the clauses conflicts.
@@ -465,6 +498,8 @@ impl<A: Allocator + Copy> PresentClauses<A> {
             &self.places,
             &mut self.known,
             &mut self.guide,
+            &self.ones,
+            &self.others,
             self.is_saturated,
         ) {
             Ok(found) => {
@@ -484,6 +519,7 @@ impl<A: Allocator + Copy> PresentClauses<A> {
         ensures found { IfOk result (λ found. IsTrue found ↔ Conflicts self.old base.now) }
         ensures frame { self.new ≡ self.old }
     {
+        self.note_literals()?;
         let is_refuted = self.is_refuted()?;
         if is_refuted {
             return Ok(true);

@@ -5,11 +5,13 @@ ghost use Rattle.varisat_theory.specs.promises.Membership.{◌∈◌};
 ghost use Rattle.varisat_theory.specs.promises.Literals.{opposite};
 ghost use Rattle.varisat_theory.specs.promises.Propagation.{HasClash};
 ghost use Rattle.varisat_present.specs.inside.Places.{present};
+ghost use Rattle.varisat_present.specs.inside.Pairs.{HaveLiterals};
 ghost use Rattle.varisat_present.specs.inside.Knowing.{Finds, Saturates, Passes, TakesBase, IsPassed};
 
 use crate::clause::status_of;
 use crate::guide::Guide;
 use crate::known::Known;
+use crate::pairs::is_quiet_at;
 use crate::places::clause_at;
 use std::alloc::{AllocError, Allocator};
 use varisat_literals::Lit;
@@ -73,15 +75,23 @@ pub fn propagate<A: Allocator + Copy>(
     Ok(found)
 }
 
-/// Passes all clauses once. Returns whether one is false.
+/// Passes all clauses once, but for those of which two literals tell that nothing is to be propagated. Returns whether one is
+/// false.
 fn pass<A: Allocator + Copy>(
     places: &[Option<Vec<Lit, A>>],
     known: &mut Known<A>,
+    ones: &[Lit],
+    others: &[Lit],
 ) -> Result<bool, AllocError>
-    requires { HasClash known.old → ⊥ }
+    requires no_clash { HasClash known.old → ⊥ }
+    requires ones { HaveLiterals places.now ones.now }
+    requires others { HaveLiterals places.now others.now }
     ensures { IfOk result (λ found. Passes (present places.now) known.old found known.new) }
 {
     for place in 0..places.len() {
+        if is_quiet_at(known, ones, others, place) {
+            continue;
+        }
         let clause = match clause_at(places, place) {
             None => continue,
             Some(clause) => clause,
@@ -122,8 +132,12 @@ pub fn saturate<A: Allocator + Copy>(
     places: &[Option<Vec<Lit, A>>],
     known: &mut Known<A>,
     guide: &mut Guide<A>,
+    ones: &[Lit],
+    others: &[Lit],
 ) -> Result<bool, AllocError>
-    requires { HasClash known.old → ⊥ }
+    requires no_clash { HasClash known.old → ⊥ }
+    requires ones { HaveLiterals places.now ones.now }
+    requires others { HaveLiterals places.now others.now }
     ensures { IfOk result (λ found. Saturates (present places.now) known.old found known.new) }
 {
     let is_refuted = take_newest(places, known, guide)?;
@@ -132,7 +146,7 @@ pub fn saturate<A: Allocator + Copy>(
     }
     'rounds: loop {
         let count = known.len();
-        let is_false = pass(places, known)?;
+        let is_false = pass(places, known, ones, others)?;
         if is_false {
             return Ok(true);
         }

@@ -3,11 +3,11 @@ use Rattle.varisat_present.proofs.KeptLiterals.{propagated_already, propagated_f
 use Rattle.varisat_present.proofs.present.propagate_to_end.Goals as goal
 
 pub returns-then-is_saturated : goal.returns-then-is_saturated
-returns-then-is_saturated g c = propagated_already c.args.is_saturated (present c.args.places.now) c.args.known.now c.if-is_saturated.true c.requires
+returns-then-is_saturated g c = propagated_already c.args.is_saturated (present c.args.places.now) c.args.known.now c.if-is_saturated.true c.requires.keeps
 
 pub returns : goal.returns
 returns g c =
-    propagated_found c.args.is_saturated (present c.args.places.now) c.args.known.now c.saturate.new.known c.in_ok-found.found c.requires c.in_ok-found.ensures
+    propagated_found c.args.is_saturated (present c.args.places.now) c.args.known.now c.saturate.new.known c.in_ok-found.found c.requires.keeps c.in_ok-found.ensures
 
-pub saturate-requires : goal.saturate-requires
-saturate-requires g c = c.requires.no_clash
+pub saturate-requires-clause-no_clash : goal.saturate-requires-clause-no_clash
+saturate-requires-clause-no_clash g c = c.requires.keeps.no_clash

@@ -3,15 +3,21 @@ use Rattle.varisat_present.specs.inside.Places.{present}
 use Rattle.varisat_present.specs.inside.Knowing.{IsPassed}
 use Rattle.varisat_present.proofs.PlacedClauses.{at_in, present_more, present_same, present_all}
 use Rattle.varisat_present.proofs.KnownGrowth.{round_start, round_same, round_on, round_false, round_end}
+use Rattle.varisat_present.proofs.QuietPairs.{round_quiet}
 use Rattle.varisat_present.proofs.propagation.pass.Goals as goal
 
 pub loop-place-init : goal.loop-place-init
-loop-place-init g c = round_start (present c.args.places.now) c.args.known.now c.requires
+loop-place-init g c = round_start (present c.args.places.now) c.args.known.now c.requires.no_clash
 
 pub loop-place-preserved-in-None : goal.loop-place-preserved-in-None
 loop-place-preserved-in-None g c =
     round_same (present c.args.places.now) c.args.known.now c.loop-place.known (present (take c.loop-place.place c.args.places.now)) _
     (present_same c.args.places.now c.loop-place.place c.in-None.ensures) c.loop-place.invariant
+
+pub loop-place-preserved-then-is_quiet_at : goal.loop-place-preserved-then-is_quiet_at
+loop-place-preserved-then-is_quiet_at g c =
+    round_quiet c.args.places.now c.args.ones.now c.args.others.now c.args.known.now c.loop-place.known c.loop-place.place c.requires.ones c.requires.others
+    (c.is_quiet_at.ensures c.if-is_quiet_at.true) c.loop-place.invariant
 
 pub returns-then-is_false : goal.returns-then-is_false
 returns-then-is_false g c =

@@ -15,6 +15,8 @@ pub invariant_of-self : goal.invariant_of-self
 invariant_of-self g c = (
   subst (λ (x : List Literal). Keeps c.self.inside.is_saturated (present c.self.inside.places.items) x) (sym c.in-Ok.ensures.frame) c.self.invariant.0,
   c.self.invariant.1,
+  c.self.invariant.2,
+  c.self.invariant.3,
 )
 
 pub returns-in-Ok-clause-found : goal.returns-in-Ok-clause-found

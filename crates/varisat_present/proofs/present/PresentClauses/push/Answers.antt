@@ -5,6 +5,7 @@ use Rattle.varisat_present.specs.inside.Knowing.{Keeps}
 use Rattle.varisat_present.proofs.PlacedClauses.{present_added}
 use Rattle.varisat_present.proofs.FirstPlaces.{first_pushed}
 use Rattle.varisat_present.proofs.KeptLiterals.{keeps_added}
+use Rattle.varisat_present.proofs.QuietPairs.{literals_added}
 use Rattle.varisat_present.proofs.present.PresentClauses.push.Goals as goal
 
 pub invariant_of-self-2 : goal.invariant_of-self-2
@@ -17,6 +18,8 @@ invariant_of-self-2 g c = (
       c.note_all.new.firsts.items c.len.result c.in_ok-push.ensures.items c.in_ok-copy.ensures.items
       (omega (arith, c.len.ensures)) c.self.invariant.1
       c.note_all.ensures.lowered c.in_ok-note_all.ensures.noted,
+  literals_added c.self.inside.places.items c.push.new.self.items c.in_ok-copy.copy c.self.inside.ones.items c.in_ok-push.ensures.items c.self.invariant.2,
+  literals_added c.self.inside.places.items c.push.new.self.items c.in_ok-copy.copy c.self.inside.others.items c.in_ok-push.ensures.items c.self.invariant.3,
 )
 
 pub returns-clause-ok : goal.returns-clause-ok

@@ -6,6 +6,7 @@ use Rattle.varisat_present.specs.inside.Places.{present}
 use Rattle.varisat_present.specs.inside.Knowing.{IsSpare}
 use Rattle.varisat_present.proofs.PlacedClauses.{at_in_slice, at_within, takes_out}
 use Rattle.varisat_present.proofs.FirstPlaces.{first_emptied}
+use Rattle.varisat_present.proofs.QuietPairs.{literals_emptied}
 use Rattle.varisat_present.proofs.KeptLiterals.{keeps_without, keeps_none}
 use Rattle.varisat_present.proofs.present.PresentClauses.take_out.Goals as goal
 
@@ -29,6 +30,8 @@ invariant_of-self g c = (
       (present (set c.self.inside.places.items c.in-Some.place None)) c.args.clause.now c.self.inside.known w.0 t
       (subst (λ (P : List Clause). IsSpare P c.self.inside.known c.args.clause.now) (ap present c.deref-2.ensures.value) w.1) c.self.invariant.0,
   first_emptied c.self.inside.places.items c.in-Some.place c.self.inside.firsts.items c.self.invariant.1,
+  literals_emptied c.self.inside.places.items c.in-Some.place c.self.inside.ones.items c.self.invariant.2,
+  literals_emptied c.self.inside.places.items c.in-Some.place c.self.inside.others.items c.self.invariant.3,
 )
 
 pub returns-then-is_spare-clause-taken : goal.returns-then-is_spare-clause-taken
@@ -49,4 +52,6 @@ pub invariant_of-self-2 : goal.invariant_of-self-2
 invariant_of-self-2 g c = (
   keeps_none _ _ _ refl c.cut.ensures,
   first_emptied c.self.inside.places.items c.in-Some.place c.self.inside.firsts.items c.self.invariant.1,
+  literals_emptied c.self.inside.places.items c.in-Some.place c.self.inside.ones.items c.self.invariant.2,
+  literals_emptied c.self.inside.places.items c.in-Some.place c.self.inside.others.items c.self.invariant.3,
 )

@@ -27,6 +27,15 @@ TOLD = re.compile(r"^lines (\d+), RAT on the first literal (\d+), on another (\d
 # Marks of lines in FRAT: clauses that DRAT has too, and those that only tell what the solver was given, still has, or counts anew.
 ADDED, DELETED = "a", "d"
 ONLY_FRAT = ("o", "f", "r")
+# Our own formulas: those of `check`, some of `learning`, and smaller ones of the same kinds.
+LEARNING = ("pigeonhole-7", "monitored-unsat", "colouring-150-unsat", "counter-9-unsat", "parity-30-unsat", "multiplier-7-unsat", "factoring-30-unsat")
+FORMULAS = {
+    **check.FORMULAS,
+    **{name: learning.FORMULAS[name] for name in LEARNING},
+    "counter-8-unsat": lambda: formulas.counter(8, 250, 251),
+    "parity-28-unsat": lambda: formulas.parity(28, 2),
+    "multiplier-6-unsat": lambda: formulas.commutativity(6),
+}
 
 
 @dataclass
@@ -200,8 +209,8 @@ def print_ends(rows):
 
 
 def texts(arguments, folder):
-    """The texts of the folder that was named, and those of `check`, which are written into the other one."""
-    for name, make in check.FORMULAS.items():
+    """The texts of the folder that was named, and our own formulas, which are written into the other one."""
+    for name, make in FORMULAS.items():
         formulas.write(f"{folder}/{name}.cnf", make())
     paths = [os.path.join(place, name) for place in (arguments.folder, folder) for name in sorted(os.listdir(place))]
     paths = [path for path in paths if path.endswith((".cnf", ".cnf.xz")) and (not arguments.only or name_of(path) in arguments.only)]

@@ -255,6 +255,43 @@ fn is_shorter<A: Allocator + Copy>(db: &Database<A>, count: usize) -> bool {
     left <= before - before / 20
 }
 
+/// What was loaded, as it is.
+fn stay<A: Allocator + Copy>(
+    alloc: A,
+    db: &Database<A>,
+    count: usize,
+) -> Result<Simplified<A>, FormulaError>
+    requires { count ≤ length db.now.clauses }
+    ensures made { IfOk result (λ s. Finishes db.now count s.formula s.stack s.history.lines) }
+    ensures memory { IfErr result (λ e. e ≡ Memory) }
+{
+    let formula = unload_first(db, alloc, count)?;
+    Ok(Simplified {
+        formula,
+        stack: ClauseList::new_in(alloc),
+        history: History::new_in(alloc),
+    })
+}
+
+/// What is left. Only the stack and the history live on, so that no error has more to give back.
+fn hand_out<A: Allocator + Copy>(
+    alloc: A,
+    db: Database<A>,
+    count: usize,
+) -> Result<Simplified<A>, FormulaError>
+    ensures made { IfOk result (λ s. Finishes db count s.formula s.stack s.history.lines) }
+    ensures memory { IfErr result (λ e. e ≡ Memory) }
+{
+    let formula = unload(&db, alloc);
+    let (stack, history) = db.into_parts();
+    let formula = formula?;
+    Ok(Simplified {
+        formula,
+        stack,
+        history,
+    })
+}
+
 /// What is left, or what was loaded if that is hardly longer: a search of clauses that were only made others takes
 /// longer as often as not.
 fn finish<A: Allocator + Copy>(
@@ -266,21 +303,10 @@ fn finish<A: Allocator + Copy>(
     ensures made { IfOk result (λ s. Finishes db count s.formula s.stack s.history.lines) }
     ensures memory { IfErr result (λ e. e ≡ Memory) }
 {
-    if !is_shorter(&db, count) {
-        let formula = unload_first(&db, alloc, count)?;
-        return Ok(Simplified {
-            formula,
-            stack: ClauseList::new_in(alloc),
-            history: History::new_in(alloc),
-        });
+    if is_shorter(&db, count) {
+        return hand_out(alloc, db, count);
     }
-    let formula = unload(&db, alloc)?;
-    let (stack, history) = db.into_parts();
-    Ok(Simplified {
-        formula,
-        stack,
-        history,
-    })
+    stay(alloc, &db, count)
 }
 
 /// Makes a formula that has a model just where the given one has, and whose models are extended to ones of it.

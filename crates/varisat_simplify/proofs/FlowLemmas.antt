@@ -12,6 +12,7 @@ use Rattle.varisat_theory.proofs.clauses.Places.{∈-take_more, ∈-take_all}
 use Rattle.varisat_theory.proofs.clauses.Values.{true_or_opposite}
 use Rattle.varisat_simplify.specs.promises.Stacks.{assignment_of, extended}
 use Rattle.varisat_simplify.specs.inside.States.{State, no_clauses, given, pushed, removed, clause_at, IsLive, live_clauses, flagged, deletion, Models, Reduces, Becomes, Collects}
+use Rattle.varisat_simplify.specs.inside.Loading.{IsLoaded}
 use Rattle.varisat_simplify.specs.inside.Resolving.{LeavesOut}
 use Rattle.varisat_theory.specs.promises.Searches.{IsTautology}
 use Rattle.varisat_simplify.proofs.StateLemmas.{becomes_self, live_below, live_pushed, pushed_keeps, pushed_live, pushed_even, pushed_new, removed_even, removed_keeps, removed_live, remove_reduces, satisfies_more, satisfies_same, strengthened}
@@ -229,26 +230,23 @@ loads_give P rest tail n frozen s t c e d q same eq qt r = subst (λ (u : State)
   flags = r.flags;
 })
 
-pub loads_end : (P rest : List Clause) (n : ℕ) (frozen : List Bool) (s : State) → rest ≡ [] → Loads P rest n frozen s → Reduces P s
+-- nothing is left to load
+pub loads_end : (P rest : List Clause) (n : ℕ) (frozen : List Bool) (s : State) → rest ≡ [] → Loads P rest n frozen s → IsLoaded P n frozen s
 loads_end P rest n frozen s e r = record {
-  even = r.even;
-  keeps = r.keeps;
-  extends = λ vs h m. subst (λ (st : List Clause). SatisfiesAll (assignment_of (extended st vs)) P) (sym r.empty)
-      (subst (λ (Q : List Clause). SatisfiesAll (assignment_of vs) Q) all (r.backs (assignment_of vs) m));
-  leads = subst (λ (l : List Clause). LeadsTo P s.lines l) (ap (λ (l : List Clause). live_clauses s ++ l) e ∙ append-nil (live_clauses s)) r.leads;
-  named = r.named;
-  spoken = r.spoken;
-  thawed = λ c m. absurd (subst (λ (st : List Clause). c ∈ st) r.empty m);
+  reduces = record {
+    even = r.even;
+    keeps = r.keeps;
+    extends = λ vs h m. subst (λ (st : List Clause). SatisfiesAll (assignment_of (extended st vs)) P) (sym r.empty)
+        (subst (λ (Q : List Clause). SatisfiesAll (assignment_of vs) Q) all (r.backs (assignment_of vs) m));
+    leads = subst (λ (l : List Clause). LeadsTo P s.lines l) (ap (λ (l : List Clause). live_clauses s ++ l) e ∙ append-nil (live_clauses s)) r.leads;
+    named = r.named;
+    spoken = r.spoken;
+    thawed = λ c m. absurd (subst (λ (st : List Clause). c ∈ st) r.empty m);
+  };
+  same = subst (λ (l : List Clause). SameClauses l P) (ap (λ (l : List Clause). s.clauses ++ l) e ∙ append-nil s.clauses) r.same;
+  count = r.count;
+  flags = r.flags;
 }
   where
     all : r.front ≡ P
     all = sym (append-nil r.front) ∙ ap (λ (x : List Clause). r.front ++ x) (sym e) ∙ r.whole
-
-pub loads_same : (P rest : List Clause) (n : ℕ) (frozen : List Bool) (s : State) → rest ≡ [] → Loads P rest n frozen s → SameClauses s.clauses P
-loads_same P rest n frozen s e r = subst (λ (l : List Clause). SameClauses l P) (ap (λ (l : List Clause). s.clauses ++ l) e ∙ append-nil s.clauses) r.same
-
-pub loads_count : (P rest : List Clause) (n : ℕ) (frozen : List Bool) (s : State) → Loads P rest n frozen s → s.var_count ≡ n
-loads_count P rest n frozen s r = r.count
-
-pub loads_flags : (P rest : List Clause) (n : ℕ) (frozen : List Bool) (s : State) → Loads P rest n frozen s → s.frozen ≡ frozen
-loads_flags P rest n frozen s r = r.flags

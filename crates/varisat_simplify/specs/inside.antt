@@ -2,6 +2,7 @@
 pub mod Cuts
 pub mod Flags
 pub mod Lending
+pub mod Loading
 pub mod Names
 pub mod Resolving
 pub mod Sound

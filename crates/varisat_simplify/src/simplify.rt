@@ -1,9 +1,9 @@
 //! The simplification of a formula.
 ghost use Rattle.std.specs.Prelude.{◌≡◌, ℕ, ◌/◌, ◌<◌, ◌≤◌, ◌^◌, length, take, OnOk, IfOk, IfErr};
 ghost use Rattle.varisat_formula.specs.declared.formula.cnf.FormulaError.TheVariants.{Memory};
-ghost use Rattle.varisat_theory.specs.promises.Held.{SameClauses};
 ghost use Rattle.varisat_formula.specs.promises.Formulas.{AllBelow, AreBelow};
-ghost use Rattle.varisat_simplify.specs.inside.States.{no_clauses, Reduces, Becomes};
+ghost use Rattle.varisat_simplify.specs.inside.States.{no_clauses, Becomes};
+ghost use Rattle.varisat_simplify.specs.inside.Loading.{IsLoaded};
 ghost use Rattle.varisat_simplify.specs.promises.Stacks.{extended, KeepsFrozen};
 ghost use Rattle.varisat_simplify.specs.promises.Simplified.{Lists, Finishes, IsReduced, IsMadeOf};
 
@@ -94,10 +94,7 @@ fn load<A: Allocator + Copy>(
     literals: &mut Vec<Lit, A>,
 ) -> Result<(), AllocError>
     requires { db.old ≡ no_clauses db.old.var_count db.old.frozen }
-    ensures reduces { OnOk result (Reduces formula.now.clauses db.new) }
-    ensures same { OnOk result (SameClauses db.new.clauses formula.now.clauses) }
-    ensures count { OnOk result (db.new.var_count ≡ db.old.var_count) }
-    ensures frozen { OnOk result (db.new.frozen ≡ db.old.frozen) }
+    ensures { OnOk result (IsLoaded formula.now.clauses db.old.var_count db.old.frozen db.new) }
 {
     db.reserve_for(formula)?;
     for clause in formula.iter() {

@@ -1,6 +1,6 @@
 use Rattle.std.proofs.Common.{refl, ◌∙◌}
 use Rattle.varisat_simplify.proofs.EliminateSteps.{matched_true, matched_false}
-use Rattle.varisat_simplify.proofs.FlowLemmas.{loads_first, loads_give, loads_skip, loads_end, loads_same, loads_count, loads_flags}
+use Rattle.varisat_simplify.proofs.FlowLemmas.{loads_first, loads_give, loads_skip, loads_end}
 use Rattle.varisat_simplify.proofs.simplify.load.Goals as goal
 
 pub loop-clause-init : goal.loop-clause-init
@@ -8,23 +8,10 @@ loop-clause-init g c =
     loads_first c.args.formula.now.clauses c.into_iter-clause-iterator.result c.args.db.now.var_count c.args.db.now.frozen c.reserve_for.new.self (c.reserve_for.ensures ∙ c.requires)
     (c.into_iter-clause-iterator.ensures.into_iter_gives ∙ c.iter-clause-items.ensures)
 
-pub returns-clause-reduces : goal.returns-clause-reduces
-returns-clause-reduces g c =
+pub returns : goal.returns
+returns g c =
     loads_end c.args.formula.now.clauses c.loop-clause.clause-iterator c.args.db.now.var_count c.args.db.now.frozen c.loop-clause.db
     (c.in-None.ensures {u = tt}).steps.0 c.loop-clause.invariant
-
-pub returns-clause-same : goal.returns-clause-same
-returns-clause-same g c =
-    loads_same c.args.formula.now.clauses c.loop-clause.clause-iterator c.args.db.now.var_count c.args.db.now.frozen c.loop-clause.db
-    (c.in-None.ensures {u = tt}).steps.0 c.loop-clause.invariant
-
-pub returns-clause-count : goal.returns-clause-count
-returns-clause-count g c =
-    loads_count c.args.formula.now.clauses c.loop-clause.clause-iterator c.args.db.now.var_count c.args.db.now.frozen c.loop-clause.db c.loop-clause.invariant
-
-pub returns-clause-frozen : goal.returns-clause-frozen
-returns-clause-frozen g c =
-    loads_flags c.args.formula.now.clauses c.loop-clause.clause-iterator c.args.db.now.var_count c.args.db.now.frozen c.loop-clause.db c.loop-clause.invariant
 
 pub loop-clause-preserved-in-Continue-branch-3 : goal.loop-clause-preserved-in-Continue-branch-3
 loop-clause-preserved-in-Continue-branch-3 g c =

@@ -15,7 +15,7 @@ returns-clause-reduced g c =
           (becomes_next c.load.new.db c.propagate.new.db c.list_all.new.self (c.in_ok-propagate.ensures {u = tt}) c.list_all.ensures)
           (c.in_ok-run.ensures {u = tt})) c.unlist.ensures;
       vars = r.count;
-      flags = r.frozen;
+      flags = r.flags;
       whole = c.len-count.ensures.count;
     }
 

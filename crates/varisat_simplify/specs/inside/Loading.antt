@@ -1,0 +1,12 @@
+-- What a database holds once clauses were loaded.
+use Rattle.std.specs.Prelude.{◌≡◌, ℕ, Bool, List}
+use Rattle.varisat_theory.specs.promises.Literals.{Clause}
+use Rattle.varisat_theory.specs.promises.Held.{SameClauses}
+use Rattle.varisat_simplify.specs.inside.States.{State, Reduces}
+
+-- The clauses P were loaded, over so many variables, of which the flagged ones are frozen.
+pub record IsLoaded (P : List Clause) (n : ℕ) (frozen : List Bool) (s : State) : Type 0 where
+  pub reduces : Reduces P s
+  pub same : SameClauses s.clauses P
+  pub count : s.var_count ≡ n
+  pub flags : s.frozen ≡ frozen

@@ -51,21 +51,14 @@ fn signature_of(clause: &[Lit]) -> u32 {
     bits
 }
 
-/// Counts one clause more, or fewer, for each of the literals.
-fn recount<A: Allocator + Copy>(
-    counts: &mut [u32],
-    names: &ShortNames<A>,
-    clause: &[Lit],
-    is_added: bool,
-) {
-    for lit in clause {
-        if let Some(count) = counts.get_mut(names.of(*lit).code()) {
-            *count = if is_added {
-                count.saturating_add(1)
-            } else {
-                count.saturating_sub(1)
-            };
-        }
+/// Counts one clause more, or fewer, for a literal under its short name.
+fn recount(counts: &mut [u32], short: Lit, is_added: bool) {
+    if let Some(count) = counts.get_mut(short.code()) {
+        *count = if is_added {
+            count.saturating_add(1)
+        } else {
+            count.saturating_sub(1)
+        };
     }
 }
 
@@ -73,15 +66,15 @@ fn recount<A: Allocator + Copy>(
 fn touch<A: Allocator + Copy>(
     touched: &mut Vec<Var, A>,
     flags: &mut [bool],
-    names: &ShortNames<A>,
+    short: Lit,
     lit: Lit,
 ) {
-    let short = names.of(lit).index();
-    if short >= flags.len() || flags[short] {
+    let index = short.index();
+    if index >= flags.len() || flags[index] {
         return;
     }
     if touched.push(lit.var()).is_ok() {
-        flags[short] = true;
+        flags[index] = true;
     }
 }
 
@@ -98,9 +91,10 @@ fn note_change<A: Allocator + Copy>(
     if !is_listed {
         return;
     }
-    recount(counts, names, clause, is_added);
     for lit in clause {
-        touch(touched, flags, names, *lit);
+        let short = names.of(*lit);
+        recount(counts, short, is_added);
+        touch(touched, flags, short, *lit);
     }
 }
 
@@ -173,6 +167,7 @@ pub(crate) fn filled<T: Copy, A: Allocator + Copy>(
     value: T,
 ) -> Result<Vec<T, A>, AllocError> {
     let mut list = Vec::new(alloc);
+    list.reserve_exact(count)?;
     for _ in 0..count {
         list.push(value)?;
     }
@@ -378,6 +373,17 @@ impl<A: Allocator + Copy> Database<A> {
             return Some(&[]);
         }
         Some(self.occurrences.list(short))
+    }
+
+    /// The first index from `first` on of the literal's list where a clause has all the variables of the bits.
+    pub fn find_place(&self, lit: Lit, first: usize, bits: u32) -> Option<usize> {
+        let places = self.places(lit)?;
+        for index in first..places.len() {
+            if bits & !self.signature(places[index] as usize) == 0 {
+                return Some(index);
+            }
+        }
+        None
     }
 
     /// A variable whose clauses changed since it was last returned.

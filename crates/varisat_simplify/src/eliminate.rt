@@ -5,7 +5,7 @@ ghost use Rattle.varisat_theory.specs.promises.Literals.{opposite, variable_of};
 ghost use Rattle.varisat_simplify.specs.inside.States.{IsLive, IsThawed, clause_at, removed, saved, Becomes, Collects, Adds, Saves};
 
 use crate::database::Database;
-use crate::resolve::{holds, resolve};
+use crate::resolve::{Sign, holds, resolve, sign_of};
 use std::alloc::{AllocError, Allocator};
 use varisat_literals::{Lit, Var};
 
@@ -64,40 +64,51 @@ fn longest<A: Allocator + Copy>(db: &Database<A>, places: &[u32]) -> usize {
     most
 }
 
+/// How many literals the resolvent has, or none if it is a tautology.
+fn resolvent_length(clause: &[Lit], other: &[Lit], lit: Lit) -> Option<usize> {
+    let mut length = other.len().saturating_sub(1);
+    for one in clause {
+        if one.code() != lit.code() {
+            match sign_of(other, *one) {
+                Sign::Same => {}
+                Sign::Opposite => return None,
+                Sign::Absent => length = length.saturating_add(1),
+            }
+        }
+    }
+    Some(length)
+}
+
 /// Whether the resolvents are few and short enough.
 fn is_worth<A: Allocator + Copy>(
     db: &Database<A>,
     lit: Lit,
     with: &[u32],
     against: &[u32],
-    literals: &mut Vec<Lit, A>,
-) -> Result<bool, AllocError> {
+) -> bool {
     let most = with.len().saturating_add(against.len());
     let length = longest(db, with).saturating_add(longest(db, against));
     if length > MOST_LENGTH {
-        return Ok(false);
+        return false;
     }
     let pairs = with.len().saturating_mul(against.len());
     if pairs <= most && length <= MOST_LITERALS {
-        return Ok(true);
+        return true;
     }
     let mut count: usize = 0;
     for one in with {
         for other in against {
-            if resolve(
-                db.clause(*one as usize),
-                db.clause(*other as usize),
-                lit,
-                literals,
-            )? {
+            if let Some(length) =
+                resolvent_length(db.clause(*one as usize), db.clause(*other as usize), lit)
+            {
                 count = count.saturating_add(1);
-                if count > most || literals.len() > MOST_LITERALS {
-                    return Ok(false);
+                if count > most || length > MOST_LITERALS {
+                    return false;
                 }
             }
         }
     }
-    Ok(true)
+    true
 }
 
 /// Adds the resolvents.
@@ -244,7 +255,7 @@ fn eliminate_by<A: Allocator + Copy>(
         return Ok(false);
     }
     *most -= pairs;
-    if !is_worth(db, lit, with, against, literals)? {
+    if !is_worth(db, lit, with, against) {
         return Ok(false);
     }
     resolve_away(db, lit, with, against, literals)?;

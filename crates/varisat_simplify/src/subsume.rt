@@ -105,11 +105,20 @@ fn use_along<A: Allocator + Copy>(
     db.tidy(lit);
     let count = place_count(db, lit);
     *budget = budget.saturating_sub(count as u64);
-    for index in 0..count {
+    let bits = db.signature(place);
+    let mut first: usize = 0;
+    for _ in 0..count {
+        let Some(index) = db.find_place(lit, first, bits) else {
+            return Ok(());
+        };
+        if index >= count {
+            return Ok(());
+        }
         let Some(other) = place_at(db, lit, index) else {
             return Ok(());
         };
         use_on(db, place, other, scratch)?;
+        first = index.saturating_add(1);
     }
     Ok(())
 }

@@ -1,5 +1,5 @@
 -- Clauses cut from one list of literals.
-use Rattle.std.proofs.Common.{◌≡◌, ℕ, zero, suc, ◌+◌, ◌-◌, ◌<◌, ◌≤◌, List, [], ◌∷◌, ◌++◌, sym, ap, ◌∙◌, subst, refl, length, get_or, arith}
+use Rattle.std.proofs.Common.{◌≡◌, ℕ, zero, suc, ◌+◌, ◌-◌, ◌<◌, ◌≤◌, List, [], ◌∷◌, ◌++◌, sym, ap, ◌∙◌, subst, refl, length, get_or, append_assoc, arith}
 use Rattle.std.specs.Prelude.{slice_range}
 use Rattle.std.proofs.lemmas.List.{length-append}
 use Rattle.std.proofs.lemmas.Grind.{common_steps, get_or_default_zero}
@@ -46,6 +46,14 @@ range_more ls c i j h k = grind (arith, common_steps)
 
 range_last : (ls c : List Literal) (m : ℕ) → m ≡ length ls + length c → slice_range (ls ++ c) (length ls) m ≡ c
 range_last ls c m h = grind (arith, common_steps)
+
+-- a list was appended to one that had stayed
+pub appended : (ls ms ns xs : List ℕ) → ns ≡ ms ++ xs → ms ≡ ls → ns ≡ ls ++ xs
+appended ls ms ns xs e f = e ∙ ap (λ (ys : List ℕ). ys ++ xs) f
+
+-- a clause was, with a literal in front
+pub appended_led : (ls ms ns os : List Literal) (l : Literal) (c : Clause) → os ≡ ns ++ c → ns ≡ ms ++ l ∷ [] → ms ≡ ls → os ≡ ls ++ l ∷ c
+appended_led ls ms ns os l c e f h = appended (ls ++ l ∷ []) ns os c e (appended ls ms ns (l ∷ []) f h) ∙ append_assoc ls (l ∷ []) c
 
 pub cut_pushed : (s : ℕ) (es : List ℕ) (ls c : List Literal) (m : ℕ) → m ≡ length ls + length c → AreEnds s es (length ls) →
     cut_from s (es ++ m ∷ []) (ls ++ c) ≡ cut_from s es ls ++ c ∷ []

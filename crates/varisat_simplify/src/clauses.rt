@@ -1,5 +1,5 @@
 //! Clauses one behind the other in one buffer, none of which ever changes or leaves.
-ghost use Rattle.std.specs.Prelude.{◌≡◌, ℕ, List, ◌+◌, ◌∷◌, ◌++◌, [], ◌<◌, ◌^◌, length, IsTrue, OnOk, OnErr, slice_index_or};
+ghost use Rattle.std.specs.Prelude.{◌≡◌, ℕ, List, ◌+◌, ◌∷◌, ◌++◌, [], ◌<◌, ◌≤◌, ◌^◌, length, IsTrue, OnOk, OnErr, slice_index_or, vec_len, vec_capacity};
 ghost use Rattle.varisat_simplify.specs.inside.Cuts.{start_of};
 
 use std::alloc::{AllocError, Allocator};
@@ -45,6 +45,16 @@ fn has_room(literals: &[Lit], count: usize) -> bool
     count <= MOST_LITERALS && literals.len() <= MOST_LITERALS - count
 }
 
+/// Appends the literals, for which there is room, one by one: most clauses are short.
+fn append<A: Allocator + Copy>(literals: &mut Vec<Lit, A>, clause: &[Lit])
+    requires { vec_len literals.old + length clause.now ≤ vec_capacity literals.old }
+    ensures { literals.new.items ≡ literals.old.items ++ clause.now }
+{
+    for lit in clause {
+        literals.push_reserved(*lit);
+    }
+}
+
 impl<A: Allocator + Copy> ClauseList<A> {
     /// No clauses. It takes no memory.
     pub fn new_in(alloc: A) -> ClauseList<A>
@@ -86,7 +96,25 @@ impl<A: Allocator + Copy> ClauseList<A> {
             return Err(AllocError);
         }
         self.ends.reserve(1)?;
-        self.literals.extend_from_slice(clause)?;
+        self.literals.reserve(clause.len())?;
+        append(&mut self.literals, clause);
+        let end = self.literals.len();
+        self.ends.push_reserved(end as u32);
+        Ok(())
+    }
+
+    /// Adds a clause behind the others, with a literal in front.
+    pub fn push_led(&mut self, lit: Lit, clause: &[Lit]) -> Result<(), AllocError>
+        ensures { OnOk result (self.new ≡ self.old ++ (lit ∷ clause.now) ∷ []) }
+    {
+        let count = clause.len().saturating_add(1);
+        if !has_room(&self.literals, count) {
+            return Err(AllocError);
+        }
+        self.ends.reserve(1)?;
+        self.literals.reserve(count)?;
+        self.literals.push_reserved(lit);
+        append(&mut self.literals, clause);
         let end = self.literals.len();
         self.ends.push_reserved(end as u32);
         Ok(())

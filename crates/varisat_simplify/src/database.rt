@@ -63,12 +63,7 @@ fn recount(counts: &mut [u32], short: Lit, is_added: bool) {
 }
 
 /// Notes that the clauses of the literal's variable changed. It is forgotten where there is no memory.
-fn touch<A: Allocator + Copy>(
-    touched: &mut Vec<Var, A>,
-    flags: &mut [bool],
-    short: Lit,
-    lit: Lit,
-) {
+fn touch<A: Allocator + Copy>(touched: &mut Vec<Var, A>, flags: &mut [bool], short: Lit, lit: Lit) {
     let index = short.index();
     if index >= flags.len() || flags[index] {
         return;
@@ -488,6 +483,17 @@ impl<A: Allocator + Copy> Database<A> {
         ensures refused { OnErr result (self.new ≡ self.old) }
     {
         self.stack.push(clause)?;
+        Ok(())
+    }
+
+    /// Puts the clause at the place on the stack, with a literal in front.
+    pub fn save_led(&mut self, lit: Lit, place: usize) -> Result<(), AllocError>
+        ensures { OnOk result (self.new ≡ saved self.old (lit ∷ clause_at self.old place)) }
+    {
+        if place >= self.history.len() {
+            return Err(AllocError);
+        }
+        self.stack.push_led(lit, self.history.clause(place))?;
         Ok(())
     }
 

@@ -98,9 +98,11 @@ fn is_worth<A: Allocator + Copy>(
     let mut count: usize = 0;
     for one in with {
         for other in against {
-            if let Some(length) =
-                resolvent_length(db.clause(*one as usize), db.clause(*other as usize), lit)
-            {
+            if let Some(length) = resolvent_length(
+                db.clause(*one as usize),
+                db.clause(*other as usize),
+                lit,
+            ) {
                 count = count.saturating_add(1);
                 if count > most || length > MOST_LITERALS {
                     return false;
@@ -144,14 +146,10 @@ fn save_one<A: Allocator + Copy>(
     db: &mut Database<A>,
     lit: Lit,
     place: usize,
-    literals: &mut Vec<Lit, A>,
 ) -> Result<(), AllocError>
     ensures { OnOk result (db.new ≡ removed (saved db.old (lit ∷ clause_at db.old place)) place) }
 {
-    literals.clear();
-    literals.push(lit)?;
-    literals.extend_from_slice(db.clause(place))?;
-    db.save(literals)?;
+    db.save_led(lit, place)?;
     db.remove(place)?;
     Ok(())
 }
@@ -162,7 +160,6 @@ fn save_all<A: Allocator + Copy>(
     lit: Lit,
     with: &[u32],
     against: &[u32],
-    literals: &mut Vec<Lit, A>,
 ) -> Result<(), AllocError>
     requires small { variable_of lit < db.old.var_count }
     requires thawed { IsThawed db.old lit }
@@ -172,7 +169,7 @@ fn save_all<A: Allocator + Copy>(
     ensures rest { OnOk result (Collects db.new (opposite lit) against.now) }
 {
     for place in with {
-        save_one(db, lit, *place as usize, literals)?;
+        save_one(db, lit, *place as usize)?;
     }
     Ok(())
 }
@@ -223,7 +220,7 @@ fn resolve_away<A: Allocator + Copy>(
     ensures { OnOk result (Becomes db.old db.new) }
 {
     add_resolvents(db, lit, with, against, literals)?;
-    save_all(db, lit, with, against, literals)?;
+    save_all(db, lit, with, against)?;
     save_literal(db, !lit, against)?;
     Ok(())
 }

@@ -128,6 +128,21 @@ pub fn resolve<A: Allocator + Copy>(
 /// A clause of more literals is taken as it is.
 const MOST_LITERALS: usize = 1000;
 
+/// Whether each variable stands but once in the clause, or it is a long one.
+pub fn is_normal(clause: &[Lit]) -> bool {
+    if clause.len() > MOST_LITERALS {
+        return true;
+    }
+    for index in 0..clause.len() {
+        match sign_of(&clause[..index], clause[index]) {
+            Sign::Absent => {}
+            Sign::Same => return false,
+            Sign::Opposite => return false,
+        }
+    }
+    true
+}
+
 /// Each literal of the clause once, or false where it is a tautology. A long one is taken as it is.
 pub fn normalize<A: Allocator + Copy>(
     clause: &[Lit],

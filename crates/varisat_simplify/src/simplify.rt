@@ -13,7 +13,7 @@ use crate::eliminate::{Scratch, eliminate};
 use crate::history::History;
 use crate::names::ShortNames;
 use crate::propagate::propagate;
-use crate::resolve::normalize;
+use crate::resolve::{is_normal, normalize};
 use crate::stack::extend;
 use crate::subsume::subsume_from;
 use std::alloc::{AllocError, Allocator};
@@ -98,7 +98,9 @@ fn load<A: Allocator + Copy>(
 {
     db.reserve_for(formula)?;
     for clause in formula.iter() {
-        if normalize(clause, literals)? {
+        if is_normal(clause) {
+            db.give(clause)?;
+        } else if normalize(clause, literals)? {
             db.give(literals)?;
         } else {
             let place = db.len();

@@ -120,7 +120,12 @@ fn key_of<A: Allocator + Copy>(db: &Database<A>, var: Var) -> u64 {
     (cost as u64) * 0x1_0000_0000 + (var.index() as u64)
 }
 
-/// The variables whose clauses changed, by their costs.
+/// Whether a live clause has the variable.
+fn is_in_clause<A: Allocator + Copy>(db: &Database<A>, var: Var) -> bool {
+    db.count(var.positive()) != 0 || db.count(var.negative()) != 0
+}
+
+/// The variables whose clauses changed, by their costs, but for those that are gone.
 fn candidates<A: Allocator + Copy>(
     db: &mut Database<A>,
     out: &mut Vec<u64, A>,
@@ -133,7 +138,9 @@ fn candidates<A: Allocator + Copy>(
         let Some(var) = db.take_touched() else {
             break;
         };
-        out.push(key_of(db, var))?;
+        if is_in_clause(db, var) {
+            out.push(key_of(db, var))?;
+        }
     }
     out.as_mut_slice().sort_unstable();
     Ok(())

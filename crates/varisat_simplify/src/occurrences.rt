@@ -88,8 +88,8 @@ impl<A: Allocator + Copy> Occurrences<A> {
     {
         for index in 0..var_count.min(MOST_VARIABLES) {
             let lit = Lit::from_index(index, true);
-            self.reserve(lit, count_at(counts, lit))?;
-            self.reserve(!lit, count_at(counts, !lit))?;
+            self.reserve(lit, with_spare(count_at(counts, lit)))?;
+            self.reserve(!lit, with_spare(count_at(counts, !lit)))?;
         }
         Ok(())
     }
@@ -150,6 +150,15 @@ fn is_flagged(flags: &[bool], place: u32) -> bool
         Some(flag) => *flag,
         None => false,
     }
+}
+
+/// The count, and some more that take no memory: it is given in steps of 16 bytes, behind 8 that are not the list's.
+fn with_spare(count: usize) -> usize {
+    if count == 0 {
+        return 0;
+    }
+    let steps = count.saturating_add(1) / 4;
+    steps.saturating_mul(4).saturating_add(2).max(6)
 }
 
 /// The count for the literal.

@@ -5,6 +5,7 @@ ghost use Rattle.varisat_simplify.specs.inside.Resolving.{IsFixed, LeavesOutFals
 
 use crate::database::{Database, filled};
 use crate::names::ShortNames;
+use crate::occurrences::count_at;
 use crate::resolve::holds;
 use crate::subsume::use_on;
 use std::alloc::{AllocError, Allocator};
@@ -44,7 +45,8 @@ fn note_unit<A: Allocator + Copy>(
 /// Whether a place was noted for a literal of the clause or its opposite.
 fn meets_unit<A: Allocator + Copy>(units: &[u32], names: &ShortNames<A>, clause: &[Lit]) -> bool {
     for lit in clause {
-        if noted(units, names, *lit) != 0 || noted(units, names, !*lit) != 0 {
+        let short = names.of(*lit);
+        if count_at(units, short) != 0 || count_at(units, !short) != 0 {
             return true;
         }
     }

@@ -3,7 +3,7 @@ use Rattle.std.proofs.Common.{◌≡◌, ℕ, subst}
 use Rattle.varisat_theory.specs.promises.Literals.{Clause}
 use Rattle.varisat_simplify.specs.declared.resolve.Relation.{Relation}
 use Rattle.varisat_simplify.specs.declared.resolve.Relation.TheVariants.{Nothing, Subsumes, Strengthens}
-use Rattle.varisat_simplify.specs.inside.States.{State, clause_at, IsLive}
+use Rattle.varisat_database.specs.Databases.{State, clause_at, IsLive}
 use Rattle.varisat_simplify.specs.inside.Resolving.{Relates, Compares}
 
 pub compares : (s : State) (j i : ℕ) (c d : Clause) (r : Relation) → c ≡ clause_at s j → d ≡ clause_at s i → IsLive s j → IsLive s i → (j ≡ i → ⊥) →

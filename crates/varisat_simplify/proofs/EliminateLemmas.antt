@@ -9,7 +9,8 @@ use Rattle.varisat_simplify.specs.promises.Stacks.{assignment_of, with_true, ame
 use Rattle.varisat_simplify.specs.promises.Leading.{AreNamedBy}
 use Rattle.varisat_simplify.proofs.LeadingLemmas.{leads_removed, told_removed, named_at}
 use Rattle.varisat_simplify.proofs.ExtendLemmas.{thawed_more}
-use Rattle.varisat_simplify.specs.inside.States.{State, pushed, removed, saved, clause_at, IsLive, IsThawed, Models, Reduces, Becomes, ModelsRest, SatisfiesBut, Collects, IsResolved, Adds, Saves, Drops}
+use Rattle.varisat_database.specs.Databases.{State, pushed, removed, saved, clause_at, IsLive}
+use Rattle.varisat_simplify.specs.inside.States.{IsThawed, Models, Reduces, Becomes, ModelsRest, SatisfiesBut, Collects, IsResolved, Adds, Saves, Drops}
 use Rattle.varisat_simplify.proofs.StateLemmas.{becomes_self, becomes_then, pushed_live, pushed_keeps, pushed_new, removed_live, removed_keeps, removed_even, pushed_even, satisfies_same, push_resolvent}
 use Rattle.varisat_simplify.proofs.ExtendLemmas.{extended_more, made_true, stays_true, amended_cases, amended_length}
 

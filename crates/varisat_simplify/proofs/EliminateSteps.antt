@@ -5,7 +5,8 @@ use Rattle.varisat_theory.specs.promises.Membership.{◌∈◌}
 use Rattle.varisat_theory.specs.promises.Literals.{Literal, Clause, opposite}
 use Rattle.varisat_theory.proofs.clauses.Places.{∈-get_or}
 use Rattle.varisat_theory.proofs.clauses.Values.{opposite_twice}
-use Rattle.varisat_simplify.specs.inside.States.{State, pushed, removed, saved, clause_at, IsLive, IsThawed, Adds, Saves, Drops}
+use Rattle.varisat_database.specs.Databases.{State, pushed, removed, saved, clause_at, IsLive}
+use Rattle.varisat_simplify.specs.inside.States.{IsThawed, Adds, Saves, Drops}
 use Rattle.varisat_simplify.specs.inside.Resolving.{Resolves, Clashes}
 use Rattle.varisat_simplify.proofs.EliminateLemmas.{adds_skip, adds_push, saves_first, saves_next, drops_first, drops_next}
 

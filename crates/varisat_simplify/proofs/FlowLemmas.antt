@@ -11,7 +11,8 @@ use Rattle.varisat_theory.proofs.clauses.Members.{∈-append_left, ∈-append_ri
 use Rattle.varisat_theory.proofs.clauses.Places.{∈-take_more, ∈-take_all}
 use Rattle.varisat_theory.proofs.clauses.Values.{true_or_opposite}
 use Rattle.varisat_simplify.specs.promises.Stacks.{assignment_of, extended}
-use Rattle.varisat_simplify.specs.inside.States.{State, no_clauses, given, pushed, removed, clause_at, IsLive, live_clauses, flagged, deletion, Models, Reduces, Becomes, Collects}
+use Rattle.varisat_database.specs.Databases.{State, no_clauses, given, pushed, removed, clause_at, IsLive, deletion}
+use Rattle.varisat_simplify.specs.inside.States.{live_clauses, flagged, Models, Reduces, Becomes, Collects}
 use Rattle.varisat_simplify.specs.inside.Loading.{IsLoaded}
 use Rattle.varisat_simplify.specs.inside.Resolving.{LeavesOut}
 use Rattle.varisat_theory.specs.promises.Searches.{IsTautology}

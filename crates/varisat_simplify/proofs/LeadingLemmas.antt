@@ -10,7 +10,8 @@ use Rattle.varisat_theory.proofs.clauses.Held.{same_set-self, same_clauses-self,
 use Rattle.varisat_theory.proofs.clauses.Lines.{derives_add, derives_delete, derives_append, derives_same, derives_derivation, derivation_derives, refutes_same, refutes_at, refutes_from, same_lines-self}
 use Rattle.varisat_theory.proofs.journals.Spoken.{spoken_join}
 use Rattle.varisat_simplify.specs.promises.Leading.{LeadsTo, IsNamedBy, AreNamedBy}
-use Rattle.varisat_simplify.specs.inside.States.{flagged, deletion}
+use Rattle.varisat_database.specs.Databases.{deletion}
+use Rattle.varisat_simplify.specs.inside.States.{flagged}
 
 pub flagged_pushed : (bs : List Bool) (cs : List Clause) (b : Bool) (c : Clause) → length bs ≡ length cs →
     flagged (bs ++ b ∷ []) (cs ++ c ∷ []) ≡ flagged bs cs ++ flagged (b ∷ []) (c ∷ [])

@@ -1,13 +1,10 @@
 pub mod StateLemmas
 pub mod ExtendLemmas
 pub mod EliminateLemmas
-pub mod CutLemmas
 pub mod ResolveLemmas
-pub mod ListLemmas
 pub mod CompareLemmas
 pub mod FlowLemmas
 pub mod LeadingLemmas
 pub mod UnloadLemmas
 pub mod EliminateSteps
-pub mod WrittenLemmas
 pub mod UnitLemmas

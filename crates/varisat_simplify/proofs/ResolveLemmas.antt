@@ -1,7 +1,6 @@
 -- What loops over literals find.
 use Rattle.std.proofs.Common.{◌≡◌, ℕ, zero, suc, ◌+◌, ◌/◌, ◌<◌, ◌≤◌, Bool, true, false, ◌||◌, List, [], ◌∷◌, ◌++◌, ◌⊎◌, inl, inr, ⊎_elim, IsTrue, ◌↔◌, Option, Some, None, is_some, sym, ap, ◌∙◌, subst, refl, length, get_or, take, drop, arith}
 use Rattle.std.specs.List.{list_any}
-use Rattle.std.proofs.lemmas.Grind.{get_or_default_zero}
 use Rattle.varisat_theory.specs.promises.Membership.{◌∈◌, ◌⊆◌, SameSet}
 use Rattle.varisat_theory.specs.promises.Literals.{Literal, Clause, opposite}
 use Rattle.varisat_theory.proofs.clauses.Members.{∈-append_left, ∈-append_right, ∈-append_cases}
@@ -255,10 +254,6 @@ extended_step stack vs k n q h = subst (λ m. amended (get_or stack k []) (exten
         drop_none [] = refl
         drop_none (c ∷ s) = refl
     go (c ∷ st) (suc k) h = go st k (omega arith)
-
--- an item by its place
-pub item_at : (c : List ℕ) (i x : ℕ) → i < length c → x ≡ get_or c i x → x ≡ get_or c i 0
-item_at c i x h e = e ∙ get_or_default_zero c i x h
 
 pub answers_true : (X : Type 0) → X → IsTrue true ↔ X
 answers_true X x = (λ t. x, λ y. refl)

@@ -8,7 +8,8 @@ use Rattle.varisat_theory.specs.promises.Derivations.{Add}
 use Rattle.varisat_theory.proofs.clauses.Members.{equal_or_not}
 use Rattle.varisat_theory.proofs.clauses.Values.{∈-opposites, opposite_twice, not_both}
 use Rattle.varisat_simplify.specs.promises.Stacks.{assignment_of}
-use Rattle.varisat_simplify.specs.inside.States.{State, pushed, removed, clause_at, IsLive, live_clauses, Models, Reduces, Becomes}
+use Rattle.varisat_database.specs.Databases.{State, pushed, removed, clause_at, IsLive}
+use Rattle.varisat_simplify.specs.inside.States.{live_clauses, Models, Reduces, Becomes}
 use Rattle.varisat_simplify.specs.promises.Leading.{LeadsTo, IsNamedBy}
 use Rattle.varisat_simplify.proofs.LeadingLemmas.{flagged_pushed, flagged_has, leads_add, leads_removed, told_add, told_removed, named_more, named_at}
 

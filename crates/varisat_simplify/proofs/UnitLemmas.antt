@@ -7,7 +7,8 @@ use Rattle.varisat_theory.specs.promises.Propagation.Conflicts.{FalseClause, Pro
 use Rattle.varisat_theory.proofs.clauses.Members.{∈-append_left, ∈-append_right, ∈-append_cases}
 use Rattle.varisat_theory.proofs.clauses.Places.{∈-take_more, ∈-take_all}
 use Rattle.varisat_theory.proofs.clauses.Values.{∈-opposites, not_both}
-use Rattle.varisat_simplify.specs.inside.States.{State, pushed, removed, clause_at, IsLive, live_clauses, Models, Becomes}
+use Rattle.varisat_database.specs.Databases.{State, pushed, removed, clause_at, IsLive}
+use Rattle.varisat_simplify.specs.inside.States.{live_clauses, Models, Becomes}
 use Rattle.varisat_simplify.specs.inside.Resolving.{IsFixed, LeavesOutFalse}
 use Rattle.varisat_simplify.proofs.LeadingLemmas.{named_at}
 use Rattle.varisat_simplify.proofs.ResolveLemmas.{none_taken, taken_before, taken_last}

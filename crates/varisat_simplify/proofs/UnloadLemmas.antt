@@ -9,7 +9,8 @@ use Rattle.varisat_theory.proofs.clauses.Held.{same_clauses_find, same_clauses-b
 use Rattle.varisat_formula.specs.promises.Formulas.{Formula, AllBelow, AreBelow, with_one_more}
 use Rattle.varisat_simplify.specs.promises.Leading.{LeadsTo}
 use Rattle.varisat_simplify.specs.promises.Stacks.{assignment_of, KeepsFrozen}
-use Rattle.varisat_simplify.specs.inside.States.{State, flagged, clause_at, Reduces, Becomes}
+use Rattle.varisat_database.specs.Databases.{State, clause_at}
+use Rattle.varisat_simplify.specs.inside.States.{flagged, Reduces, Becomes}
 use Rattle.varisat_simplify.specs.promises.Simplified.{Lists, Finishes, IsReduced, IsMadeOf, DerivesBehind, RefutesBehind}
 use Rattle.varisat_simplify.proofs.StateLemmas.{clause_held, satisfies_more, satisfies_same}
 use Rattle.varisat_simplify.proofs.ExtendLemmas.{keeps_frozen}

@@ -2,11 +2,12 @@
 ghost use Rattle.std.specs.Prelude.{◌≡◌, ℕ, ◌/◌, ◌<◌, ◌≤◌, true, ◌∷◌, length, OnOk, OnErr, IfOk, IsTrue};
 ghost use Rattle.varisat_theory.specs.promises.Membership.{◌∈◌};
 ghost use Rattle.varisat_theory.specs.promises.Literals.{opposite, variable_of};
-ghost use Rattle.varisat_simplify.specs.inside.States.{IsLive, IsThawed, clause_at, removed, saved, Becomes, Collects, Adds, Saves};
+ghost use Rattle.varisat_database.specs.Databases.{IsLive, clause_at, removed, saved};
+ghost use Rattle.varisat_simplify.specs.inside.States.{IsThawed, Becomes, Collects, Adds, Saves};
 
-use crate::database::Database;
 use crate::resolve::{Sign, holds, resolve, sign_of};
 use std::alloc::{AllocError, Allocator};
+use varisat_database::database::Database;
 use varisat_literals::{Lit, Var};
 
 /// A variable stays that has more clauses of both signs.

@@ -1,14 +1,15 @@
 //! Unit propagation before clauses are listed by their literals: passes over all of them.
 ghost use Rattle.std.specs.Prelude.{◌≡◌, OnOk, IfOk, IsTrue};
-ghost use Rattle.varisat_simplify.specs.inside.States.{clause_at, Becomes};
+ghost use Rattle.varisat_database.specs.Databases.{clause_at};
+ghost use Rattle.varisat_simplify.specs.inside.States.{Becomes};
 ghost use Rattle.varisat_simplify.specs.inside.Resolving.{IsFixed, LeavesOutFalse};
 
-use crate::database::{Database, filled};
-use crate::names::ShortNames;
-use crate::occurrences::count_at;
 use crate::resolve::holds;
 use crate::subsume::use_on;
 use std::alloc::{AllocError, Allocator};
+use varisat_database::database::{Database, filled};
+use varisat_database::names::ShortNames;
+use varisat_database::occurrences::count_at;
 use varisat_literals::Lit;
 
 /// How often the clauses are gone through at most.

@@ -2,21 +2,22 @@
 ghost use Rattle.std.specs.Prelude.{◌≡◌, ℕ, ◌/◌, ◌<◌, ◌≤◌, ◌^◌, length, take, OnOk, IfOk, IfErr};
 ghost use Rattle.varisat_formula.specs.declared.formula.cnf.FormulaError.TheVariants.{Memory};
 ghost use Rattle.varisat_formula.specs.promises.Formulas.{AllBelow, AreBelow};
-ghost use Rattle.varisat_simplify.specs.inside.States.{no_clauses, Becomes};
+ghost use Rattle.varisat_database.specs.Databases.{no_clauses};
+ghost use Rattle.varisat_simplify.specs.inside.States.{Becomes};
 ghost use Rattle.varisat_simplify.specs.inside.Loading.{IsLoaded};
 ghost use Rattle.varisat_simplify.specs.promises.Stacks.{extended, KeepsFrozen};
 ghost use Rattle.varisat_simplify.specs.promises.Simplified.{Lists, Finishes, IsReduced, IsMadeOf};
 
-use crate::clauses::ClauseList;
-use crate::database::{Database, literals_in};
 use crate::eliminate::{Scratch, eliminate};
-use crate::history::History;
-use crate::names::ShortNames;
 use crate::propagate::propagate;
 use crate::resolve::{is_normal, normalize};
 use crate::stack::extend;
 use crate::subsume::subsume_from;
 use std::alloc::{AllocError, Allocator};
+use varisat_database::clauses::ClauseList;
+use varisat_database::database::{Database, literals_in};
+use varisat_database::history::History;
+use varisat_database::names::ShortNames;
 use varisat_formula::formula::cnf::{CnfFormula, FormulaError};
 use varisat_literals::{Lit, Var};
 

@@ -3,8 +3,8 @@ ghost use Rattle.std.specs.Prelude.{◌≡◌};
 ghost use Rattle.varisat_theory.specs.promises.Literals.{value};
 ghost use Rattle.varisat_simplify.specs.promises.Stacks.{assignment_of, is_satisfied, amended, extended};
 
-use crate::clauses::ClauseList;
 use std::alloc::Allocator;
+use varisat_database::clauses::ClauseList;
 use varisat_literals::Lit;
 
 /// Whether the literal is true. A variable out of range is false.

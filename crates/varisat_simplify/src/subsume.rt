@@ -3,9 +3,9 @@ ghost use Rattle.std.specs.Prelude.{OnOk};
 ghost use Rattle.varisat_simplify.specs.inside.States.{Becomes};
 ghost use Rattle.varisat_simplify.specs.inside.Resolving.{Compares};
 
-use crate::database::Database;
 use crate::resolve::{Relation, relation_of, without};
 use std::alloc::{AllocError, Allocator};
+use varisat_database::database::Database;
 use varisat_literals::Lit;
 
 /// No literal in more clauses is looked through, but for a clause of one literal.

@@ -6,7 +6,7 @@ use Rattle.varisat_simplify.specs.declared.resolve.Sign.{Sign}
 use Rattle.varisat_simplify.specs.declared.resolve.Sign.TheVariants.{Absent, Same, Opposite}
 use Rattle.varisat_simplify.specs.declared.resolve.Relation.{Relation}
 use Rattle.varisat_simplify.specs.declared.resolve.Relation.TheVariants.{Nothing, Subsumes, Strengthens}
-use Rattle.varisat_simplify.specs.inside.States.{State, clause_at, IsLive}
+use Rattle.varisat_database.specs.Databases.{State, clause_at, IsLive}
 
 -- the literal occurs so in the clause
 abbrev pub OccursAs : Clause → Literal → Sign → Type 0

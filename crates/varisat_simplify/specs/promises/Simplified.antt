@@ -6,7 +6,8 @@ use Rattle.varisat_theory.specs.promises.Held.{SameClauses}
 use Rattle.varisat_formula.specs.promises.Formulas.{Formula, AreBelow}
 use Rattle.varisat_simplify.specs.promises.Leading.{LeadsTo, IsNamedBy, AreNamedBy}
 use Rattle.varisat_simplify.specs.promises.Stacks.{assignment_of, extended}
-use Rattle.varisat_simplify.specs.inside.States.{State, live_clauses, Reduces, Becomes}
+use Rattle.varisat_database.specs.Databases.{State}
+use Rattle.varisat_simplify.specs.inside.States.{live_clauses, Reduces, Becomes}
 
 -- the formula has just the live clauses
 pub record Lists (s : State) (f : Formula) : Type 0 where

@@ -1,5 +1,5 @@
 use Rattle.std.proofs.Common.{sym, refl, ◌∙◌}
-use Rattle.varisat_simplify.specs.inside.States.{clause_at}
+use Rattle.varisat_database.specs.Databases.{clause_at}
 use Rattle.varisat_simplify.proofs.UnitLemmas.{shortened}
 use Rattle.varisat_simplify.proofs.propagate.shorten.Goals as goal
 

@@ -1,6 +1,6 @@
 use Rattle.std.proofs.Common.{ap, ◌∙◌, subst}
 use Rattle.varisat_simplify.specs.inside.Resolving.{IsFixed}
-use Rattle.varisat_simplify.proofs.ResolveLemmas.{item_at}
+use Rattle.varisat_database.proofs.ListLemmas.{item_at}
 use Rattle.varisat_simplify.proofs.UnitLemmas.{false_kept, false_dropped}
 use Rattle.varisat_simplify.proofs.propagate.without_false.Goals as goal
 use Rattle.varisat_simplify.proofs.propagate.without_false.Goals.{then-not-is_fixed+in_ok-push, else-not-is_fixed}

@@ -1,5 +1,6 @@
 use Rattle.std.proofs.Common.{sym, ◌∙◌}
-use Rattle.varisat_simplify.proofs.ResolveLemmas.{item_at, found_same, none_taken, unseen_more, unseen_all, answers_true, answers_false}
+use Rattle.varisat_database.proofs.ListLemmas.{item_at}
+use Rattle.varisat_simplify.proofs.ResolveLemmas.{found_same, none_taken, unseen_more, unseen_all, answers_true, answers_false}
 use Rattle.varisat_simplify.proofs.resolve.holds.Goals as goal
 
 pub loop-other-init : goal.loop-other-init

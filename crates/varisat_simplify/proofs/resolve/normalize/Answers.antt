@@ -1,7 +1,8 @@
 use Rattle.std.proofs.Common.{List, ℕ, ap, ◌∙◌, subst}
 use Rattle.varisat_theory.specs.promises.Membership.{◌∈◌}
 use Rattle.varisat_theory.specs.promises.Literals.{opposite}
-use Rattle.varisat_simplify.proofs.ResolveLemmas.{item_at, set_same, set_added, set_all, tautology_at}
+use Rattle.varisat_database.proofs.ListLemmas.{item_at}
+use Rattle.varisat_simplify.proofs.ResolveLemmas.{set_same, set_added, set_all, tautology_at}
 use Rattle.varisat_simplify.proofs.resolve.normalize.Goals as goal
 use Rattle.varisat_simplify.proofs.resolve.normalize.Goals.{in-Same, in-Absent+in_ok-push-in-Absent}
 

@@ -1,5 +1,6 @@
 use Rattle.std.proofs.Common.{sym, ◌∙◌}
-use Rattle.varisat_simplify.proofs.ResolveLemmas.{item_at, related_kept, related_first, related_whole, related_by}
+use Rattle.varisat_database.proofs.ListLemmas.{item_at}
+use Rattle.varisat_simplify.proofs.ResolveLemmas.{related_kept, related_first, related_whole, related_by}
 use Rattle.varisat_simplify.proofs.resolve.relation_of.Goals as goal
 use Rattle.varisat_simplify.proofs.resolve.relation_of.Goals.{in-Same, in-Opposite+else-is_some}
 

@@ -1,6 +1,7 @@
 use Rattle.std.proofs.Common.{sym, ap, ◌∙◌, subst}
 use Rattle.varisat_simplify.specs.inside.Resolving.{LeavesOut}
-use Rattle.varisat_simplify.proofs.ResolveLemmas.{item_at, resolves_none, resolves_passed, resolves_same, resolves_added, resolves_all, clash_at}
+use Rattle.varisat_database.proofs.ListLemmas.{item_at}
+use Rattle.varisat_simplify.proofs.ResolveLemmas.{resolves_none, resolves_passed, resolves_same, resolves_added, resolves_all, clash_at}
 use Rattle.varisat_simplify.proofs.resolve.resolve.Goals as goal
 use Rattle.varisat_simplify.proofs.resolve.resolve.Goals.{then-code+in-Same, then-code+in-Absent+in_ok-push-in-Absent, else-code}
 

@@ -1,5 +1,6 @@
 use Rattle.std.proofs.Common.{sym, ◌∙◌}
-use Rattle.varisat_simplify.proofs.ResolveLemmas.{item_at, found_same, found_opposite}
+use Rattle.varisat_database.proofs.ListLemmas.{item_at}
+use Rattle.varisat_simplify.proofs.ResolveLemmas.{found_same, found_opposite}
 use Rattle.varisat_simplify.proofs.resolve.sign_of.Goals as goal
 
 pub returns-then-code : goal.returns-then-code

@@ -1,5 +1,6 @@
 use Rattle.std.proofs.Common.{sym, ap, ◌∙◌}
-use Rattle.varisat_simplify.proofs.ResolveLemmas.{item_at, leaves_kept, leaves_dropped, leaves_all}
+use Rattle.varisat_database.proofs.ListLemmas.{item_at}
+use Rattle.varisat_simplify.proofs.ResolveLemmas.{leaves_kept, leaves_dropped, leaves_all}
 use Rattle.varisat_simplify.proofs.resolve.without.Goals as goal
 use Rattle.varisat_simplify.proofs.resolve.without.Goals.{then-code+in_ok-push, else-code}
 

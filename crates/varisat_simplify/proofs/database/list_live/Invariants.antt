@@ -1,9 +1,0 @@
-use Rattle.varisat_simplify.specs.inside.Sound.{Grows}
-use Rattle.varisat_simplify.proofs.ListLemmas.{ListedTo}
-use Rattle.varisat_simplify.proofs.database.list_live.Given as goal
-
-abbrev pub invariant-loop-place : goal.invariant-loop-place
-invariant-loop-place g l = record {
-  grows : Grows l.fn.occurrences l.occurrences;
-  listed : ListedTo l.place l.names l.history.clauses l.live l.occurrences;
-}

@@ -1,7 +1,0 @@
-use Rattle.std.proofs.Common.{rules}
-use Rattle.std.proofs.lemmas.Fn.{filter_same}
-use Rattle.varisat_simplify.specs.inside.Flags.{is_flagged}
-use Rattle.varisat_simplify.proofs.occurrences.retain_flagged.Goals as goal
-
-pub returns : goal.returns
-returns g c = filter_same _ (is_flagged c.args.flags.now) _ (λ x b after called. search rules) _ _ c.retain.ensures.filtered

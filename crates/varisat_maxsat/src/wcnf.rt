@@ -2,8 +2,8 @@
 ghost use Rattle.std.specs.Prelude.{◌≡◌, ◌≤◌, ◌<◌, ◌^◌, ◌∷◌, [], ◌⊎◌, Ok, Err, List, ℕ, length, slice_index, false, OnOk, IfOk, IfErr, IfSome, IfNone};
 ghost use Rattle.std.specs.List.{slice_split};
 ghost use Rattle.varisat_formula.specs.promises.Dimacs.{is_line_feed, is_blank, meaning, number};
-ghost use Rattle.varisat_maxsat.specs.promises.Problems.{Problem as Asked};
-ghost use Rattle.varisat_maxsat.specs.inside.Texts.{Reading, words, below_limit, clause_of, heading_by, top_of, heading_of, after_heading, after_hard, after_soft, after_weight, after_line, is_hard, wcnf};
+ghost use Rattle.varisat_maxsat.specs.promises.Problems.{Problem as Asked, with_hard, with_soft};
+ghost use Rattle.varisat_maxsat.specs.inside.Texts.{Reading, words, below_limit, clause_of, heading_by, top_of, heading_of, after_heading, after_clause, after_weight, after_line, is_hard, wcnf};
 ghost use Rattle.varisat_maxsat.specs.declared.wcnf.WcnfFault.TheVariants.{OutOfMemory, End};
 
 use crate::problem::Problem;
@@ -245,9 +245,9 @@ impl<A: Allocator + Copy> Reader<A> {
 
     /// Takes a hard clause.
     fn take_hard(&mut self, line: &[u8], clause: &mut Vec<Lit, A>) -> Result<(), WcnfFault>
-        ensures ok { OnOk result (after_hard self.old (clause_of (words line.now)) ≡ Ok self.new) }
+        ensures ok { OnOk result (after_clause with_hard self.old (clause_of (words line.now)) ≡ Ok self.new) }
         ensures err { IfErr result
-            (λ e. (e ≡ OutOfMemory) ⊎ (after_hard self.old (clause_of (words line.now)) ≡ Err e)) }
+            (λ e. (e ≡ OutOfMemory) ⊎ (after_clause with_hard self.old (clause_of (words line.now)) ≡ Err e)) }
     {
         parse_clause(line, clause)?;
         match self.problem.add_hard(clause) {
@@ -263,9 +263,9 @@ impl<A: Allocator + Copy> Reader<A> {
         line: &[u8],
         clause: &mut Vec<Lit, A>,
     ) -> Result<(), WcnfFault>
-        ensures ok { OnOk result (after_soft weight self.old (clause_of (words line.now)) ≡ Ok self.new) }
+        ensures ok { OnOk result (after_clause (with_soft weight) self.old (clause_of (words line.now)) ≡ Ok self.new) }
         ensures err { IfErr result
-            (λ e. (e ≡ OutOfMemory) ⊎ (after_soft weight self.old (clause_of (words line.now)) ≡ Err e)) }
+            (λ e. (e ≡ OutOfMemory) ⊎ (after_clause (with_soft weight) self.old (clause_of (words line.now)) ≡ Err e)) }
     {
         parse_clause(line, clause)?;
         match self.problem.add_soft(weight, clause) {

@@ -1,5 +1,5 @@
 -- What a WCNF text means, in the new format and in the old one.
-use Rattle.std.specs.Prelude.{ℕ, ◌+◌, ◌^◌, max, Bool, false, if◌then◌else◌, nat_lt, nat_le, ◌==◌, List, [], ◌∷◌, ◌++◌, map, Option, Some, None, Result, Ok, Err, codes, bytes_eq}
+use Rattle.std.specs.Prelude.{ℕ, ◌+◌, ◌^◌, max, Bool, false, if◌then◌else◌, nat_lt, nat_le, ◌==◌, List, [], ◌∷◌, ◌++◌, map, Option, Some, None, option_map, Result, Ok, Err, codes, bytes_eq}
 use Rattle.std.specs.List.{slice_split}
 use Rattle.varisat_theory.specs.promises.Literals.{Clause}
 use Rattle.varisat_literals.specs.promises.Numbers.{variable_limit}
@@ -24,12 +24,11 @@ below_limit (Some n) = if nat_lt n (2 ^ 64) then Some n else None
 
 -- The clause that begins with these literals: literals up to a `0`, which ends the line.
 abbrev pub clause_from : Clause → List Meaning → Result Clause WcnfFault
-clause_from c [] = Err fault.End
 clause_from c (token.End ∷ []) = Ok c
-clause_from c (token.End ∷ m ∷ ms) = Err fault.End
 clause_from c (token.Literal l ∷ ms) = clause_from (c ++ l ∷ []) ms
 clause_from c (token.TooLarge ∷ ms) = Err fault.VariableLimit
 clause_from c (token.Wrong ∷ ms) = Err fault.Literal
+clause_from c _ = Err fault.End
 
 -- the clause of these words
 abbrev pub clause_of : List (List ℕ) → Result Clause WcnfFault
@@ -40,18 +39,11 @@ pub record Reading : Type 0 where
   pub problem : Problem
   pub top : Option ℕ
 
--- a hard clause more
-abbrev pub after_hard : Reading → Result Clause WcnfFault → Result Reading WcnfFault
-after_hard r (Err f) = Err f
-after_hard r (Ok c) =
-    Ok (record r { problem = record (with_hard c r.problem) { variables = max r.problem.variables (variables_of c) } })
-
--- a soft clause more
-abbrev pub after_soft : ℕ → Reading → Result Clause WcnfFault → Result Reading WcnfFault
-after_soft w r (Err f) = Err f
-after_soft w r (Ok c) =
-    Ok
-    (record r { problem = record (with_soft w c r.problem) { variables = max r.problem.variables (variables_of c) } })
+-- a clause more, which is added as a hard or a soft one
+abbrev pub after_clause : (Clause → Problem → Problem) → Reading → Result Clause WcnfFault → Result Reading WcnfFault
+after_clause add r (Err f) = Err f
+after_clause add r (Ok c) =
+    Ok (record r { problem = record (add c r.problem) { variables = max r.problem.variables (variables_of c) } })
 
 -- whether a clause of the weight is hard
 abbrev pub is_hard : Option ℕ → ℕ → Bool
@@ -61,34 +53,25 @@ is_hard (Some top) w = nat_le top w
 -- a clause with a weight more
 abbrev pub after_weight : Option ℕ → Reading → Result Clause WcnfFault → Result Reading WcnfFault
 after_weight None r c = Err fault.Start
-after_weight (Some w) r c = if is_hard r.top w then after_hard r c else after_soft w r c
+after_weight (Some w) r c = if is_hard r.top w then after_clause with_hard r c else after_clause (with_soft w) r c
 
 -- A header: how many variables and clauses there are, and the weight from which on a clause is hard, if it names one.
 abbrev pub heading_by : Option ℕ → Option ℕ → Option (Option ℕ) → Result Heading WcnfFault
 heading_by (Some v) (Some count) (Some top) =
     if nat_lt variable_limit v then Err fault.VariableLimit else Ok (record { variables = v; top = top })
-heading_by (Some v) (Some count) None = Err fault.Header
-heading_by (Some v) None top = Err fault.Header
-heading_by None count top = Err fault.Header
-
--- a weight that is named
-abbrev pub named : Option ℕ → Option (Option ℕ)
-named None = None
-named (Some n) = Some (Some n)
+heading_by _ _ _ = Err fault.Header
 
 -- the greatest weight, if there is one
 abbrev pub top_of : List (List ℕ) → Option (Option ℕ)
 top_of [] = Some None
-top_of (w ∷ []) = named (below_limit (number w))
+top_of (w ∷ []) = option_map Some (below_limit (number w))
 top_of (w ∷ more ∷ ws) = None
 
 -- what follows the `p` of a header
 abbrev pub heading_of : List (List ℕ) → Result Heading WcnfFault
-heading_of [] = Err fault.Header
-heading_of (name ∷ []) = Err fault.Header
-heading_of (name ∷ v ∷ []) = Err fault.Header
 heading_of (name ∷ v ∷ count ∷ ws) =
     if bytes_eq name (codes "wcnf") then heading_by (below_limit (number v)) (below_limit (number count)) (top_of ws) else Err fault.Header
+heading_of _ = Err fault.Header
 
 -- what a header makes of the reading
 abbrev pub after_heading : Reading → Result Heading WcnfFault → Result Reading WcnfFault
@@ -106,7 +89,7 @@ abbrev pub after_line : Reading → List (List ℕ) → Result Reading WcnfFault
 after_line r [] = Ok r
 after_line r (w ∷ ws) =
     if is_comment w then Ok r else (if bytes_eq w (codes "p") then after_heading r (heading_of ws) else (
-    if bytes_eq w (codes "h") then after_hard r (clause_of ws) else after_weight (below_limit (number w)) r (clause_of ws)))
+    if bytes_eq w (codes "h") then after_clause with_hard r (clause_of ws) else after_weight (below_limit (number w)) r (clause_of ws)))
 
 -- a fault in the line
 abbrev pub at_line : ℕ → Result Reading WcnfFault → Result Reading WcnfError

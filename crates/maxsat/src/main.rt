@@ -1,11 +1,30 @@
 //! The program: solves a problem in a file, and prints the answer as the MaxSAT Evaluations ask for it.
 #![tactic(auto)]
 
+#[cfg(test)]
+mod tests;
+
 use std::io::{self, BufWriter};
 use std::process::ExitCode;
 use std::{env, fs};
+use varisat::line::parse_number;
 use varisat_formula::io::IoTarget;
 use varisat_maxsat::program::{solve_lines, tell};
+
+/// What `--help` prints.
+const HELP: &str = "maxsat FILE [--max-steps N]
+
+Solves the weighted partial MaxSAT problem in FILE, a WCNF text in the new or the old format. Prints one of
+
+    s OPTIMUM FOUND    exit code 30; a line o with the least cost stands before it, a line v with values behind it
+    s UNSATISFIABLE    exit code 20; nothing satisfies the hard clauses
+    s UNKNOWN          exit code 0; a limit was met. Behind --max-steps with lines o and v of the best solution
+                       so far, if one was found
+
+    --max-steps N    let no search make more than N steps, of which each ends with a conflict or an answer; there
+                     is a search for each core and each solution
+
+Exit code 2: a bad command line, or a fault, which standard error tells.";
 
 fn main(rt: HostRuntime) -> ExitCode {
     match run(&rt) {
@@ -14,13 +33,50 @@ fn main(rt: HostRuntime) -> ExitCode {
     }
 }
 
-/// Solves the problem in the file that the command line names.
-fn run(rt: &HostRuntime) -> io::Result<u8> {
-    let mut words = env::args(rt)?.skip(1);
-    let Some(path) = words.next() else {
-        return Ok(tell(&mut rt.stderr(), &"usage: maxsat FILE.wcnf"));
+/// What the command line asks for.
+#[derive(Clone, Copy)]
+enum Asked<'a> {
+    Help,
+    Solve(&'a str, Option<u64>),
+}
+
+/// Reads the words of the command line. None is for words that ask for nothing.
+fn asked_by(words: &[String]) -> Option<Asked<'_>> {
+    let (path, options) = words.split_first()?;
+    let path = path.as_str();
+    let Some((option, values)) = options.split_first() else {
+        return match path {
+            "--help" | "-h" => Some(Asked::Help),
+            _ => Some(Asked::Solve(path, None)),
+        };
     };
-    let text = fs::read(rt, path.as_str())?;
+    let (value, others) = values.split_first()?;
+    if option.as_str() != "--max-steps" || !others.is_empty() {
+        return None;
+    }
+    let steps = parse_number(value.as_str().as_bytes())?;
+    Some(Asked::Solve(path, Some(steps)))
+}
+
+/// Does what the command line asks for.
+fn run(rt: &HostRuntime) -> io::Result<u8> {
+    let mut words = Vec::new(rt.alloc());
+    for word in env::args(rt)?.skip(1) {
+        words.push(word)?;
+    }
+    match asked_by(words.as_slice()) {
+        Some(Asked::Help) => {
+            println!(rt; "{HELP}")?;
+            Ok(0)
+        }
+        Some(Asked::Solve(path, steps)) => solve(rt, path, steps),
+        None => Ok(tell(&mut rt.stderr(), &"usage: maxsat FILE [--max-steps N]")),
+    }
+}
+
+/// Solves the problem in the file.
+fn solve(rt: &HostRuntime, path: &str, steps: Option<u64>) -> io::Result<u8> {
+    let text = fs::read(rt, path)?;
     let mut out = IoTarget::new(BufWriter::new(rt.alloc(), io::writer(rt))?);
-    Ok(solve_lines(rt.alloc(), &text, &mut out, &mut rt.stderr()))
+    Ok(solve_lines(rt.alloc(), &text, steps, &mut out, &mut rt.stderr()))
 }

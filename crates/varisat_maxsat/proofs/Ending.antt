@@ -4,7 +4,7 @@ use Rattle.std.proofs.lemmas.List.{get_or-take, length-take-le}
 use Rattle.varisat_theory.specs.promises.Membership.{◌∈◌, ◌⊆◌}
 use Rattle.varisat_theory.specs.promises.Literals.{Literal, Clause, Assignment, variable_of, opposite, value, SatisfiesAll, MakesTrue, IsSatisfiable}
 use Rattle.varisat_theory.proofs.clauses.Values.{value-opposite, not_both, parity}
-use Rattle.varisat_maxsat.specs.promises.Problems.{Soft, cost, assignment_of, IsOptimum}
+use Rattle.varisat_maxsat.specs.promises.Problems.{Soft, cost, assignment_of, IsSolution, IsOptimum}
 use Rattle.varisat_maxsat.specs.inside.Charges.{charged, AgreeBelow, Reduces, AreAssumed, AreValues}
 use Rattle.varisat_maxsat.specs.declared.charge.Charge.{Charge}
 use Rattle.varisat_maxsat.proofs.Agreeing.{cost-agree, all-agree, value-positive, opposite-variable}
@@ -50,15 +50,31 @@ values-true {m} {model} {vs} a t r l i h =
 taken-agree : (n : ℕ) (vs : List Bool) → AgreeBelow n (assignment_of vs) (assignment_of (take n vs))
 taken-agree n vs v h = get_or-take n vs v false h
 
+satisfied-by : {H : List Clause} {S : List Soft} {n m k : ℕ} {P : List Clause} {cs : List Charge} {model : List Literal} {vs : List Bool} →
+    Reduces H S n m P cs [] 0 k → (a : Assignment) → MakesTrue a model → ((c : Clause) → c ∈ P → (l : Literal) × (l ∈ c) × (l ∈ model)) → AreValues m model vs →
+    SatisfiesAll (assignment_of vs) P
+satisfied-by r a t each vals c i = let (l, j, g) = each c i in (l, j, values-true a t vals l g (r.clauses_below c i l j))
+
+pub solution : {H : List Clause} {S : List Soft} {n m k : ℕ} {P : List Clause} {cs : List Charge} {model : List Literal} {vs : List Bool} →
+    Reduces H S n m P cs [] 0 k → (a : Assignment) → MakesTrue a model → ((c : Clause) → c ∈ P → (l : Literal) × (l ∈ c) × (l ∈ model)) → AreValues m model vs →
+    IsSolution (record { variables = n; hard = H; soft = S }) (cost (assignment_of (take n vs)) S) (take n vs)
+solution {H} {S} {n} {m} {k} {P} {cs} {model} {vs} r a t each vals = record {
+  each = let e = vals.each in let h = r.named in length-take-le n vs (omega arith);
+  satisfied = all-agree n (assignment_of vs) (assignment_of (take n vs)) H (taken-agree n vs) r.hard_below
+      (r.upper (assignment_of vs) (satisfied-by r a t each vals)).0;
+  costs = refl;
+}
+
 pub optimum : {H : List Clause} {S : List Soft} {n m k : ℕ} {P : List Clause} {cs : List Charge} {assumed model : List Literal} {vs : List Bool} →
     Reduces H S n m P cs [] 0 k → AreAssumed 0 cs assumed → (a : Assignment) → MakesTrue a model →
     ((c : Clause) → c ∈ P → (l : Literal) × (l ∈ c) × (l ∈ model)) → assumed ⊆ model → AreValues m model vs →
     IsOptimum (record { variables = n; hard = H; soft = S }) k (take n vs)
 optimum {H} {S} {n} {m} {k} {P} {cs} {assumed} {model} {vs} r q a t each sub vals = record {
-  each = let e = vals.each in let h = r.named in length-take-le n vs (omega arith);
-  satisfied = all-agree n whole short H agrees r.hard_below found.0;
-  costs = let e = cost-agree n whole short S agrees r.soft_below in let f = found.1 in let g = least short (all-agree n whole short H agrees r.hard_below found.0) in
-      omega arith;
+  solution = record {
+    each = found.each;
+    satisfied = found.satisfied;
+    costs = let e = cost-agree n whole short S (taken-agree n vs) r.soft_below in let f = no_more in let g = least short found.satisfied in omega arith;
+  };
   least = least;
 }
   where
@@ -68,11 +84,8 @@ optimum {H} {S} {n} {m} {k} {P} {cs} {assumed} {model} {vs} r q a t each sub val
     short : Assignment
     short = assignment_of (take n vs)
 
-    agrees : AgreeBelow n whole short
-    agrees = taken-agree n vs
-
-    clauses : SatisfiesAll whole P
-    clauses c i = let (l, j, g) = each c i in (l, j, values-true a t vals l g (r.clauses_below c i l j))
+    found : IsSolution (record { variables = n; hard = H; soft = S }) (cost short S) (take n vs)
+    found = solution r a t each vals
 
     uncharged : (c : Charge) → c ∈ cs → value whole c.literal ≡ false
     uncharged c i =
@@ -84,8 +97,8 @@ optimum {H} {S} {n} {m} {k} {P} {cs} {assumed} {model} {vs} r q a t each sub val
         turn true e = sym e
         turn false e = refl
 
-    found : SatisfiesAll whole H × (cost whole S ≤ k)
-    found = let (s, e) = r.upper whole clauses in let g = charged-none whole cs uncharged in (s, omega arith)
+    no_more : cost whole S ≤ k
+    no_more = let e = (r.upper whole (satisfied-by r a t each vals)).1 in let g = charged-none whole cs uncharged in omega arith
 
     least : (b : Assignment) → SatisfiesAll b H → k ≤ cost b S
     least b h = let (d, o, s, e) = r.lower b h in omega arith

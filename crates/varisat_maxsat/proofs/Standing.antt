@@ -1,20 +1,21 @@
 -- How a problem that is brought down moves on.
-use Rattle.std.proofs.Common.{◌≡◌, ℕ, ◌+◌, ◌*◌, ◌<◌, ◌≤◌, max, Bool, true, false, not, List, [], ◌∷◌, ◌++◌, take, drop, length, get_or, append_assoc, refl, sym, ap, ◌∙◌, subst, arith}
-use Rattle.std.specs.Prelude.{Result, Ok, Err, IfOk}
+use Rattle.std.proofs.Common.{◌≡◌, ℕ, ◌+◌, ◌*◌, ◌<◌, ◌≤◌, max, Bool, true, false, not, if◌then◌else◌, List, [], ◌∷◌, ◌++◌, take, drop, length, get_or, append_assoc, refl, sym, ap, ◌∙◌, subst, arith}
+use Rattle.std.specs.Prelude.{Option, IfSome, Result, Ok, Err, IfOk}
 use Rattle.std.proofs.lemmas.List.{take_more, length-take-le, length-append}
 use Rattle.varisat_formula.specs.promises.Formulas.{Formula, with_one_more, variables_of}
 use Rattle.varisat_theory.specs.promises.Membership.{◌∈◌}
 use Rattle.varisat_theory.specs.promises.Literals.{Literal, Clause, Assignment, opposite, MakesTrue, IsSatisfiable}
-use Rattle.varisat_client.specs.promises.Pasts.{Past, empty_past, count}
-use Rattle.varisat_client.specs.inside.Clients.{Client, RepresentsPast}
-use Rattle.varisat_maxsat.specs.promises.Problems.{Soft, Problem, with_hard, with_soft, paired, problem_of, IsOptimum}
+use Rattle.varisat_client.specs.promises.Pasts.{Past, empty_past, count, LimitsSteps, Refused, Limited}
+use Rattle.varisat_client.specs.inside.Clients.{Client, RepresentsPast, Moves}
+use Rattle.varisat_maxsat.specs.promises.Problems.{Problem, with_hard, with_soft, paired, problem_of, cost, is_satisfied, assignment_of, IsSolution, IsOptimum}
 use Rattle.varisat_maxsat.specs.inside.Charges.{AreBelow, Reduces, IsSplit, TakesWeight, AreValues, IsPending}
 use Rattle.varisat_maxsat.specs.inside.Reductions.{IsReady, Finds, FindsModel, FindsCore, Reduction, ReducesTo, ReducesToWith, ReducesToAfter}
 use Rattle.varisat_maxsat.specs.declared.charge.Charge.{Charge}
 use Rattle.varisat_maxsat.proofs.Adding.{nothing-added, hard-added, weightless-soft-added, soft-literal-added, soft-clause-added}
 use Rattle.varisat_maxsat.proofs.Taking.{core-charge, core-pending, core-taken}
 use Rattle.varisat_maxsat.proofs.Joining.{gate, joined, joined-pending, settled}
-use Rattle.varisat_maxsat.proofs.Ending.{unsatisfiable, optimum}
+use Rattle.varisat_maxsat.proofs.Ending.{unsatisfiable, solution, optimum}
+use Rattle.varisat_maxsat.proofs.Agreeing.{cost-append}
 
 -- a clause is given
 abbrev pub Gives : Clause → Client → Client → Type 0
@@ -146,6 +147,17 @@ stands-none p r w st = record {
   };
 }
 
+-- a model satisfies the hard clauses
+pub stands-solution : (p : Problem) (r : Reduction) (n : ℕ) (vs short : List Bool) →
+    ((q : Past) → IsReady r.client q → (a : Assignment) → MakesTrue a q.model → AreValues n q.model vs) → n ≡ r.named → short ≡ take r.variables vs →
+    (t : ℕ) → ReducesToAfter true t p r → IsSolution p (cost (assignment_of short) p.soft) short
+stands-solution p r n vs short values m e t st =
+    let f : FindsModel t r.charges st.clauses r.client = st.finds in
+    let (a, makes, all, assumes) = f.found.satisfied in
+    let v : AreValues r.named f.past.model vs = subst (λ x. AreValues x f.past.model vs) m (values f.past f.ready a makes) in
+    subst (λ xs. IsSolution p (cost (assignment_of xs) p.soft) xs) (ap (λ x. take x vs) (sym st.variables) ∙ sym e)
+    (solution st.reduces a makes f.found.each v)
+
 -- no charge is due in the model
 pub stands-optimal : (p : Problem) (r : Reduction) (n : ℕ) (vs short : List Bool) →
     ((q : Past) → IsReady r.client q → (a : Assignment) → MakesTrue a q.model → AreValues n q.model vs) → n ≡ r.named → short ≡ take r.variables vs →
@@ -229,6 +241,24 @@ empty-by (x ∷ xs) ys e f = let g : length (x ∷ xs) ≡ length xs = ap length
 pub with-pending : (p : Problem) (r : Reduction) (w : ℕ) (xs ys : List Literal) → xs ≡ ys → ReducesToWith p xs w r → ReducesToWith p ys w r
 with-pending p r w xs ys e st = subst (λ x. ReducesToWith p x w r) e st
 
+-- a limit of steps
+pub limit-step : (p : Problem) (r : Reduction) (h : Client) (n : ℕ) → Moves (LimitsSteps n) r.client h → ReducesTo p r → ReducesTo p (record r { client = h })
+limit-step p r h n moves st = let (q, m, s) = moves st.past st.ready.stands in go q m s
+  where
+    go : (q : Past) → LimitsSteps n st.past q → RepresentsPast h q → ReducesTo p (record r { client = h })
+    go q (Refused f e) s = absurd (f st.ready.refusal)
+    go q (Limited f e) s = record {
+      past = record st.past { limit = n };
+      ready = record {
+        stands = subst (RepresentsPast h) e s;
+        refusal = st.ready.refusal;
+        clause = st.ready.clause;
+        assumptions = st.ready.assumptions;
+      };
+      variables = st.variables;
+      reduces = st.reduces;
+    }
+
 -- a search is forgotten
 pub stands-still : (p : Problem) (r : Reduction) (b : Bool) (t : ℕ) → ReducesToAfter b t p r → ReducesTo p r
 stands-still p r true t st =
@@ -248,6 +278,10 @@ stands-still p r false t st =
       reduces = subst (λ P. Reduces p.hard p.soft p.variables r.named P r.charges [] 0 r.bound) (sym f.clauses) st.reduces;
     }
 
+-- what holds of the best solution so far
+pub best-moves : {X : Type 0} (P : X → Type 0) (o q : Option X) → q ≡ o → IfSome o P → IfSome q P
+best-moves P o q e h = subst (λ x. IfSome x P) (sym e) h
+
 -- clauses with their weights
 pub paired-append : (ws : List ℕ) (cs : List Clause) (w : ℕ) (c : Clause) → length ws ≡ length cs →
     paired (ws ++ w ∷ []) (cs ++ c ∷ []) ≡ paired ws cs ++ record { weight = w; clause = c } ∷ []
@@ -261,6 +295,13 @@ pub paired-next : (ws : List ℕ) (i : ℕ) (cs : List Clause) (c : Clause) → 
 paired-next ws i cs c h e =
     ap (λ x. paired x (cs ++ c ∷ [])) (take_more ws i 0 h)
     ∙ paired-append (take i ws) cs (get_or ws i 0) c (length-take-le i ws (let l = h in omega arith) ∙ e)
+
+-- a weight more of what is not satisfied
+pub cost-next : (a : Assignment) (ws : List ℕ) (i : ℕ) (cs ds : List Clause) (c : Clause) (k m s : ℕ) → i < length ws → i ≡ length cs → ds ≡ cs ++ c ∷ [] →
+    s ≡ cost a (paired (take i ws) cs) → m ≡ (if is_satisfied a c then 0 else get_or ws i 0) → k ≡ s + m → k ≡ cost a (paired (take (i + 1) ws) ds)
+cost-next a ws i cs ds c k m s h e f g o q =
+    subst (λ x. k ≡ cost a (paired (take (i + 1) ws) x)) (sym f) (subst (λ x. k ≡ cost a x) (sym (paired-next ws i cs c h e))
+    (let z = cost-append a (paired (take i ws) cs) (record { weight = get_or ws i 0; clause = c } ∷ []) in omega arith))
 
 pub soft-next : (p : Problem) (r : Reduction) (ws : List ℕ) (i : ℕ) (cs ds : List Clause) (c : Clause) → i < length ws → i ≡ length cs → ds ≡ cs ++ c ∷ [] →
     ReducesTo (with_soft (get_or ws i 0) c (record p { soft = p.soft ++ paired (take i ws) cs })) r →

@@ -12,4 +12,4 @@ pub mod wcnf;
 
 pub use problem::Problem;
 pub use refusal::MaxSatError;
-pub use solving::{Optimum, optimize};
+pub use solving::{Optimum, Solution, optimize, optimize_within};

@@ -1,7 +1,8 @@
 //! Problems.
-ghost use Rattle.std.specs.Prelude.{◌≡◌, ◌++◌, ◌∷◌, [], ◌+◌, max, OnOk, OnErr, IfOk, ◌≤◌, ◌^◌, length};
+ghost use Rattle.std.specs.Prelude.{◌≡◌, ◌++◌, ◌∷◌, [], ◌+◌, max, OnOk, OnErr, IfOk, IfSome, ◌≤◌, ◌^◌, length, if◌then◌else◌};
 ghost use Rattle.varisat_formula.specs.promises.Formulas.{variables_of};
-ghost use Rattle.varisat_maxsat.specs.promises.Problems.{Problem as Asked, starting, paired, with_hard, with_soft};
+ghost use Rattle.varisat_theory.specs.promises.Literals.{value};
+ghost use Rattle.varisat_maxsat.specs.promises.Problems.{Problem as Asked, starting, paired, with_hard, with_soft, assignment_of, is_satisfied, cost};
 ghost use Rattle.varisat_maxsat.specs.inside.Reductions.{ReducesTo};
 
 use crate::reduction::Reduction;
@@ -64,6 +65,60 @@ fn add_all_soft<A: Allocator + Copy>(
     Ok(())
 }
 
+/// Whether the literal is true. A variable without a value is false.
+#[tactic(auto, unfolding(varisat_theory::specs::promises::Literals::value))]
+fn is_true(values: &[bool], literal: Lit) -> bool
+    ensures { result ≡ value (assignment_of values.now) literal }
+{
+    let value = match values.get(literal.index()) {
+        Some(value) => *value,
+        None => false,
+    };
+    if literal.is_positive() { value } else { !value }
+}
+
+/// Whether a literal of the clause is true.
+fn is_satisfied(values: &[bool], clause: &[Lit]) -> bool
+    ensures { result ≡ is_satisfied (assignment_of values.now) clause.now }
+{
+    for literal in clause {
+        if is_true(values, *literal) {
+            return true;
+        }
+    }
+    false
+}
+
+/// The weight of a clause that is not satisfied, else 0.
+fn missed(values: &[bool], weight: u64, clause: &[Lit]) -> u64
+    ensures { result ≡ (if is_satisfied (assignment_of values.now) clause.now then 0 else weight) }
+{
+    if is_satisfied(values, clause) {
+        0
+    } else {
+        weight
+    }
+}
+
+/// The sum of the weights of the clauses that are not satisfied, if it is below 2^64.
+fn cost_of<A: Allocator + Copy>(
+    formula: &CnfFormula<A>,
+    weights: &[u64],
+    values: &[bool],
+) -> Option<u64>
+    requires { length weights.now ≡ length formula.now.clauses }
+    ensures { IfSome result
+        (λ sum. sum ≡ cost (assignment_of values.now) (paired weights.now formula.now.clauses)) }
+{
+    let mut sum: u64 = 0;
+    let mut index = 0;
+    for clause in formula.iter() {
+        sum = sum.checked_add(missed(values, weights[index], clause))?;
+        index += 1;
+    }
+    Some(sum)
+}
+
 impl<A: Allocator + Copy> Problem<A> {
     /// A problem without clauses and variables. It takes no memory.
     pub fn new_in(alloc: A) -> Problem<A>
@@ -115,6 +170,14 @@ impl<A: Allocator + Copy> Problem<A> {
         self.soft.add_clause(clause)?;
         self.weights.push_reserved(weight);
         Ok(())
+    }
+
+    /// What the values cost, if it is below 2^64.
+    pub fn cost(&self, values: &[bool]) -> Option<u64>
+        ensures { IfSome result (λ sum. cost (assignment_of values.now) self.now.soft ≡ sum) }
+    {
+        let sum = cost_of(&self.soft, &self.weights, values)?;
+        Some(sum)
     }
 
     /// Brings the problem down.

@@ -1,10 +1,10 @@
 //! What the program prints, and its status.
 ghost use Rattle.std.specs.Prelude.{◌≡◌, ◌-◌, ◌^◌, ◌<◌, ◌++◌, OnOk, IfOk, codes, if◌then◌else◌};
-ghost use Rattle.varisat_maxsat.specs.promises.Problems.{IsOptimum};
-ghost use Rattle.varisat_maxsat.specs.inside.Printed.{value_digits, optimum_text, Prints, Answers, AnswersText};
+ghost use Rattle.varisat_maxsat.specs.promises.Problems.{IsAnswer};
+ghost use Rattle.varisat_maxsat.specs.inside.Printed.{value_digits, solution_text, verdict_line, verdict_status, Prints, Answers, AnswersText};
 
 use crate::problem::Problem;
-use crate::solving::{Optimum, optimize};
+use crate::solving::{Solution, optimize_within};
 use crate::wcnf::parse;
 use itoa::Buffer;
 use std::alloc::{AllocError, Allocator};
@@ -26,11 +26,13 @@ pub const STATUS_UNSATISFIABLE: u8 = 20;
 pub const STATUS_OPTIMUM: u8 = 30;
 
 /// Solves the problem of a WCNF text, and prints the answer as the MaxSAT Evaluations ask for it: `o`, `s OPTIMUM FOUND` and
-/// `v`, status 30; `s UNSATISFIABLE`, status 20; or `s UNKNOWN`, status 0, where a limit was met, which is reported on `err`. A
-/// fault of the text, the target or memory is reported on `err`, and the status is 2.
+/// `v`, status 30; `s UNSATISFIABLE`, status 20; or `s UNKNOWN`, status 0, where a search made the steps that it may, with `o` and `v`
+/// of the best solution until then, if there is one, or where another limit was met, which is reported on `err`. A fault of the
+/// text, the target or memory is reported on `err`, and the status is 2.
 pub fn solve_lines<A: Allocator + Copy, T: ProofTarget, E: Write>(
     alloc: A,
     text: &[u8],
+    steps: Option<u64>,
     out: &mut T,
     err: &mut E,
 ) -> u8
@@ -38,7 +40,7 @@ pub fn solve_lines<A: Allocator + Copy, T: ProofTarget, E: Write>(
     ensures { AnswersText text.now (T.taken out.old) (T.taken out.new) result }
 {
     match parse(text, alloc) {
-        Ok(problem) => solve_problem(alloc, &problem, out, err),
+        Ok(problem) => solve_problem(alloc, &problem, steps, out, err),
         Err(error) => tell(err, &error),
     }
 }
@@ -47,14 +49,15 @@ pub fn solve_lines<A: Allocator + Copy, T: ProofTarget, E: Write>(
 fn solve_problem<A: Allocator + Copy, T: ProofTarget, E: Write>(
     alloc: A,
     problem: &Problem<A>,
+    steps: Option<u64>,
     out: &mut T,
     err: &mut E,
 ) -> u8
     requires { (T.taken out.old).faults < 2 ^ 64 - 1 }
     ensures { Answers problem.now (T.taken out.old) (T.taken out.new) result }
 {
-    match optimize(problem, alloc) {
-        Ok(Some(optimum)) => print_optimum(alloc, &optimum, out, err),
+    match optimize_within(problem, steps, alloc) {
+        Ok(Some(solution)) => print_solution(alloc, &solution, out, err),
         Ok(None) => print_answer(b"s UNSATISFIABLE\n", STATUS_UNSATISFIABLE, out, err),
         Err(error) => {
             // A writer that fails here leaves nothing to report.
@@ -64,39 +67,64 @@ fn solve_problem<A: Allocator + Copy, T: ProofTarget, E: Write>(
     }
 }
 
-/// Prints an optimum.
-fn print_optimum<A: Allocator + Copy, T: ProofTarget, E: Write>(
+/// Prints a solution.
+fn print_solution<A: Allocator + Copy, T: ProofTarget, E: Write>(
     alloc: A,
-    optimum: &Optimum<A>,
+    solution: &Solution<A>,
     out: &mut T,
     err: &mut E,
 ) -> u8
     requires { (T.taken out.old).faults < 2 ^ 64 - 1 }
-    ensures { Prints (optimum_text optimum.now.cost optimum.now.values.items) 30 (T.taken out.old)
-        (T.taken out.new) result }
+    ensures { Prints (solution_text solution.now.is_optimum solution.now.cost solution.now.values.items)
+        (verdict_status solution.now.is_optimum) (T.taken out.old) (T.taken out.new) result }
 {
-    match written(alloc, optimum.cost, &optimum.values) {
-        Ok(text) => print_answer(&text, STATUS_OPTIMUM, out, err),
+    match written(alloc, solution.is_optimum, solution.cost, &solution.values) {
+        Ok(text) => print_answer(&text, status_of(solution.is_optimum), out, err),
         Err(error) => tell(err, &error),
     }
 }
 
-/// The text of an optimum.
+/// The text of a solution.
 fn written<A: Allocator + Copy>(
     alloc: A,
+    is_optimum: bool,
     cost: u64,
     values: &[bool],
 ) -> Result<Vec<u8, A>, AllocError>
-    ensures { IfOk result (λ text. text.items ≡ optimum_text cost values.now) }
+    ensures { IfOk result (λ text. text.items ≡ solution_text is_optimum cost values.now) }
 {
     let mut text = Vec::new(alloc);
     let mut buffer = Buffer::new();
     text.extend_from_slice(b"o ")?;
     text.extend_from_slice(buffer.format(cost).as_bytes())?;
-    text.extend_from_slice(b"\ns OPTIMUM FOUND\nv ")?;
+    text.extend_from_slice(b"\n")?;
+    text.extend_from_slice(verdict_of(is_optimum))?;
+    text.extend_from_slice(b"v ")?;
     put_values(&mut text, values)?;
     text.push(b'\n')?;
     Ok(text)
+}
+
+/// The line that tells whether a solution is an optimum.
+fn verdict_of(is_optimum: bool) -> &'static [u8]
+    ensures { result.now ≡ verdict_line is_optimum }
+{
+    if is_optimum {
+        b"s OPTIMUM FOUND\n"
+    } else {
+        b"s UNKNOWN\n"
+    }
+}
+
+/// The status of a solution.
+fn status_of(is_optimum: bool) -> u8
+    ensures { result ≡ verdict_status is_optimum }
+{
+    if is_optimum {
+        STATUS_OPTIMUM
+    } else {
+        STATUS_UNKNOWN
+    }
 }
 
 /// Puts a digit for each value behind the text.

@@ -1,6 +1,6 @@
 //! A problem that is reduced to hard clauses, and literals that cost a weight each.
 ghost use Rattle.std.specs.Prelude.{◌≡◌, ◌+◌, ◌*◌, ◌++◌, ◌∷◌, [], List, ℕ, OnOk, IfOk, true, false};
-ghost use Rattle.varisat_maxsat.specs.promises.Problems.{Problem, with_hard, with_soft, IsOptimum};
+ghost use Rattle.varisat_maxsat.specs.promises.Problems.{Problem, with_hard, with_soft, assignment_of, cost, IsSolution, IsOptimum};
 ghost use Rattle.varisat_maxsat.specs.inside.Reductions.{ReducesTo, ReducesToWith, ReducesToAfter, IsRelaxed};
 
 use crate::charge::{Charge, least_weight, take_weight};
@@ -98,6 +98,13 @@ impl<A: Allocator + Copy> Reduction<A> {
         Ok(())
     }
 
+    /// How many steps one search may make.
+    pub fn limit_steps(&mut self, steps: u64)
+        ensures { (p : Problem) → ReducesTo p self.old → ReducesTo p self.new }
+    {
+        self.client.limit_steps(steps);
+    }
+
     /// Searches for a model in which no literal is true whose weight is no less than the threshold.
     pub fn search(&mut self, threshold: u64) -> Result<bool, MaxSatError>
         ensures { IfOk result (λ b. (p : Problem) → ReducesTo p self.old → ReducesToAfter b threshold p self.new) }
@@ -170,7 +177,10 @@ impl<A: Allocator + Copy> Reduction<A> {
 
     /// The values of the problem's variables in the model.
     pub fn values(&self) -> Result<Vec<bool, A>, MaxSatError>
-        ensures { IfOk result
+        ensures solution { IfOk result
+            (λ vs. (p : Problem) (t : ℕ) → ReducesToAfter true t p self.now →
+            IsSolution p (cost (assignment_of vs.items) p.soft) vs.items) }
+        ensures optimum { IfOk result
             (λ vs. (p : Problem) → ReducesToAfter true 0 p self.now → IsOptimum p self.now.bound vs.items) }
     {
         let mut values = values(&self.client, self.named, self.alloc)?;

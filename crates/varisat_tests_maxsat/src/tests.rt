@@ -1,6 +1,8 @@
 //! The tests.
 
 use std::alloc::{Allocator, Global};
+use varisat_formula::io::MemoryTarget;
+use varisat_maxsat::program::solve_lines;
 use varisat_maxsat::wcnf::{WcnfFault, parse};
 use varisat_maxsat::{MaxSatError, optimize};
 use varisat_tests_heap::CutHeap;
@@ -67,6 +69,25 @@ fn a_fault_has_its_line(rt: HostRuntime) {
     assert!(rt; solved(alloc, "p cnf 1 1\n") == End::Fault(1, WcnfFault::Header));
     assert!(rt; solved(alloc, "h 268435457 0\n") == End::Fault(1, WcnfFault::VariableLimit));
     assert!(rt; solved(alloc, "18446744073709551616 1 0\n") == End::Fault(1, WcnfFault::Start));
+}
+
+// Petersen's graph: of each edge a vertex is taken, which costs 1. In the first search no clause can be false.
+const COVER: &[u8] =
+    b"h 1 2 0\nh 2 3 0\nh 3 4 0\nh 4 5 0\nh 5 1 0\nh 6 8 0\nh 8 10 0\nh 10 7 0\nh 7 9 0\nh 9 6 0\nh 1 6 0\nh 2 7 0\nh 3 8 0\nh 4 9 0\nh 5 10 0\n1 -1 0\n1 -2 0\n1 -3 0\n1 -4 0\n1 -5 0\n1 -6 0\n1 -7 0\n1 -8 0\n1 -9 0\n1 -10 0\n";
+
+#[test]
+fn the_best_solution_is_printed_where_the_steps_are_spent(rt: HostRuntime) {
+    let rows: [(Option<u64>, &[u8], u8); 4] = [
+        (Some(0), b"s UNKNOWN\n", 0),
+        (Some(1), b"o ", 0),
+        (Some(1000), b"o 6\ns OPTIMUM FOUND\n", 30),
+        (None, b"o 6\ns OPTIMUM FOUND\n", 30),
+    ];
+    for (steps, beginning, wanted) in rows {
+        let mut out = MemoryTarget::new_in(rt.alloc());
+        let status = solve_lines(rt.alloc(), COVER, steps, &mut out, &mut rt.stderr());
+        assert!(rt; status == wanted && out.bytes().starts_with(beginning));
+    }
 }
 
 const WEIGHTED: &str =

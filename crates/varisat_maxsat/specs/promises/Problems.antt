@@ -1,5 +1,6 @@
 -- What is asked of a solver, and what its answer says.
-use Rattle.std.specs.Prelude.{◌≡◌, ℕ, ◌+◌, ◌≤◌, Bool, false, ◌||◌, if◌then◌else◌, List, [], ◌∷◌, ◌++◌, length, slice_index_or}
+use Rattle.std.specs.Prelude.{◌≡◌, ℕ, ◌+◌, ◌≤◌, Bool, true, false, if◌then◌else◌, List, [], ◌∷◌, ◌++◌, length, slice_index_or}
+use Rattle.std.specs.List.{list_any}
 use Rattle.varisat_theory.specs.promises.Literals.{Clause, Assignment, value, SatisfiesAll}
 
 -- A soft clause, and what an assignment costs that does not satisfy it.
@@ -36,8 +37,7 @@ with_soft w c p = record p { soft = p.soft ++ record { weight = w; clause = c } 
 
 -- whether a literal of the clause is true
 abbrev pub is_satisfied : Assignment → Clause → Bool
-is_satisfied a [] = false
-is_satisfied a (l ∷ ls) = value a l || is_satisfied a ls
+is_satisfied a c = list_any (value a) c
 
 -- the sum of the weights of the clauses that the assignment does not satisfy
 abbrev pub cost : Assignment → List Soft → ℕ
@@ -48,9 +48,18 @@ cost a (s ∷ ss) = (if is_satisfied a s.clause then 0 else s.weight) + cost a s
 abbrev pub assignment_of : List Bool → Assignment
 assignment_of values v = slice_index_or values v false
 
--- The values satisfy the hard clauses at this cost, and no assignment that satisfies these costs less.
-pub record IsOptimum (p : Problem) (c : ℕ) (values : List Bool) : Type 0 where
+-- The values satisfy the hard clauses at this cost.
+pub record IsSolution (p : Problem) (c : ℕ) (values : List Bool) : Type 0 where
   pub each : length values ≡ p.variables
   pub satisfied : SatisfiesAll (assignment_of values) p.hard
   pub costs : cost (assignment_of values) p.soft ≡ c
+
+-- So they do, and no assignment that satisfies the hard clauses costs less.
+pub record IsOptimum (p : Problem) (c : ℕ) (values : List Bool) : Type 0 where
+  pub solution : IsSolution p c values
   pub least : (a : Assignment) → SatisfiesAll a p.hard → c ≤ cost a p.soft
+
+-- an optimum, or where it is not known to be one a solution
+abbrev pub IsAnswer : Bool → Problem → ℕ → List Bool → Type 0
+IsAnswer true = IsOptimum
+IsAnswer false = IsSolution

@@ -1,27 +1,32 @@
-use Rattle.std.proofs.Common.{◌≡◌, true, false, sym, subst}
+use Rattle.std.proofs.Common.{◌≡◌, true, sym, subst}
 use Rattle.varisat_maxsat.specs.inside.Reductions.{ReducesTo, ReducesToAfter, IsRelaxed}
-use Rattle.varisat_maxsat.proofs.Standing.{stands-still, not-true, not-false}
+use Rattle.varisat_maxsat.proofs.Standing.{stands-still, best-moves, not-false}
 use Rattle.varisat_maxsat.proofs.solving.descend.Goals as goal
-use Rattle.varisat_maxsat.proofs.solving.descend.Goals.{then-branch+else-threshold-eq0, else-branch+in_ok-relax+else-not-branch}
+use Rattle.varisat_maxsat.proofs.solving.descend.Goals.{then-branch+else-threshold-eq0+in_ok-keep_better, else-branch+in_ok-relax+else-not-branch}
 
-pub returns-then-threshold-eq0 : goal.returns-then-threshold-eq0
-returns-then-threshold-eq0 g c = λ p st.
-    subst (λ t. ReducesToAfter true t p c.search.new.self) c.if-threshold-eq0.true
-    (subst (λ b. ReducesToAfter b c.turns.threshold p c.search.new.self) c.if-branch.true (c.in_ok-search.ensures p (c.turns.invariant p st)))
-
-pub returns-then-not-branch : goal.returns-then-not-branch
-returns-then-not-branch g c = λ p st.
-    let e : c.in_ok-relax.field-0 ≡ false = first_of (assumption c.if-not-branch.true, search (not-true, c.if-not-branch.true)) in
-    subst (λ b. IsRelaxed b p c.relax.new.self) e (c.in_ok-relax.ensures p c.turns.threshold
-    (subst (λ b. ReducesToAfter b c.turns.threshold p c.search.new.self) c.if-branch.false (c.in_ok-search.ensures p (c.turns.invariant p st))))
+pub returns-then-threshold-eq0-clause-ends : goal.returns-then-threshold-eq0-clause-ends
+returns-then-threshold-eq0-clause-ends g c = λ st.
+    subst (λ t. ReducesToAfter true t c.args.problem.now c.search.new.self) c.if-threshold-eq0.true
+    (subst (λ b. ReducesToAfter b c.turns.threshold c.args.problem.now c.search.new.self) c.if-branch.true
+    (c.in_ok-search.ensures c.args.problem.now (c.turns.invariant.ready st)))
 
 pub turns-preserved : goal.turns-preserved
 turns-preserved g c =
     elim c.if-branch.branch [
-      | then-branch+else-threshold-eq0 w ↦ λ p st.
-          subst (ReducesTo p) (sym w.reduction-is) (stands-still p _ _ _ (c.in_ok-search.ensures p (c.turns.invariant p st)))
-      | else-branch+in_ok-relax+else-not-branch w ↦ λ p st.
-          let e : w.in_ok-relax.field-0 ≡ true = first_of (assumption w.if-not-branch.false, search (not-false, w.if-not-branch.false)) in
-          subst (ReducesTo p) (sym w.reduction-is) (subst (λ b. IsRelaxed b p w.relax.new.self) e (w.in_ok-relax.ensures p c.turns.threshold
-          (subst (λ b. ReducesToAfter b c.turns.threshold p c.search.new.self) w.if-branch.false (c.in_ok-search.ensures p (c.turns.invariant p st)))))
+      | then-branch+else-threshold-eq0+in_ok-keep_better w ↦ record {
+        ready = λ st. subst (ReducesTo c.args.problem.now) (sym w.reduction-is)
+            (stands-still c.args.problem.now _ _ _ (c.in_ok-search.ensures c.args.problem.now (c.turns.invariant.ready st)));
+        best = λ st h. best-moves _ _ _ w.best-is (w.keep_better.ensures c.turns.threshold
+            (subst (λ b. ReducesToAfter b c.turns.threshold c.args.problem.now c.search.new.self) w.if-branch.true
+            (c.in_ok-search.ensures c.args.problem.now (c.turns.invariant.ready st))) (c.turns.invariant.best st h));
+      }
+      | else-branch+in_ok-relax+else-not-branch w ↦ record {
+        ready = λ st.
+            let e : w.in_ok-relax.field-0 ≡ true = first_of (assumption w.if-not-branch.false, search (not-false, w.if-not-branch.false)) in
+            subst (ReducesTo c.args.problem.now) (sym w.reduction-is)
+            (subst (λ b. IsRelaxed b c.args.problem.now w.relax.new.self) e (w.in_ok-relax.ensures c.args.problem.now c.turns.threshold
+            (subst (λ b. ReducesToAfter b c.turns.threshold c.args.problem.now c.search.new.self) w.if-branch.false
+            (c.in_ok-search.ensures c.args.problem.now (c.turns.invariant.ready st)))));
+        best = λ st h. best-moves _ _ _ w.best-is (c.turns.invariant.best st h);
+      }
     ]

@@ -1,10 +1,12 @@
-use Rattle.std.proofs.Common.{subst}
-use Rattle.varisat_maxsat.specs.promises.Problems.{starting}
-use Rattle.varisat_maxsat.specs.inside.Reductions.{ReducesTo}
-use Rattle.varisat_maxsat.proofs.Standing.{if-ok}
+use Rattle.std.proofs.Common.{◌≡◌, true, subst, MatchOption}
+use Rattle.varisat_theory.specs.promises.Literals.{IsSatisfiable}
+use Rattle.varisat_maxsat.specs.promises.Problems.{IsAnswer}
+use Rattle.varisat_maxsat.proofs.Standing.{not-false}
 use Rattle.varisat_maxsat.proofs.solving.optimize.Goals as goal
 
 pub returns : goal.returns
 returns g c =
-    if-ok c.solve-found.result _ _ (λ o f. f (subst (λ n. ReducesTo (starting n) c.new_in-reduction.result) c.var_count.ensures.count c.new_in-reduction.ensures))
-    c.solve-found.ensures
+    let e : c.in-Some.solution.is_optimum ≡ true = first_of (assumption c.if-not-solution.false, search (not-false, c.if-not-solution.false)) in
+    subst (λ b. IsAnswer b c.args.problem.now c.in-Some.solution.cost c.in-Some.solution.values.items) e
+    (subst (λ o. MatchOption o (IsSatisfiable c.args.problem.now.hard → ⊥) (λ s. IsAnswer s.is_optimum c.args.problem.now s.cost s.values.items))
+    c.in-Some.is c.in_ok-solution.ensures)

@@ -1,0 +1,10 @@
+use Rattle.std.proofs.Common.{subst}
+use Rattle.varisat_maxsat.specs.promises.Problems.{starting}
+use Rattle.varisat_maxsat.specs.inside.Reductions.{ReducesTo}
+use Rattle.varisat_maxsat.proofs.Standing.{if-ok}
+use Rattle.varisat_maxsat.proofs.solving.optimize_within.Goals as goal
+
+pub returns : goal.returns
+returns g c =
+    if-ok c.solve-found.result _ _ (λ o f. f (subst (λ n. ReducesTo (starting n) c.new_in-reduction.result) c.var_count.ensures.count c.new_in-reduction.ensures))
+    c.solve-found.ensures

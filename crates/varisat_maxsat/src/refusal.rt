@@ -22,8 +22,8 @@ pub enum MaxSatError {
     /// The least cost is 2^64 or more.
     #[error("the least cost is 2^64 or more")]
     CostOverflow,
-    /// All steps that can be counted were made.
-    #[error("all steps that can be counted were made")]
+    /// A search made all the steps that it may, or no more can be counted.
+    #[error("a search made all the steps that it may")]
     StepsSpent,
 }
 

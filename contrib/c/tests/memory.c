@@ -114,6 +114,6 @@ int main(void) {
     }
     CHECK(unopened > 0 && refused > 20);
     int simplifiers = refuse_simplifiers();
-    CHECK(simplifiers > 10);
+    CHECK(simplifiers > 15);
     printf("%d refusals passed\n", unopened + refused + simplifiers);
 }

@@ -1,3 +1,5 @@
 //! The tests, a file for each subject.
 
 mod answers;
+mod costs;
+mod simplifying;

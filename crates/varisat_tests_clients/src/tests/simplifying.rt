@@ -1,4 +1,4 @@
-//! The tests.
+//! What is left of worked examples where they are simplified, and each growth refused.
 
 use std::alloc::{Allocator, Global};
 use varisat_formula::dimacs::DimacsParser;

@@ -1,4 +1,4 @@
-//! The tests.
+//! MaxSAT: how texts are read, where a fault is, that an optimum is found, and each growth refused.
 
 use std::alloc::{Allocator, Global};
 use varisat_formula::io::MemoryTarget;
@@ -50,7 +50,7 @@ fn a_core_of_many_is_counted(rt: HostRuntime) {
 }
 
 #[test]
-fn the_greatest_costs_are_told_or_refused(rt: HostRuntime) {
+fn the_greatest_costs_are_found_or_refused(rt: HostRuntime) {
     let alloc = rt.alloc();
     assert!(rt; solved(alloc, "18446744073709551615 0\n") == End::Cost(u64::MAX));
     assert!(rt;

@@ -2,5 +2,9 @@
 
 mod assignments;
 mod hiding;
+mod lines;
 mod plain_states;
+mod programs;
+mod proofs;
 mod random_modes;
+mod random_proofs;

@@ -1,6 +1,8 @@
--- What the reductions and the collection that are due at a step do to a context.
+-- What inprocessing that is due at a step does to a context: reductions and the collection.
 use Rattle.std.specs.Prelude.{◌≡◌, ◌≢◌, ◌*◌, ◌/◌, ◌%◌, ◌<◌, ◌≤◌, ◌++◌, List, [], length}
-use Rattle.varisat_theory.specs.promises.Derivations.{Line}
+use Rattle.varisat_theory.specs.promises.Membership.{◌∈◌, ◌⊆◌}
+use Rattle.varisat_theory.specs.promises.Literals.{Clause}
+use Rattle.varisat_theory.specs.promises.Derivations.{Line, IsPresentAfter}
 use Rattle.varisat_clause.specs.Stores.{Store, stored_clauses, HoldsClauses}
 use Rattle.varisat_clause.specs.Collected.{IsCollected}
 use Rattle.varisat_clause.specs.Reductions.{ReducesLocals, mids_reduced}
@@ -13,7 +15,7 @@ use Rattle.varisat_analysis.specs.Reductions.{reasons_marked, Discards}
 use Rattle.varisat_analysis.specs.Collections.{Repacks}
 use Rattle.varisat_search.specs.Progress.{ProvesTo, StepsTo}
 use Rattle.varisat_search.specs.Restarts.{KeepsAssignment, RestartsByPolicy, SavesUndone}
-use Rattle.varisat_search.specs.RootSimplified.{SimplifiesRootFirst}
+use Rattle.varisat_search.specs.RootSimplified.{HasRootNews, KeepsFixed, GoesOnByLines, SimplifiesRootFirst}
 use Rattle.varisat_search.specs.Deletions.{unmarked_deletions}
 
 -- the store holds the context's clauses, and those that are reasons are marked
@@ -55,14 +57,6 @@ pub record CollectsIfDue {A : Type 0} (x y : Context A) : Type 0 where
   pub repacks : IsCollectionDue x → Repacks (view x) (view y)
   pub stays : 2 * x.clause_db.garbage ≤ length x.clause_alloc.words → y ≡ x
 
--- The reductions in turn, and then the collection. Lines come from the first alone.
-pub record ReducesIfDue {A : Type 0} (lines : List Line) (x z : Context A) : Type 0 where
-  pub after_locals : Context A
-  pub after_mids : Context A
-  pub locals : ReducesLocalsIfDue lines x after_locals
-  pub mids : ReducesMidsIfDue after_locals after_mids
-  pub collected : CollectsIfDue after_mids z
-
 -- The search can go on as it was, and what goes from the proof goes by lines for which `are` holds.
 pub record KeepsSearch {A : Type 0} (are : List Line → Type 0) (x y : Context A) : Type 0 where
   pub ready : IsReady y
@@ -70,8 +64,45 @@ pub record KeepsSearch {A : Type 0} (are : List Line → Type 0) (x y : Context 
   pub proves : (lines : List Line) × ProvesTo lines x y × are lines
   pub decidable : SameDecidable (view x) x.vsids (view y) y.vsids
 
--- A step begins: a restart down to the last assumption, where that is due, and then the reductions and the collection, by
--- lines for which `are` holds.
+-- there are no lines
+abbrev pub NoLines : List Line → Type 0
+NoLines lines = lines ≡ []
+
+-- of each clause that is held before the lines a part is held after them
+abbrev pub KeepsPartsBy : List Line → Type 0
+KeepsPartsBy lines = (held after : List Clause) → IsPresentAfter held lines after →
+    (c : Clause) → c ∈ held → (d : Clause) × (d ∈ after) × (d ⊆ c)
+
+-- The contract of all inprocessing: it does what `does` says, and the search goes on, by lines for which `are` holds.
+pub record Inprocesses {A : Type 0} (does : List Line → Context A → Context A → Type 0) (are : List Line → Type 0)
+    (x y : Context A) : Type 0 where
+  -- unless Local clauses are to be reduced a part of each clause stays in the proof
+  pub goes_on : GoesOnByLines
+      (λ lines. does lines x y
+      × (x.schedule.steps % x.solver_config.reduce_locals_interval ≢ 0 → KeepsPartsBy lines) × are lines) x y
+  -- a new literal of level 0 is still to be propagated
+  pub fixes : KeepsFixed (view x) (view y)
+  pub news : HasRootNews (view x) → HasRootNews (view y)
+
+-- The one and then the other, each by its lines.
+pub record InTurn {A : Type 0} (first next : List Line → Context A → Context A → Type 0) (lines : List Line)
+    (x z : Context A) : Type 0 where
+  pub between : Context A
+  pub front : List Line
+  pub back : List Line
+  pub parts : lines ≡ front ++ back
+  pub begins : first front x between
+  pub ends : next back between z
+
+-- All of it, in the order of `inprocess_if_due`: this is the list to which more is added.
+abbrev pub InprocessesIfDue : {A : Type 0} → List Line → Context A → Context A → Type 0
+InprocessesIfDue {A} =
+    InTurn ReducesLocalsIfDue
+    (InTurn (λ lines x y. ReducesMidsIfDue x y × NoLines lines)
+    (λ lines x y. CollectsIfDue x y × NoLines lines))
+
+-- A step begins: a restart down to the last assumption, where that is due, and then inprocessing, by lines for which
+-- `are` holds.
 pub record BeginsStep {A : Type 0} (are : List Line → Type 0) (x z : Context A) : Type 0 where
   pub begun : Context A
   pub restarts : RestartsByPolicy x.schedule x.assumptions.levels (view x) (view begun)
@@ -79,24 +110,24 @@ pub record BeginsStep {A : Type 0} (are : List Line → Type 0) (x z : Context A
   pub begins : ChangesRestarted x begun
   pub decidable : SameDecidable (view x) x.vsids (view begun) begun.vsids
   pub decay : begun.vsids.decay ≡ x.vsids.decay
-  pub reduces : KeepsSearch (λ lines. ReducesIfDue lines begun z × are lines) begun z
+  pub inprocesses : Inprocesses InprocessesIfDue are begun z
   pub rest : ChangesPlaces begun z
 
--- A step begins with a restart down to the last assumption, where that is due; then come the reductions, which delete
--- clauses, and the collection; then, at level 0, the root level is simplified; then lines lead from what is left to the search after
--- the step. The lines are these, in turn.
+-- A step begins with a restart down to the last assumption, where that is due; then comes inprocessing; then, at level
+-- 0, the root level is simplified; then lines lead from what is left to the search after the step. The lines are these, in
+-- turn.
 pub record GoesBySchedule {A : Type 0} (lines : List Line) (x z : Context A) : Type 0 where
   pub begun : Context A
-  pub reduced : Context A
+  pub inprocessed : Context A
   pub restarts : RestartsByPolicy x.schedule x.assumptions.levels (view x) (view begun)
   pub begins : ChangesRestarted x begun
   pub first : List Line
   pub rest : List Line
   pub parts : lines ≡ first ++ rest
-  pub reduces : ReducesIfDue first begun reduced
-  pub deletes : ProvesTo first begun reduced
-  pub simplifies_root : SimplifiesRootFirst rest reduced z
-  pub steps : StepsTo (λ ls. ls ≡ rest) reduced z
+  pub inprocesses : InprocessesIfDue first begun inprocessed
+  pub proves : ProvesTo first begun inprocessed
+  pub simplifies_root : SimplifiesRootFirst rest inprocessed z
+  pub steps : StepsTo (λ ls. ls ≡ rest) inprocessed z
 
 -- such a step was made, by lines for which `are` holds
 abbrev pub StepsBySchedule : {A : Type 0} → (List Line → Type 0) → Context A → Context A → Type 0

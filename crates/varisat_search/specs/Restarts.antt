@@ -30,8 +30,8 @@ pub record KeepsAssignment (s t : View) : Type 0 where
   pub rest : t ≡ record s { clauses = t.clauses; nodes = t.nodes }
   pub kinds_stay : kinds t ≡ kinds s
 
--- what is remembered over a restart down to the level, where one is due, reductions that lose no value, and the step after them
+-- what is remembered over a restart down to the level, where one is due, and over what comes after it
 abbrev pub RestartsAndRemembers : Plan → ℕ → View → List Bool → List Bool → Type 0
 RestartsAndRemembers q level s old new =
-    (t u : View) × (between : List Bool) × RestartsByPolicy q level s t × SavesUndone level s t old between
-    × KeepsAssignment t u × Remembers u between new
+    (t : View) × (between : List Bool) × RestartsByPolicy q level s t × SavesUndone level s t old between
+    × Remembers t between new

@@ -4,7 +4,7 @@ ghost use Rattle.varisat_clause.specs.Stores.{stored_clauses};
 ghost use Rattle.varisat_clause.specs.Collected.{IsCollected};
 ghost use Rattle.varisat_analysis.specs.Collections.{Repacks};
 ghost use Rattle.varisat_search.specs.Contexts.{view, IsReady};
-ghost use Rattle.varisat_search.specs.DueReductions.{IsCollectionDue, CollectsIfDue};
+ghost use Rattle.varisat_search.specs.DueReductions.{IsCollectionDue, CollectsIfDue, NoLines, Inprocesses};
 ghost use Rattle.varisat_search.specs.Frames.{ChangesPlaces, HoldsOrUnchanged};
 
 use crate::context::Context;
@@ -43,6 +43,7 @@ fn collect<A: Allocator + Copy>(ctx: &mut Context<A>) -> Result<(), AllocError>
 pub fn collect_garbage<A: Allocator + Copy>(ctx: &mut Context<A>) -> Result<(), AllocError>
     requires { IsReady ctx.old }
     ensures collects { HoldsOrUnchanged result (CollectsIfDue ctx.old ctx.new) ctx.old ctx.new }
+    ensures inprocesses { OnOk result (Inprocesses (λ lines x y. CollectsIfDue x y) NoLines ctx.old ctx.new) }
     ensures off { OnOk result (IsCollectionDue ctx.old → ctx.new.watchlists.enabled ≡ false) }
     ensures ready { OnOk result (IsReady ctx.new) }
     ensures frame { ChangesPlaces ctx.old ctx.new }

@@ -1,5 +1,5 @@
 //! The steps of a search by its schedule.
-ghost use Rattle.std.specs.Prelude.{◌≡◌, ◌-◌, ◌^◌, ◌<◌, IsTrue, List, [], length, OnOk, IfErr};
+ghost use Rattle.std.specs.Prelude.{◌≡◌, ◌-◌, ◌^◌, ◌<◌, IsTrue, List, length, OnOk, IfErr};
 ghost use Rattle.varisat_prop.specs.View.{kinds};
 ghost use Rattle.varisat_schedule.specs.CallSteps.{IsPlannedStep};
 ghost use Rattle.varisat_search.specs.AssumptionParts.{KeepsAssumptions};
@@ -9,7 +9,7 @@ ghost use Rattle.varisat_search.specs.Decisions.{SameDecidable};
 ghost use Rattle.varisat_search.specs.Progress.{outcome_at};
 ghost use Rattle.varisat_search.specs.FoundCores.{HasCoreIfFailed};
 ghost use Rattle.varisat_search.specs.Restarts.{RestartsByPolicy, SavesUndone, RestartsAndRemembers};
-ghost use Rattle.varisat_search.specs.DueReductions.{ReducesLocalsIfDue, ReducesMidsIfDue, ReducesIfDue, KeepsSearch, BeginsStep, StepsBySchedule};
+ghost use Rattle.varisat_search.specs.DueReductions.{ReducesLocalsIfDue, ReducesMidsIfDue, NoLines, Inprocesses, InprocessesIfDue, BeginsStep, StepsBySchedule};
 ghost use Rattle.varisat_search.specs.StepErrors.{HasNoRoom, step_faults};
 ghost use Rattle.varisat_search.specs.Seen.{search_of};
 ghost use Rattle.varisat_steps.specs.Traces.{TakesLines, TakesStep, BreaksOff, faults_of, AdmitsFor};
@@ -62,9 +62,8 @@ fn reduce_locals_if_due<A: Allocator + Copy, P: ProofTracer>(
 ) -> Result<(), TraceError>
     requires ready { IsReady ctx.old }
     requires holds { AdmitsFor (P.holds proof.old) (search_of (view ctx.old)) }
-    ensures keeps { OnOk result (KeepsSearch
-        (λ lines. ReducesLocalsIfDue lines ctx.old ctx.new × TakesLines P.takes proof.old lines proof.new)
-        ctx.old ctx.new) }
+    ensures inprocesses { OnOk result (Inprocesses ReducesLocalsIfDue
+        (λ lines. TakesLines P.takes proof.old lines proof.new) ctx.old ctx.new) }
     ensures frame { ChangesStore ctx.old ctx.new }
     ensures broken { IfErr result (λ error. BreaksOff P.breaks_off proof.old (faults_of error) proof.new) }
 {
@@ -77,8 +76,7 @@ fn reduce_locals_if_due<A: Allocator + Copy, P: ProofTracer>(
 /// Reduces the Mid clauses where the number of steps made is a multiple of the interval for it.
 fn reduce_mids_if_due<A: Allocator + Copy>(ctx: &mut Context<A>) -> Result<(), AllocError>
     requires { IsReady ctx.old }
-    ensures keeps { OnOk result
-        (KeepsSearch (λ lines. ReducesMidsIfDue ctx.old ctx.new × (lines ≡ [])) ctx.old ctx.new) }
+    ensures inprocesses { OnOk result (Inprocesses (λ lines x y. ReducesMidsIfDue x y) NoLines ctx.old ctx.new) }
     ensures frame { ChangesTiers ctx.old ctx.new }
 {
     if ctx.schedule.steps() % ctx.solver_config.reduce_mids_interval() == 0 {
@@ -87,16 +85,16 @@ fn reduce_mids_if_due<A: Allocator + Copy>(ctx: &mut Context<A>) -> Result<(), A
     Ok(())
 }
 
-/// Reduces the Local clauses and then the Mid ones, each where it is due, and then collects garbage where that is due.
-fn reduce_if_due<A: Allocator + Copy, P: ProofTracer>(
+/// All inprocessing, in this order. Each function decides whether it is due, and has the contract `Inprocesses`: more is
+/// not asked of it. `InprocessesIfDue` is this list in contracts.
+fn inprocess_if_due<A: Allocator + Copy, P: ProofTracer>(
     ctx: &mut Context<A>,
     proof: &mut P,
 ) -> Result<(), TraceError>
     requires ready { IsReady ctx.old }
     requires holds { AdmitsFor (P.holds proof.old) (search_of (view ctx.old)) }
-    ensures keeps { OnOk result (KeepsSearch
-        (λ lines. ReducesIfDue lines ctx.old ctx.new × TakesLines P.takes proof.old lines proof.new)
-        ctx.old ctx.new) }
+    ensures inprocesses { OnOk result (Inprocesses InprocessesIfDue
+        (λ lines. TakesLines P.takes proof.old lines proof.new) ctx.old ctx.new) }
     ensures frame { ChangesPlaces ctx.old ctx.new }
     ensures broken { IfErr result (λ error. BreaksOff P.breaks_off proof.old (faults_of error) proof.new) }
 {
@@ -106,8 +104,8 @@ fn reduce_if_due<A: Allocator + Copy, P: ProofTracer>(
     Ok(())
 }
 
-/// Begins a step of the schedule: a restart, reductions of the learned clauses and a collection of garbage, each where
-/// it is due. Fails where it is out of memory or the tracer fails.
+/// Begins a step of the schedule: a restart, and then inprocessing, each where it is due. Fails where it is out of memory
+/// or the tracer fails.
 pub fn begin_step<A: Allocator + Copy, P: ProofTracer>(
     ctx: &mut Context<A>,
     proof: &mut P,
@@ -115,7 +113,7 @@ pub fn begin_step<A: Allocator + Copy, P: ProofTracer>(
     requires ready { IsReady ctx.old }
     requires holds { AdmitsFor (P.holds proof.old) (search_of (view ctx.old)) }
     requires counted { ctx.old.schedule.steps < 2 ^ 64 - 1 }
-    // The tracer took the lines of the reductions, and may hold what fits the search then.
+    // The tracer took the lines of inprocessing, and may hold what fits the search then.
     ensures begins { OnOk result (BeginsStep (λ lines. TakesLines P.takes proof.old lines proof.new) ctx.old ctx.new) }
     ensures holds { OnOk result (AdmitsFor (P.holds proof.new) (search_of (view ctx.new))) }
     ensures later { ctx.new.schedule.steps < ctx.new.schedule.next_restart }
@@ -123,13 +121,12 @@ pub fn begin_step<A: Allocator + Copy, P: ProofTracer>(
     ensures broken { IfErr result (λ error. BreaksOff P.breaks_off proof.old (faults_of error) proof.new) }
 {
     restart_if_due(ctx);
-    reduce_if_due(ctx, proof)?;
+    inprocess_if_due(ctx, proof)?;
     Ok(())
 }
 
-/// Makes one step of the schedule: a restart, reductions of the learned clauses and a collection of garbage, each where
-/// it is due, then a conflict step. The step is counted, unless it fails. Fails where it is out of memory, the clause store
-/// is full or the tracer fails.
+/// Makes one step of the schedule: a restart and inprocessing, each where it is due, then a conflict step. The step is
+/// counted, unless it fails. Fails where it is out of memory, the clause store is full or the tracer fails.
 pub fn schedule_step<A: Allocator + Copy, P: ProofTracer>(
     ctx: &mut Context<A>,
     proof: &mut P,

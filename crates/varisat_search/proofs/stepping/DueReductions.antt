@@ -1,10 +1,14 @@
--- A search goes on over the reductions that are due.
-use Rattle.std.proofs.Common.{◌≡◌, ℕ, ◌<◌, ◌≤◌, List, [], ◌++◌, length, refl, sym, ap, ◌∙◌, subst, arith}
-use Rattle.varisat_theory.specs.inside.Rank.{rank}
-use Rattle.varisat_theory.specs.promises.Derivations.{Line}
+-- A search goes on over inprocessing.
+use Rattle.std.proofs.Common.{◌≡◌, ◌≢◌, ◌*◌, ◌%◌, List, [], ◌∷◌, ◌++◌, length, inl, inr, ⊎_elim, refl, sym, ap, ◌∙◌, subst}
+use Rattle.std.proofs.lemmas.Bool.{cases_lt}
+use Rattle.varisat_theory.specs.promises.Membership.{◌∈◌}
+use Rattle.varisat_theory.specs.promises.Literals.{Clause}
+use Rattle.varisat_theory.specs.promises.Derivations.{Line, Add, Delete, IsPresentAfter}
+use Rattle.varisat_theory.specs.promises.Journals.{Entry, Leads}
 use Rattle.varisat_theory.specs.inside.Outcomes.{Proves}
-use Rattle.varisat_theory.proofs.steps.StepParts.{no_part, parts_join}
+use Rattle.varisat_theory.proofs.steps.StepParts.{no_part}
 use Rattle.varisat_prop.specs.View.{View, kinds}
+use Rattle.varisat_prop.proofs.views.ViewGrowth.{append-nil}
 use Rattle.varisat_search.specs.declared.context.Context.{Context}
 use Rattle.varisat_search.specs.Contexts.{view, IsReady}
 use Rattle.varisat_search.specs.Seen.{search_of}
@@ -12,8 +16,13 @@ use Rattle.varisat_analysis.specs.HeaderChanges.{ChangesHeaders}
 use Rattle.varisat_analysis.specs.Reductions.{Discards}
 use Rattle.varisat_analysis.specs.Collections.{Repacks}
 use Rattle.varisat_search.specs.Restarts.{KeepsAssignment}
-use Rattle.varisat_search.specs.DueReductions.{KeepsSearch}
-use Rattle.varisat_search.proofs.variables.DecidableVariables.{same-refl, same-read, same-trans}
+use Rattle.varisat_search.specs.RootSimplified.{HasRootNews, fixed_literals, KeepsFixed}
+use Rattle.varisat_search.specs.DueReductions.{CollectsIfDue, KeepsSearch, NoLines, KeepsPartsBy, Inprocesses, InTurn}
+use Rattle.varisat_steps.specs.Traces.{TakesLines, AdmitsFor}
+use Rattle.varisat_steps.proofs.Traced.{lines-more, holds_on}
+use Rattle.varisat_search.proofs.variables.DecidableVariables.{same-refl, same-read}
+use Rattle.varisat_search.proofs.stepping.StepRanks.{extends-same}
+use Rattle.varisat_search.proofs.simplifying.RootSimplified.{goes-are, goes-trans}
 use Rattle.varisat_search.proofs.simplifying.HeaderChanges.{header-seen}
 use Rattle.varisat_search.proofs.simplifying.RepackedView.{repacks-seen, repacks-kinds}
 use Rattle.varisat_vsids.specs.Activities.{Activities}
@@ -46,7 +55,7 @@ module _ {A : Type 0} (x y : Context A) (ready : IsReady y) (activities : y.vsid
   headers-keep r d = with-assigned (λ lines. lines ≡ []) (clauses-only (view x) (view y) d.rest)
       ([], none-proved (view x) (view y) (header-seen (view x) (view y) r.well d), refl)
 
-  pub repacks-keep : IsReady x → Repacks (view x) (view y) → KeepsSearch (λ lines. lines ≡ []) x y
+  repacks-keep : IsReady x → Repacks (view x) (view y) → KeepsSearch (λ lines. lines ≡ []) x y
   repacks-keep r d = with-assigned (λ lines. lines ≡ []) (record { rest = d.rest; kinds_stay = repacks-kinds (view x) (view y) r.well d })
       ([], none-proved (view x) (view y) (repacks-seen (view x) (view y) r.well d), refl)
 
@@ -67,29 +76,112 @@ keeps-refl x r = record {
 pub keeps-same : {A : Type 0} (x y : Context A) → IsReady x → y ≡ x → KeepsSearch (λ lines. lines ≡ []) x y
 keeps-same x y r e = subst (KeepsSearch (λ lines. lines ≡ []) x) (sym e) (keeps-refl x r)
 
+-- so it is where garbage is collected or not
+pub collects-keep : {A : Type 0} (x y : Context A) → IsReady x → IsReady y → y.vsids ≡ x.vsids → CollectsIfDue x y → KeepsSearch NoLines x y
+collects-keep x y r s e c = ⊎_elim (λ h. repacks-keep x y s e r (c.repacks h)) (λ h. keeps-same x y r (c.stays h))
+    (cases_lt (length x.clause_alloc.words) (2 * x.clause_db.garbage))
+
 -- a search that is kept without lines is so with lines that may be none
 pub keeps-none : {A : Type 0} (x y : Context A) (P : List Line → Type 0) → P [] → KeepsSearch (λ lines. lines ≡ []) x y → KeepsSearch P x y
 keeps-none x y P none a = let (lines, p, e) = a.proves in
     record { ready = a.ready; assigned = a.assigned; proves = (lines, p, subst P (sym e) none); decidable = a.decidable }
 
-pub keeps-trans : {A : Type 0} (x y z : Context A) (P Q R : List Line → Type 0) →
-    ((first more : List Line) → P first → Q more → R (first ++ more)) → KeepsSearch P x y → KeepsSearch Q y z → KeepsSearch R x z
-keeps-trans x y z P Q R join a b =
-    let (first, p, i) = a.proves in
-    let (more, q, j) = b.proves in
+-- 2. The contract of all inprocessing.
+
+-- what it says of the lines
+abbrev pub as-inprocessed : {A : Type 0} → (List Line → Context A → Context A → Type 0) → (List Line → Type 0) → Context A → Context A → List Line → Type 0
+as-inprocessed does are x y lines = does lines x y
+    × (x.schedule.steps % x.solver_config.reduce_locals_interval ≢ 0 → KeepsPartsBy lines) × are lines
+
+parts-stay : KeepsPartsBy []
+parts-stay held after e c h = (c, subst (λ cs. c ∈ cs) e h, λ l i. i)
+
+-- what is present after the first lines and after the others
+present-cut : (P : List Clause) (lines more : List Line) (R : List Clause) → IsPresentAfter P (lines ++ more) R → (Q : List Clause)
+    × IsPresentAfter P lines Q × IsPresentAfter Q more R
+present-cut P [] more R d = (P, refl, d)
+present-cut P (Add c ∷ lines) more R d = present-cut (P ++ c ∷ []) lines more R d
+present-cut P (Delete c ∷ lines) more R d =
+    let (Q, e, f) = present-cut d.0 lines more R d.2 in
+    (Q, (d.0, d.1, e), f)
+
+parts-through : (first more : List Line) → KeepsPartsBy first → KeepsPartsBy more → KeepsPartsBy (first ++ more)
+parts-through first more k l held after d c h =
+    let (mid, e, f) = present-cut held first more after d in
+    let (a, i, s) = k held mid e c h in
+    let (b, j, t) = l mid after f a i in
+    (b, j, λ m o. s m (t m o))
+
+fixed-through : (s t u : View) → KeepsFixed s t → KeepsFixed t u → (HasRootNews t → HasRootNews u) → KeepsFixed s u
+fixed-through s t u a b news = ⊎_elim (λ e. ⊎_elim (λ f. inl (f ∙ e)) inr b) (λ n. inr (news n)) a
+
+-- the search can go on as it was
+pub kept-inprocesses : {A : Type 0} (does : List Line → Context A → Context A → Type 0) (are : List Line → Type 0) (x y : Context A) →
+    y.assignment.last ≡ x.assignment.last → KeepsSearch (as-inprocessed does are x y) x y → Inprocesses does are x y
+kept-inprocesses does are x y last k =
+    let rest = k.assigned.rest in
     record {
-      ready = b.ready;
-      assigned = record {
-        rest = b.assigned.rest ∙ ap (λ (s : View). record s { clauses = (view z).clauses; nodes = (view z).nodes }) a.assigned.rest;
-        kinds_stay = b.assigned.kinds_stay ∙ a.assigned.kinds_stay;
+      goes_on = record {
+        ready = k.ready;
+        proves = k.proves;
+        extends = extends-same (view x) (view y) k.ready.well (ap (λ (s : View). s.values) rest) (ap (λ (s : View). s.trail) rest)
+            (ap (λ (s : View). s.decisions) rest);
+        kinds_more = ([], k.assigned.kinds_stay ∙ sym (append-nil (kinds (view x))));
+        decidable = k.decidable;
+        last = last;
       };
-      proves = (first ++ more, parts_join 0 0 (search_of (view x)) (search_of (view y)) (search_of (view z)) first more p q, join first more i j);
-      decidable = same-trans (view x) x.vsids (view y) y.vsids (view z) z.vsids a.decidable b.decidable;
+      fixes = inl (ap fixed_literals rest);
+      news = λ u. subst HasRootNews (sym rest) u;
     }
 
--- what raises the rank afterwards raises it from here
-pub rises-over : (s t u : View) → KeepsAssignment s t → ((n : ℕ) → length t.trail ≤ n → rank n (kinds t) < rank n (kinds u)) → (n : ℕ) →
-    length s.trail ≤ n → rank n (kinds s) < rank n (kinds u)
-rises-over s t u a h n l =
-    let e = ap (λ (v : View). length v.trail) a.rest in
-    subst (λ bs. rank n bs < rank n (kinds u)) a.kinds_stay (h n (omega (arith, e, l)))
+-- it wrote nothing
+pub inprocesses-silently : {A : Type 0} (does : List Line → Context A → Context A → Type 0) (are : List Line → Type 0) (x y : Context A) → does [] x y →
+    are [] → y.assignment.last ≡ x.assignment.last → KeepsSearch NoLines x y → Inprocesses does are x y
+inprocesses-silently does are x y h i last k =
+    kept-inprocesses does are x y last (keeps-none x y (as-inprocessed does are x y) (h, (λ due. parts-stay), i) k)
+
+-- the lines are so in another way too
+pub inprocesses-are : {A : Type 0} (R S : List Line → Context A → Context A → Type 0) (P Q : List Line → Type 0) (x y : Context A) →
+    ((lines : List Line) → as-inprocessed R P x y lines → as-inprocessed S Q x y lines) → Inprocesses R P x y → Inprocesses S Q x y
+inprocesses-are R S P Q x y are k = record {
+  goes_on = goes-are x y (as-inprocessed R P x y) (as-inprocessed S Q x y) are k.goes_on;
+  fixes = k.fixes;
+  news = k.news;
+}
+
+-- Where a tracer has the laws of a trait.
+module _ {Q : Type 0} (takes : Q → List Entry → Q → Type 0) where
+  -- it took nothing of what wrote nothing
+  pub silently : {A : Type 0} (takes_none : (p : Q) → takes p [] p) (p : Q) (does : Context A → Context A → Type 0) (x y : Context A) →
+      Inprocesses (λ lines u v. does u v) NoLines x y → Inprocesses (λ lines u v. does u v × NoLines lines) (λ lines. TakesLines takes p lines p) x y
+  silently takes_none p does x y k =
+      inprocesses-are (λ lines u v. does u v) (λ lines u v. does u v × NoLines lines) NoLines (λ lines. TakesLines takes p lines p) x y
+      (λ lines (d, parts, none). ((d, none), parts, subst (λ ls. TakesLines takes p ls p) (sym none) (takes_none p))) k
+
+  -- the one and then the other, in one step of the schedule
+  pub in-turn : {A : Type 0} (takes_more : (p q r : Q) (first second : List Entry) → takes p first q → takes q second r → takes p (first ++ second) r)
+      (p q r : Q) (R S : List Line → Context A → Context A → Type 0) (x y z : Context A) →
+      y.schedule.steps % y.solver_config.reduce_locals_interval ≡ x.schedule.steps % x.solver_config.reduce_locals_interval →
+      Inprocesses R (λ lines. TakesLines takes p lines q) x y → Inprocesses S (λ lines. TakesLines takes q lines r) y z →
+      Inprocesses (InTurn R S) (λ lines. TakesLines takes p lines r) x z
+  in-turn takes_more p q r R S x y z same a b = record {
+    goes_on =
+        goes-trans x y z (as-inprocessed R (λ lines. TakesLines takes p lines q) x y) (as-inprocessed S (λ lines. TakesLines takes q lines r) y z)
+        (as-inprocessed (InTurn R S) (λ lines. TakesLines takes p lines r) x z)
+        (λ first more (i, k, t) (j, l, u). (
+          record { between = y; front = first; back = more; parts = refl; begins = i; ends = j },
+          (λ due. parts-through first more (k due) (l (λ e. due (sym same ∙ e)))),
+          lines-more takes takes_more p q r first more t u,
+        )) a.goes_on b.goes_on;
+    fixes = fixed-through (view x) (view y) (view z) a.fixes b.fixes b.news;
+    news = λ u. b.news (a.news u);
+  }
+
+  -- what the tracer may hold fits the search after it
+  pub admits-after : {A : Type 0} (holds : Q → List Clause → Type 0)
+      (holds_after : (p q : Q) (entries : List Entry) (held after : List Clause) → takes p entries q → holds p held → Leads held entries after → holds q after)
+      (p q : Q) (does : List Line → Context A → Context A → Type 0) (x y : Context A) → AdmitsFor (holds p) (search_of (view x)) →
+      Inprocesses does (λ lines. TakesLines takes p lines q) x y → AdmitsFor (holds q) (search_of (view y))
+  admits-after holds holds_after p q does x y h k =
+      let (lines, proves, (d, parts, t)) = k.goes_on.proves in
+      holds_on holds takes holds_after p q 0 (search_of (view x)) (search_of (view y)) lines h proves t

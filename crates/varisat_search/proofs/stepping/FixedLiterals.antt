@@ -90,20 +90,19 @@ before-undone (p ∷ ds) ls (suc j) h o = let a = o (omega arith) in take-take p
 fixed-undone : (s t : View) (level : ℕ) → WellFormed s → level < length s.decisions → IsCut s t level → fixed_literals t ≡ fixed_literals s
 fixed-undone s t level w h c = ap fixed_literals c.rest ∙ before-undone s.decisions s.trail level h (λ o. w.rising 0 level o h)
 
--- so do a restart, and reductions, which leave the trail as it is
+-- so a step begins, whose inprocessing may make more literals true
 pub begun-fixed : {A : Type 0} {are : List Line → Type 0} (x z : Context A) → IsReady x → BeginsStep are x z →
-    (fixed_literals (view z) ≡ fixed_literals (view x)) × (HasRootNews (view x) → HasRootNews (view z))
+    KeepsFixed (view x) (view z) × (HasRootNews (view x) → HasRootNews (view z))
 begun-fixed x z r b =
     let s = view x in
     let t = view b.begun in
     let level = x.assumptions.levels in
     let restarted : fixed_literals t ≡ fixed_literals s =
-    restart-elim x.schedule level s t (λ u. fixed_literals u ≡ fixed_literals s) b.restarts refl (fixed-undone s t level r.well) in
-    let rest = b.reduces.assigned.rest in (
-      ap fixed_literals rest ∙ restarted,
+    restart-elim x.schedule level s t (λ u. fixed_literals u ≡ fixed_literals s) b.restarts refl (fixed-undone s t level r.well) in (
+      ⊎_elim (λ e. inl (e ∙ restarted)) inr b.inprocesses.fixes,
       λ u.
           let n = ap (λ (ds : List ℕ). length ds) u.0 in
-          subst HasRootNews (sym rest) (subst HasRootNews (sym (restart-undecided x.schedule level s t b.restarts (omega (arith, n)))) u),
+          b.inprocesses.news (subst HasRootNews (sym (restart-undecided x.schedule level s t b.restarts (omega (arith, n)))) u),
     )
 
 -- at level 0 all literals are of that level

@@ -8,9 +8,11 @@ use Rattle.varisat_theory.specs.promises.Derivations.{Line}
 use Rattle.varisat_names.specs.promises.Variables.{Tables}
 use Rattle.varisat_search.specs.declared.context.Context.{Context}
 use Rattle.varisat_search.specs.Contexts.{view, IsNotUnsat, IsReady}
-use Rattle.varisat_search.specs.DueReductions.{BeginsStep}
+use Rattle.varisat_search.specs.DueReductions.{InprocessesIfDue, BeginsStep}
 use Rattle.varisat_search.specs.RootSimplified.{FixesByLearning, GoesOnByLines, IsRootSimplified}
+use Rattle.varisat_search.proofs.stepping.DueReductions.{as-inprocessed}
 use Rattle.varisat_search.proofs.stepping.FixedLiterals.{begun-fixed}
+use Rattle.varisat_search.proofs.stepping.RestartSteps.{begun-view}
 use Rattle.varisat_solver.specs.promises.Detaching.{AreOverAssumed, DetachesInTime, HasDetached}
 use Rattle.varisat_theory.specs.promises.Membership.{◌∈◌, IsDistinct}
 use Rattle.varisat_theory.specs.promises.Literals.{Literal, variable_of}
@@ -37,7 +39,6 @@ use Rattle.varisat_names.specs.promises.Settings.{Settings}
 use Rattle.varisat_search.specs.Decisions.{HasActivities, IsDecidable, SameDecidable}
 use Rattle.varisat_search.specs.Forgotten.{IsWithout}
 use Rattle.varisat_search.specs.Progress.{RaisesRank}
-use Rattle.varisat_search.proofs.variables.DecidableVariables.{same-trans}
 use Rattle.varisat_search.proofs.variables.ForgottenViews.{trail-distinct, distinct-left}
 use Rattle.varisat_solver.specs.inside.SinceChange.{call_from, HasComeSince, HasBegunWithout, HasBegunSince, GoesOnWithin, BeginsWithin, CountsSince}
 
@@ -47,8 +48,9 @@ use Rattle.varisat_solver.specs.inside.SinceChange.{call_from, HasComeSince, Has
 pub leaves-begun : {A : Type 0} {are : List Line → Type 0} (t u : Tables) (x z : Context A) → IsReady x → BeginsStep are x z → u ≡ t →
     DetachesInTime t (view x) → DetachesInTime u (view z)
 leaves-begun t u x z r b e h =
-    let (same, news) = begun-fixed x z r b in
-    subst (λ (m : Tables). DetachesInTime m (view z)) (sym e) (⊎_elim (λ n. inl (subst (AreOverAssumed t) (sym same) n)) (λ k. inr (news k)) h)
+    let (fixed, news) = begun-fixed x z r b in
+    subst (λ (m : Tables). DetachesInTime m (view z)) (sym e)
+    (⊎_elim (λ n. ⊎_elim (λ same. inl (subst (AreOverAssumed t) (sym same) n)) inr fixed) (λ k. inr (news k)) h)
 
 -- and makes its conflict step
 pub leaves-stepped : {A : Type 0} (t u : Tables) (x y : Context A) → u ≡ t → FixesByLearning x y → HasDetached t (view x) →
@@ -143,22 +145,6 @@ begun-without c q units before trail h l same r after rises short =
       short = short;
     }
 
-pub come-begun : {A : Type 0} (are : List Line → Type 0) (x z : Context A) → IsReady x → 0 < x.solver_config.luby_restart_interval_scale →
-    x.schedule.steps < 2 ^ 64 - 1 → BeginsStep are x z → z.solver_config ≡ x.solver_config →
-    length z.assignment.current ≡ length x.assignment.current → BeginsWithin x z
-come-begun are x z r h l b f n c k =
-    let t = b.begun in
-    let decidable = same-trans (view x) x.vsids (view t) t.vsids (view z) z.vsids b.decidable b.reduces.decidable in
-    let positive : 0 < c.scale = let e = k.scale in omega (arith, h, e) in
-    record {
-      units = k.units;
-      begun = begun-without c x.schedule k.units (kinds (view x)) (kinds (view z)) positive l
-          (λ d. b.reduces.assigned.kinds_stay ∙ ap kinds (b.restarts.stays d)) k.come;
-      scale = k.scale ∙ sym (ap (λ (s : Settings). s.luby_restart_interval_scale) f);
-      variables = k.variables ∙ sym n;
-      room = room-same x z k.units c.variables decidable k.room;
-    }
-
 -- as the root level is simplified inside of it
 pub come-settled : {A : Type 0} (are : List Line → Type 0) (x y : Context A) → GoesOnByLines are x y → y.solver_config ≡ x.solver_config → GoesOnWithin x y
 come-settled are x y g f c q k =
@@ -179,6 +165,23 @@ come-settled are x y g f c q k =
       variables = k.variables ∙ sym g.extends.count;
       room = room-same x y k.units c.variables g.decidable k.room;
     }
+
+-- A step begins, and inprocessing goes on inside of it.
+pub come-begun : {A : Type 0} (are : List Line → Type 0) (x z : Context A) → IsReady x → 0 < x.solver_config.luby_restart_interval_scale →
+    x.schedule.steps < 2 ^ 64 - 1 → BeginsStep are x z → z.solver_config ≡ x.solver_config → BeginsWithin x z
+come-begun {A} are x z r h l b f c k =
+    let t = b.begun in
+    let positive : 0 < c.scale = let e = k.scale in omega (arith, h, e) in
+    let config : t.solver_config ≡ x.solver_config = ap (λ (y : Context A). y.solver_config) b.begins in
+    let count = (begun-view x.schedule x.assumptions.levels (view x) (view t) r.well r.settled b.restarts).count in
+    come-settled (as-inprocessed InprocessesIfDue are t z) t z b.inprocesses.goes_on (f ∙ sym config) c x.schedule
+    (record {
+      units = k.units;
+      begun = begun-without c x.schedule k.units (kinds (view x)) (kinds (view t)) positive l (λ d. ap kinds (b.restarts.stays d)) k.come;
+      scale = k.scale ∙ sym (ap (λ (s : Settings). s.luby_restart_interval_scale) config);
+      variables = k.variables ∙ sym count;
+      room = room-same x t k.units c.variables b.decidable k.room;
+    })
 
 -- and as it ends
 

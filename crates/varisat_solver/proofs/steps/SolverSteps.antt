@@ -1,7 +1,7 @@
 -- What parts of a step and steps in turn come to, from the states that a solver represents.
 use Rattle.std.proofs.Common.{◌≡◌, ◌≢◌, ℕ, zero, suc, ◌+◌, ◌-◌, ◌%◌, Bool, false, Option, Some, List, [], ◌++◌, Ok, Err, length, inl, inr, ⊎_elim, sym, ap, ap₂, ◌∙◌, subst, refl, arith, append_assoc}
 use Rattle.varisat_theory.specs.promises.Literals.{variable_of, IsSatisfiableWith}
-use Rattle.varisat_theory.specs.promises.Derivations.{Line, IsPresentAfter}
+use Rattle.varisat_theory.specs.promises.Derivations.{Line}
 use Rattle.varisat_theory.specs.inside.Outcomes.{Proves}
 use Rattle.varisat_theory.specs.promises.Journals.{Entry, Retires, GoesOn}
 use Rattle.varisat_theory.proofs.journals.Journals.{goes_on_further}
@@ -24,12 +24,12 @@ use Rattle.varisat_search.specs.declared.state.SatState.TheVariants as verdict
 use Rattle.varisat_search.specs.AssumptionParts.{AssumptionParts}
 use Rattle.varisat_search.specs.Contexts.{view, IsReady}
 use Rattle.varisat_search.specs.Decisions.{SameDecidable}
-use Rattle.varisat_search.specs.DueReductions.{BeginsStep}
+use Rattle.varisat_search.specs.DueReductions.{KeepsPartsBy, InprocessesIfDue, BeginsStep}
 use Rattle.varisat_search.specs.Seen.{search_of, outcome_of}
 use Rattle.varisat_search.specs.Steps.{assignment_of}
 use Rattle.varisat_search.proofs.assuming.AssumptionSteps.{keeps-refl}
 use Rattle.varisat_search.proofs.variables.DecidableVariables.{same-trans}
-use Rattle.varisat_search.proofs.stepping.DueReductions.{keeps-are}
+use Rattle.varisat_search.proofs.stepping.DueReductions.{inprocesses-are}
 use Rattle.varisat_search.proofs.stepping.RestartSteps.{Begun, begun-view}
 use Rattle.varisat_search.proofs.variables.SolverVariables.{in-use-all}
 use Rattle.varisat_solver.specs.promises.Budgets.{CountsSteps}
@@ -40,8 +40,8 @@ use Rattle.varisat_solver.specs.promises.Journals.{with_entries, LogsMore, LogsR
 use Rattle.varisat_solver.specs.promises.OpenProofs.{OpenProof, GoesOnWriting}
 use Rattle.varisat_solver.specs.inside.Searches.{answer_at, LogsSome, Turn, turn_of, ComesTo, ComesOn, MakesNamedStep}
 use Rattle.varisat_solver.specs.promises.Detaching.{IsCalm}
-use Rattle.varisat_solver.specs.promises.StepEntries.{GoesOnInSteps, KeepsParts, GoesOnKeeping, LogsInSteps, HasStayed, SpeakOfAdded}
-use Rattle.varisat_solver.proofs.entries.StepEntries.{keeps-all, keeping-nothing, keeping-through, keeping-leaving, no-steps, one-more-step, added-append, added-wider, leaving-added, leaving-derived}
+use Rattle.varisat_solver.specs.promises.StepEntries.{GoesOnInSteps, GoesOnKeeping, LogsInSteps, HasStayed, SpeakOfAdded}
+use Rattle.varisat_solver.proofs.entries.StepEntries.{keeping-nothing, keeping-through, keeping-leaving, no-steps, one-more-step, added-append, added-wider, leaving-added, leaving-derived}
 use Rattle.varisat_solver.proofs.steps.SolveVerdict.{LinesInSteps}
 use Rattle.varisat_solver.specs.inside.Spaces.{Spaces, translation, VerdictFits, SpacesFit}
 use Rattle.varisat_solver.specs.promises.States.{State, Verdict, Unknown, Unsat, HasRightVerdict, IsRight, FlagsFit}
@@ -214,25 +214,25 @@ module _ {A : Type 0} {are : List Line → Type 0} (x z : Context A) (b : Begins
   begin-same = ap (λ (y : Context A). y.assumptions) b.rest ∙ ap (λ (y : Context A). y.assumptions) b.begins
 
   begin-decidable : SameDecidable (view x) x.vsids (view z) z.vsids
-  begin-decidable = same-trans (view x) x.vsids (view b.begun) b.begun.vsids (view z) z.vsids b.decidable b.reduces.decidable
+  begin-decidable = same-trans (view x) x.vsids (view b.begun) b.begun.vsids (view z) z.vsids b.decidable b.inprocesses.goes_on.decidable
 
   module _ (ready : IsReady x) where
     begin-view : Begun (view x) (view b.begun)
     begin-view = begun-view x.schedule x.assumptions.levels (view x) (view b.begun) ready.well ready.settled b.restarts
 
     pub begin-count : length z.assignment.current ≡ length x.assignment.current
-    begin-count = ap (λ (y : Context A). length y.assignment.current) b.rest ∙ begin-view.count
+    begin-count = b.inprocesses.goes_on.extends.count ∙ begin-view.count
 
     pub begin-kept : (t : Tables) → IsValidSolver t x → IsValidSolver t z
-    begin-kept t k = kept-on t x z k b.reduces.ready begin-count begin-decidable begin-same
+    begin-kept t k = kept-on t x z k b.inprocesses.goes_on.ready begin-count begin-decidable begin-same
 
-    -- where no learned clause may be deleted there is no line
+    -- where no learned clause may be deleted a part of each clause stays
     begin-proves : z.schedule.steps ≡ x.schedule.steps → (lines : List Line) × Proves 0 (search_of (view x)) (search_of (view z)) lines
-        × ((x.schedule.steps % x.solver_config.reduce_locals_interval ≢ 0 → lines ≡ []) × are lines)
-    begin-proves same = let (lines, p, (r, i)) = b.reduces.proves in (
+        × ((x.schedule.steps % x.solver_config.reduce_locals_interval ≢ 0 → KeepsPartsBy lines) × are lines)
+    begin-proves same = let (lines, p, (d, parts, i)) = b.inprocesses.goes_on.proves in (
       lines,
       parts_join 0 0 (search_of (view x)) (search_of (view b.begun)) (search_of (view z)) [] lines begin-view.proves p,
-      ((λ due. (r.locals.stays (λ e. due (sym turn ∙ e))).1), i),
+      ((λ due. parts (λ e. due (sym turn ∙ e))), i),
     )
       where
         turn : b.begun.schedule.steps % b.begun.solver_config.reduce_locals_interval ≡ x.schedule.steps % x.solver_config.reduce_locals_interval
@@ -241,34 +241,34 @@ module _ {A : Type 0} {are : List Line → Type 0} (x z : Context A) (b : Begins
 
 -- whatever its lines are
 pub begins-any : {A : Type 0} {are : List Line → Type 0} (x z : Context A) → BeginsStep are x z → BeginsStep (λ lines. Unit {0}) x z
-begins-any x z b = record {
+begins-any {are = are} x z b = record {
   begun = b.begun;
   restarts = b.restarts;
   saves = b.saves;
   begins = b.begins;
   decidable = b.decidable;
   decay = b.decay;
-  reduces = keeps-are _ (λ lines p (r, i). (r, tt)) b.reduces;
+  inprocesses = inprocesses-are InprocessesIfDue InprocessesIfDue are (λ lines. Unit {0}) b.begun z (λ lines (d, parts, i). (d, parts, tt)) b.inprocesses;
   rest = b.rest;
 }
 
 pub begin-logged : {A : Type 0} (p q : TracerState) (x z : Context A) → BeginsStep (λ lines. TakesLines TakesGlobally p lines q) x z → LogsSome p.proof q.proof
-begin-logged p q x z b = let (lines, k, (r, takes)) = b.reduces.proves in (_, takes.logged)
+begin-logged p q x z b = let (lines, k, (d, parts, takes)) = b.inprocesses.goes_on.proves in (_, takes.logged)
 
 pub begin-tables : {A : Type 0} (p q : TracerState) (x z : Context A) → BeginsStep (λ lines. TakesLines TakesGlobally p lines q) x z → q.tables ≡ p.tables
-begin-tables p q x z b = let (lines, k, (r, takes)) = b.reduces.proves in takes.tables
+begin-tables p q x z b = let (lines, k, (d, parts, takes)) = b.inprocesses.goes_on.proves in takes.tables
 
 pub begin-logs : {A : Type 0} (p q : TracerState) (x z : Context A) → BeginsStep (λ lines. TakesLines TakesGlobally p lines q) x z →
     CanLog p.proof → CanLog q.proof
-begin-logs p q x z b t = let (lines, k, (r, takes)) = b.reduces.proves in logs-on p q _ takes t
+begin-logs p q x z b t = let (lines, k, (d, parts, takes)) = b.inprocesses.goes_on.proves in logs-on p q _ takes t
 
 pub begin-comes : {A : Type 0} (p q : TracerState) (x z : Context A) → IsValidSolver p.tables x → z.schedule.steps ≡ x.schedule.steps →
     BeginsStep (λ lines. TakesLines TakesGlobally p lines q) x z →
     ComesOn (turn_of x) 0 (undecided_spaces p.tables p.proof.checker x) (undecided_spaces q.tables q.proof.checker z) p.proof q.proof
 begin-comes p q x z kept same b =
-    let (lines, proves, (quiet, takes)) = begin-proves x z b kept.ready same in
+    let (lines, proves, (parts, takes)) = begin-proves x z b kept.ready same in
     part-comes (turn_of x) p q x z lines kept
-    (λ due held after d f. subst (KeepsParts [] held) (subst (λ ls. IsPresentAfter held ls after) (quiet due) d) (keeps-all held)) proves takes b.reduces.ready (begin-count x z b kept.ready) (begin-decidable x z b) (begin-same x z b)
+    (λ due held after d f c h. inl (parts due held after d c h)) proves takes b.inprocesses.goes_on.ready (begin-count x z b kept.ready) (begin-decidable x z b) (begin-same x z b)
 
 -- a conflict step, whose core is kept over names
 pub named-comes : {A : Type 0} (p q : TracerState) (x y : Context A) → IsValidSolver p.tables x → MakesNamedStep p q x y →

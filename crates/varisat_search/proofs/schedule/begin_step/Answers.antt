@@ -4,9 +4,11 @@ use Rattle.varisat_search.specs.declared.context.Context.{Context}
 use Rattle.varisat_search.specs.Contexts.{view}
 use Rattle.varisat_search.specs.Frames.{ChangesRestarted}
 use Rattle.varisat_search.specs.Seen.{search_of}
+use Rattle.varisat_search.specs.DueReductions.{InprocessesIfDue}
+use Rattle.varisat_search.proofs.stepping.DueReductions.{admits-after}
 use Rattle.varisat_search.proofs.stepping.RestartSteps.{begun-view}
 use Rattle.varisat_steps.specs.Traces.{AdmitsFor}
-use Rattle.varisat_steps.proofs.Traced.{holds_on, holds_still}
+use Rattle.varisat_steps.proofs.Traced.{holds_still}
 use Rattle.varisat_search.proofs.schedule.begin_step.Given.{Over}
 use Rattle.varisat_search.proofs.schedule.begin_step.Goals.{After-restart_if_due}
 use Rattle.varisat_search.proofs.schedule.begin_step.Goals as goal
@@ -19,8 +21,8 @@ begun g c =
     (begun-view x.schedule x.assumptions.levels (view x) (view c.restart_if_due.new.ctx) c.requires.ready.well c.requires.ready.settled
     c.restart_if_due.ensures.restarted).proves
 
-pub reduce_if_due-requires-clause-holds : goal.reduce_if_due-requires-clause-holds
-reduce_if_due-requires-clause-holds g c = begun g (goal.at.reduce_if_due-requires-clause-holds g c).After-restart_if_due
+pub inprocess_if_due-requires-clause-holds : goal.inprocess_if_due-requires-clause-holds
+inprocess_if_due-requires-clause-holds g c = begun g (goal.at.inprocess_if_due-requires-clause-holds g c).After-restart_if_due
 
 pub returns-clause-begins : goal.returns-clause-begins
 returns-clause-begins g c =
@@ -34,19 +36,18 @@ returns-clause-begins g c =
       begins = subst (λ (y : Context g.row.A.Denot). ChangesRestarted x y) (sym e) refl;
       decidable = c.restart_if_due.ensures.decidable;
       decay = ap (λ (y : Context g.row.A.Denot). y.vsids.decay) e;
-      reduces = c.in_ok-reduce_if_due.ensures.keeps;
-      rest = c.reduce_if_due.ensures.frame;
+      inprocesses = c.in_ok-inprocess_if_due.ensures.inprocesses;
+      rest = c.inprocess_if_due.ensures.frame;
     }
 
 pub returns-clause-holds : goal.returns-clause-holds
 returns-clause-holds g c =
-    let (lines, p, (r, t)) = c.in_ok-reduce_if_due.ensures.keeps.proves in
-    holds_on g.P.ProofTracer.holds g.P.ProofTracer.takes g.met.P.ProofTracer.holds_after c.args.proof.now c.reduce_if_due.new.proof 0
-    (search_of (view c.restart_if_due.new.ctx)) (search_of (view c.reduce_if_due.new.ctx)) lines
-    (begun g (goal.at.returns-clause-holds g c).After-restart_if_due) p t
+    admits-after g.P.ProofTracer.takes g.P.ProofTracer.holds g.met.P.ProofTracer.holds_after c.args.proof.now c.inprocess_if_due.new.proof
+    InprocessesIfDue c.restart_if_due.new.ctx c.inprocess_if_due.new.ctx (begun g (goal.at.returns-clause-holds g c).After-restart_if_due)
+    c.in_ok-inprocess_if_due.ensures.inprocesses
 
-pub returns-in_err-reduce_if_due-clause-broken : goal.returns-in_err-reduce_if_due-clause-broken
-returns-in_err-reduce_if_due-clause-broken g c =
-    error-broken g.P.ProofTracer.breaks_off c.args.proof.now c.reduce_if_due.new.proof c.from_residual.result c.in_err-reduce_if_due.field-0.0
+pub returns-in_err-inprocess_if_due-clause-broken : goal.returns-in_err-inprocess_if_due-clause-broken
+returns-in_err-inprocess_if_due-clause-broken g c =
+    error-broken g.P.ProofTracer.breaks_off c.args.proof.now c.inprocess_if_due.new.proof c.from_residual.result c.in_err-inprocess_if_due.field-0.0
     c.from_residual.ensures
-    c.in_err-reduce_if_due.ensures.broken
+    c.in_err-inprocess_if_due.ensures.broken

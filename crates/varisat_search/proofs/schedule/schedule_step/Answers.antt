@@ -3,34 +3,36 @@ use Rattle.varisat_theory.specs.inside.Rank.{rank}
 use Rattle.varisat_theory.specs.promises.Derivations.{Line}
 use Rattle.varisat_theory.specs.inside.Outcomes.{Outcome, Steps, Proves}
 use Rattle.varisat_theory.proofs.steps.StepAccounts.{part_step}
-use Rattle.varisat_prop.specs.View.{View, kinds}
+use Rattle.varisat_prop.specs.View.{View, WellFormed, kinds}
 use Rattle.varisat_schedule.specs.CallSteps.{IsPlannedStep}
 use Rattle.varisat_search.specs.declared.context.Context.{Context}
 use Rattle.varisat_search.specs.AssumptionParts.{AssumptionParts, KeepsAssumptions}
 use Rattle.varisat_search.specs.Contexts.{view, IsReady}
 use Rattle.varisat_search.specs.Decisions.{SameDecidable}
-use Rattle.varisat_search.specs.DueReductions.{KeepsSearch, ReducesIfDue, GoesBySchedule}
+use Rattle.varisat_search.specs.DueReductions.{InprocessesIfDue, GoesBySchedule}
 use Rattle.varisat_search.specs.Restarts.{RestartsByPolicy, SavesUndone, RestartsAndRemembers}
 use Rattle.varisat_search.specs.Seen.{search_of}
 use Rattle.varisat_search.specs.Steps.{Remembers}
 use Rattle.varisat_search.proofs.assuming.AssumptionSteps.{keeps-after-part}
 use Rattle.varisat_search.proofs.variables.DecidableVariables.{same-trans}
-use Rattle.varisat_search.proofs.stepping.DueReductions.{rises-over, keeps-are}
+use Rattle.varisat_search.proofs.simplifying.RootSimplified.{remembers-settled}
+use Rattle.varisat_search.proofs.stepping.DueReductions.{as-inprocessed}
+use Rattle.varisat_search.proofs.stepping.StepRanks.{rises-longer}
 use Rattle.varisat_search.proofs.stepping.RestartSteps.{begun-view, begun-steps, begun-rises}
 use Rattle.varisat_steps.proofs.Broken.{breaks-on}
 use Rattle.varisat_search.proofs.stepping.StepErrors.{trace-broken, step-passed}
 use Rattle.varisat_schedule.specs.Plans.{Plan, step_begun}
 use Rattle.varisat_theory.specs.inside.Luby.{luby, saturated}
 use Rattle.varisat_search.specs.Progress.{outcome_at}
-use Rattle.varisat_search.specs.RootSimplified.{SimplifiesThenSteps, SimplifiesRootFirst, LearnsAlone}
+use Rattle.varisat_search.specs.RootSimplified.{GoesOnByLines, SimplifiesThenSteps, SimplifiesRootFirst, LearnsAlone}
 use Rattle.varisat_search.proofs.stepping.MadeSteps.{made-with}
 use Rattle.varisat_steps.specs.Traces.{TakesLines, TakesStep}
 use Rattle.varisat_steps.proofs.Traced.{step-more}
 use Rattle.varisat_search.proofs.schedule.schedule_step.Goals as goal
 
--- A step that begins with a restart and goes on with reductions, each where it is due: x is before it, t after the restart, u after the reductions.
+-- A step that begins with a restart and goes on with inprocessing: x is before it, t after the restart, u after inprocessing.
 module _ {A : Type 0} (x t u : Context A) (r : IsReady x) (b : RestartsByPolicy x.schedule x.assumptions.levels (view x) (view t))
-    {P : List Line → Type 0} (k : KeepsSearch P t u) where
+    {P : List Line → Type 0} (k : GoesOnByLines P t u) where
   scheduled-steps : (z : View) (v : Outcome) (Q R : List Line → Type 0) → ((first more : List Line) → P first → Q more → R (first ++ more)) →
       ((more : List Line) × Steps (search_of (view u)) (search_of z) v more × Q more) → (lines : List Line)
       × Steps (search_of (view x)) (search_of z) v lines × R lines
@@ -42,9 +44,13 @@ module _ {A : Type 0} (x t u : Context A) (r : IsReady x) (b : RestartsByPolicy 
         join first more i j,
       )
 
-  scheduled-rises : (z : View) → ((n : ℕ) → length (view u).trail ≤ n → rank n (kinds (view u)) < rank n (kinds z)) →
-      IsPlannedStep x.schedule (kinds (view x)) (kinds z)
-  scheduled-rises z rises = begun-rises x.schedule x.assumptions.levels (view x) (view t) r.well r.settled b z (rises-over (view t) (view u) z k.assigned rises)
+  scheduled-rises : (z : View) → WellFormed z → length z.values ≡ length (view u).values →
+      ((n : ℕ) → length (view u).trail ≤ n → rank n (kinds (view u)) < rank n (kinds z)) → IsPlannedStep x.schedule (kinds (view x)) (kinds z)
+  scheduled-rises z w count rises =
+      let (more, e) = k.kinds_more in
+      let begun = begun-view x.schedule x.assumptions.levels (view x) (view t) r.well r.settled b in
+      begun-rises x.schedule x.assumptions.levels (view x) (view t) r.well r.settled b z
+      (rises-longer (view t) (view u) z more begun.well k.ready.well w e k.extends.count count rises)
 
   scheduled-decidable : (z : Context A) → SameDecidable (view x) x.vsids (view t) t.vsids → SameDecidable (view u) u.vsids (view z) z.vsids →
       SameDecidable (view x) x.vsids (view z) z.vsids
@@ -52,9 +58,8 @@ module _ {A : Type 0} (x t u : Context A) (r : IsReady x) (b : RestartsByPolicy 
       (same-trans (view t) t.vsids (view u) u.vsids (view z) z.vsids k.decidable last)
 
   scheduled-last : (new : List Bool) → SavesUndone x.assumptions.levels (view x) (view t) x.assignment.last t.assignment.last →
-      u.assignment.last ≡ t.assignment.last → Remembers (view u) u.assignment.last new →
-      RestartsAndRemembers x.schedule x.assumptions.levels (view x) x.assignment.last new
-  scheduled-last new saved same remembers = (view t, view u, t.assignment.last, b, saved, k.assigned, subst (λ xs. Remembers (view u) xs new) same remembers)
+      Remembers (view u) u.assignment.last new → RestartsAndRemembers x.schedule x.assumptions.levels (view x) x.assignment.last new
+  scheduled-last new saved remembers = (view t, t.assignment.last, b, saved, remembers-settled t u P k new remembers)
 
   scheduled-assumes : (v : Outcome) (a : AssumptionParts) → u.assumptions ≡ x.assumptions →
       KeepsAssumptions (search_of (view u)) v u.assumptions a → KeepsAssumptions (search_of (view x)) v x.assumptions a
@@ -64,6 +69,18 @@ module _ {A : Type 0} (x t u : Context A) (r : IsReady x) (b : RestartsByPolicy 
       keeps-after-part 0 (search_of (view x)) (search_of (view t)) [] v x.assumptions a p
       (keeps-after-part 0 (search_of (view t)) (search_of (view u)) lines v x.assumptions a q
       (subst (λ c. KeepsAssumptions (search_of (view u)) v c a) same h))
+
+-- what its lines lead to is a part of how they are
+proved-too : {A : Type 0} (x y : Context A) (P : List Line → Type 0) → GoesOnByLines P x y →
+    GoesOnByLines (λ lines. Proves 0 (search_of (view x)) (search_of (view y)) lines × P lines) x y
+proved-too x y P a = record {
+  ready = a.ready;
+  proves = let (lines, p, i) = a.proves in (lines, p, (p, i));
+  extends = a.extends;
+  kinds_more = a.kinds_more;
+  decidable = a.decidable;
+  last = a.last;
+}
 
 -- the schedule's count is no part of how the root level was simplified
 counted : {A : Type 0} {lines : List Line} {x z : Context A} {plan : Plan} → SimplifiesThenSteps lines x z →
@@ -84,23 +101,21 @@ returns-clause-steps g c =
     let v = outcome_at z in
     let m = made-with u z (λ lines. SimplifiesRootFirst lines u z × LearnsAlone lines u z × TakesStep takes p1 lines v p2) c.in_ok-conflict_step.ensures.made in
     scheduled-steps x t u c.requires.ready b.restarts
-    (keeps-are (λ lines. Proves 0 (search_of (view t)) (search_of (view u)) lines × (ReducesIfDue lines t u × TakesLines takes p0 lines p1))
-    (λ lines p i. (p, i)) b.reduces)
+    (proved-too t u (as-inprocessed InprocessesIfDue (λ lines. TakesLines takes p0 lines p1) t u) b.inprocesses.goes_on)
     (view z) v
     (λ lines. Steps (search_of (view u)) (search_of (view z)) v lines × (SimplifiesRootFirst lines u z × LearnsAlone lines u z × TakesStep takes p1 lines v p2))
     (λ lines. GoesBySchedule lines x (record z { schedule = c.end_step.new.self }) × TakesStep takes p0 lines v p2)
-    (λ first more (d, (r, i)) (p, (s, a, j)). (
+    (λ first more (d, (r, parts, i)) (p, (s, a, j)). (
       record {
         begun = t;
-        reduced = u;
+        inprocessed = u;
         restarts = b.restarts;
         begins = b.begins;
         first = first;
         rest = more;
         parts = refl;
-        reduces = r;
-        deletes =
-            d;
+        inprocesses = r;
+        proves = d;
         simplifies_root = λ h. counted (s h);
         steps = (more, p, refl);
       },
@@ -132,8 +147,9 @@ returns-clause-counts g c =
 pub returns-clause-rises : goal.returns-clause-rises
 returns-clause-rises g c e =
     let b = c.in_ok-begin_step.ensures.begins in
-    scheduled-rises c.args.ctx.now b.begun c.begin_step.new.ctx c.requires.ready b.restarts b.reduces (view c.conflict_step.new.ctx)
-    (c.in_ok-conflict_step.ensures.made.goes.rises e)
+    let m = c.in_ok-conflict_step.ensures.made.goes in
+    scheduled-rises c.args.ctx.now b.begun c.begin_step.new.ctx c.requires.ready b.restarts b.inprocesses.goes_on (view c.conflict_step.new.ctx)
+    m.ready.well m.keeps.count (m.rises e)
 
 pub returns-clause-keeps : goal.returns-clause-keeps
 returns-clause-keeps g c =
@@ -143,17 +159,16 @@ returns-clause-keeps g c =
     let k = c.in_ok-conflict_step.ensures.made.goes.keeps in
     let begun = begun-view x.schedule x.assumptions.levels (view x) (view b.begun) c.requires.ready.well c.requires.ready.settled b.restarts in
     record {
-      decidable = scheduled-decidable x b.begun u c.requires.ready b.restarts b.reduces c.conflict_step.new.ctx b.decidable k.decidable;
+      decidable = scheduled-decidable x b.begun u c.requires.ready b.restarts b.inprocesses.goes_on c.conflict_step.new.ctx b.decidable k.decidable;
       decay = k.decay ∙ ap (λ (y : Context g.row.A.Denot). y.vsids.decay) b.rest ∙ b.decay;
-      count = k.count ∙ ap (λ (y : Context g.row.A.Denot). length y.assignment.current) b.rest ∙ begun.count;
+      count = k.count ∙ b.inprocesses.goes_on.extends.count ∙ begun.count;
     }
 
 pub returns-clause-last : goal.returns-clause-last
 returns-clause-last g c =
     let b = c.in_ok-begin_step.ensures.begins in
-    let same = ap (λ (y : Context g.row.A.Denot). y.assignment.last) b.rest in
-    scheduled-last c.args.ctx.now b.begun c.begin_step.new.ctx c.requires.ready b.restarts b.reduces c.conflict_step.new.ctx.assignment.last b.saves
-    same c.in_ok-conflict_step.ensures.made.last
+    scheduled-last c.args.ctx.now b.begun c.begin_step.new.ctx c.requires.ready b.restarts b.inprocesses.goes_on c.conflict_step.new.ctx.assignment.last
+    b.saves c.in_ok-conflict_step.ensures.made.last
 
 pub returns-clause-core : goal.returns-clause-core
 returns-clause-core g c = c.in_ok-conflict_step.ensures.core
@@ -162,7 +177,7 @@ pub returns-clause-assumes : goal.returns-clause-assumes
 returns-clause-assumes g c =
     let b = c.in_ok-begin_step.ensures.begins in
     let z = c.conflict_step.new.ctx in
-    scheduled-assumes c.args.ctx.now b.begun c.begin_step.new.ctx c.requires.ready b.restarts b.reduces (outcome_at z) z.assumptions
+    scheduled-assumes c.args.ctx.now b.begun c.begin_step.new.ctx c.requires.ready b.restarts b.inprocesses.goes_on (outcome_at z) z.assumptions
     (ap (λ (y : Context g.row.A.Denot). y.assumptions) c.begin_step.ensures.frame) c.in_ok-conflict_step.ensures.made.assumes
 
 pub returns-in_err-begin_step-clause-broken : goal.returns-in_err-begin_step-clause-broken
@@ -172,7 +187,7 @@ returns-in_err-begin_step-clause-broken g c =
 
 pub returns-in_err-conflict_step-clause-broken : goal.returns-in_err-conflict_step-clause-broken
 returns-in_err-conflict_step-clause-broken g c =
-    let (lines, p, (r, t)) = c.in_ok-begin_step.ensures.begins.reduces.proves in
+    let (lines, p, (r, parts, t)) = c.in_ok-begin_step.ensures.begins.inprocesses.goes_on.proves in
     step-passed g.P.ProofTracer.breaks_off c.args.proof.now c.conflict_step.new.proof c.from_residual-in_err-conflict_step.result
     c.in_err-conflict_step.field-0.0 c.from_residual-in_err-conflict_step.ensures
     (breaks-on g.P.ProofTracer.takes g.P.ProofTracer.breaks_off g.met.P.ProofTracer.breaks_behind t c.in_err-conflict_step.ensures.broken)

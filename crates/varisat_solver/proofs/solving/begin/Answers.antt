@@ -70,7 +70,7 @@ returns-clause-begins g c =
       logs = e.logs;
       logged = some-through p.proof q.proof r.proof (begin-logged (tracer_state p) (tracer_state q) x y b) e.logged;
       within = λ i k. e.within i x.schedule
-          (come-begun _ x y c.requires.can.valid.ready c.prove_in_range.ensures.luby_restart_interval_scale c.requires.counted b config count i k);
+          (come-begun _ x y c.requires.can.valid.ready c.prove_in_range.ensures.luby_restart_interval_scale c.requires.counted b config i k);
       state = c.detach_fixed.ensures.state ∙ ap (λ (c : Context g.row.A.Denot). c.solver_state) c.begin_step.ensures.frame;
       count = e.count ∙ count;
       left = record { reduced = y; begins = begins-any x y b; left = e.left };

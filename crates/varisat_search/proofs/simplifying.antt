@@ -8,6 +8,7 @@ pub mod SimplifiedLines
 pub mod SimplifiedKept
 pub mod ShrunkClauses
 pub mod FilteredUnits
+pub mod ReplacedClauses
 pub mod SimplifiedSearch
 pub mod SimplifiedContext
 pub mod SimplifiedBinary

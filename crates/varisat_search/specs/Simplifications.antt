@@ -1,10 +1,11 @@
 -- What becomes of the kept clauses once literals are true for good, and the lines that say so.
-use Rattle.std.specs.Prelude.{◌≡◌, ◌≢◌, ℕ, ◌<◌, ◌≤◌, Bool, false, not, ◌&&◌, nat_le, nat_lt, if◌then◌else◌, Option, None, List, [], ◌∷◌, ◌++◌, length, map, slice_index_or, ◌⊎◌}
+use Rattle.std.specs.Prelude.{◌≡◌, ◌≢◌, ℕ, ◌<◌, ◌≤◌, Bool, true, false, not, ◌&&◌, nat_le, nat_lt, if◌then◌else◌, Option, None, List, [], ◌∷◌, ◌++◌, length, map, slice_index_or, ◌⊎◌}
 use Rattle.std.specs.List.{filter, list_any}
 use Rattle.varisat_theory.specs.promises.Membership.{◌∈◌, ◌⊆◌}
 use Rattle.varisat_theory.specs.promises.Literals.{Literal, Clause, variable_of, opposite}
 use Rattle.varisat_theory.specs.promises.Derivations.{Line, Add, Delete}
 use Rattle.varisat_clause.specs.Stored.{StoredClause, stored_at, with_stored}
+use Rattle.varisat_clause.specs.Stores.{Store, stored_clauses, HoldsClauses}
 use Rattle.varisat_clause.specs.Collected.{live_of}
 use Rattle.varisat_prop.specs.Parts.{value_in, is_true_value}
 use Rattle.varisat_prop.specs.Looks.{IsInRange}
@@ -73,11 +74,15 @@ lines_of_pairs values cs = map Delete (filter (λ c. not (are_unassigned values 
 abbrev pub pair_lines : View → List Line
 pair_lines s = lines_of_pairs s.values (pairs_from 0 s.binary)
 
--- a clause with a true literal is deleted, and one with a false literal is so once what is left of it was added
+-- the first clause is replaced by the other one
+abbrev pub lines_of_replaced : Clause → Clause → List Line
+lines_of_replaced longer shorter = Add shorter ∷ Delete longer ∷ []
+
+-- a clause with a true literal is deleted, and one with a false literal is replaced by what is left of it
 abbrev pub lines_of_clause : List (Option Bool) → Clause → List Line
 lines_of_clause values c =
     if has_true values c then Delete c ∷ []
-    else (if are_unassigned values c then [] else Add (unassigned values c) ∷ Delete c ∷ [])
+    else (if are_unassigned values c then [] else lines_of_replaced c (unassigned values c))
 
 -- what becomes of each of the clauses, in turn
 abbrev pub lines_of_clauses : List (Option Bool) → List StoredClause → List Line
@@ -92,6 +97,13 @@ clause_lines s = lines_of_clauses s.values s.clauses
 pub record IsLeftOpen (values : List (Option Bool)) (c : Clause) : Type 0 where
   pub in_range : IsInRange values c
   pub two : has_true values c ≡ false → 2 ≤ length (unassigned values c)
+
+-- The clause at the place is replaced by c. Three literals or more stay there, and two join those that were gathered.
+pub record ReplacesClause (c : Clause) (p : ℕ) (old new : Store) (before after : List Clause)
+    (stays : Bool) : Type 0 where
+  pub long : 3 ≤ length c → (stays ≡ true)
+      × HoldsClauses new (length old.words) (with_shortened (stored_clauses old) p c) × (after ≡ before)
+  pub pair : length c ≡ 2 → (stays ≡ false) × (new ≡ old) × (after ≡ before ++ c ∷ [])
 
 -- What a filter leaves of the clause k, with j in its place, and of the pairs that it gathered.
 pub record LeavesOpen (values : List (Option Bool)) (k j : StoredClause) (before after : List Clause) : Type 0 where

@@ -16,6 +16,7 @@ pub mod load;
 mod mend;
 pub mod model;
 pub mod reduce;
+mod replace;
 pub mod schedule;
 pub mod solver_variables;
 pub mod state;

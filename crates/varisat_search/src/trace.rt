@@ -10,7 +10,7 @@ ghost use Rattle.varisat_clause.specs.Collected.{live_clauses};
 ghost use Rattle.varisat_prop.specs.Looks.{IsInRange};
 ghost use Rattle.varisat_prop.specs.View.{pairs_with, pairs_from};
 ghost use Rattle.varisat_search.specs.ProvedUnits.{units_in};
-ghost use Rattle.varisat_search.specs.Simplifications.{unassigned, is_gone_pair, lines_of_pairs, lines_of_clause, lines_of_clauses};
+ghost use Rattle.varisat_search.specs.Simplifications.{unassigned, is_gone_pair, lines_of_pairs, lines_of_replaced, lines_of_clause, lines_of_clauses};
 ghost use Rattle.varisat_steps.specs.Traces.{LogsLines, CanTake};
 
 use std::alloc::{AllocError, Allocator};
@@ -113,8 +113,22 @@ pub fn copy_unassigned<A: Allocator + Copy>(
     Ok(())
 }
 
-/// Tells the proof what becomes of a clause: a satisfied one is deleted, and one with false literals is so once what is
-/// left of it was added.
+/// Adds the shorter clause to the proof, and deletes the longer one.
+pub fn trace_replaced<P: ProofTracer>(
+    proof: &mut P,
+    longer: &[Lit],
+    shorter: &[Lit],
+) -> Result<(), TraceError>
+    requires { CanTake (P.holds proof.old) (lines_of_replaced longer.now shorter.now) }
+    ensures { LogsLines P.takes P.breaks_off proof.old (lines_of_replaced longer.now shorter.now) result proof.new }
+{
+    proof.add_step(&ProofStep::AtClause { clause: shorter })?;
+    proof.add_step(&ProofStep::DeleteClause { clause: longer })?;
+    Ok(())
+}
+
+/// Tells the proof what becomes of a clause: a satisfied one is deleted, and one with false literals is replaced by
+/// what is left of it.
 fn trace_clause<A: Allocator + Copy, P: ProofTracer>(
     proof: &mut P,
     assignment: &Assignment<A>,
@@ -132,8 +146,7 @@ fn trace_clause<A: Allocator + Copy, P: ProofTracer>(
     }
     copy_unassigned(left, assignment, lits)?;
     if left.len() < lits.len() {
-        proof.add_step(&ProofStep::AtClause { clause: left })?;
-        proof.add_step(&ProofStep::DeleteClause { clause: lits })?;
+        trace_replaced(proof, lits, left)?;
     }
     Ok(())
 }

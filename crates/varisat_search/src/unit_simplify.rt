@@ -1,11 +1,9 @@
 //! Simplification by the literals of level 0: they become unit clauses, and the kept clauses lose what these say.
-ghost use Rattle.std.specs.Prelude.{◌≡◌, ◌≢◌, ◌<◌, ◌≤◌, ◌↔◌, ◌++◌, IsTrue, None, [], length, drop, slice_index_or, OnOk, IfOk, IfErr};
+ghost use Rattle.std.specs.Prelude.{◌≡◌, ◌≢◌, ◌<◌, ◌↔◌, ◌++◌, IsTrue, None, [], length, slice_index_or, OnOk, IfOk, IfErr};
 ghost use Rattle.std.specs.List.Sorted.{IsPermutation};
 ghost use Rattle.varisat_theory.specs.promises.Membership.{◌∈◌};
-ghost use Rattle.varisat_theory.specs.promises.Literals.{Literal, Clause, variable_of};
+ghost use Rattle.varisat_theory.specs.promises.Literals.{Literal, variable_of};
 ghost use Rattle.varisat_theory.specs.inside.StepLaws.{unit_lines};
-ghost use Rattle.varisat_clause.specs.Stored.{IsClauseRef, literals_at};
-ghost use Rattle.varisat_clause.specs.Stores.{stored_clauses, IsSound, HoldsClauses};
 ghost use Rattle.varisat_prop.specs.Looks.{IsInRange};
 ghost use Rattle.varisat_prop.specs.Simplified.{without_assigned};
 ghost use Rattle.varisat_search.specs.Contexts.{view, IsReady};
@@ -16,17 +14,17 @@ ghost use Rattle.varisat_search.specs.Seen.{search_of};
 ghost use Rattle.varisat_search.specs.RootSimplified.{CanSimplify};
 ghost use Rattle.varisat_search.specs.ProvedUnits.{units_in, implied_units, HaveUnits, ProvesUnits};
 ghost use Rattle.varisat_steps.specs.Traces.{TakesLines, BreaksOff, faults_of, CanTake, AdmitsFor};
-ghost use Rattle.varisat_search.specs.Simplifications.{unassigned, with_shortened, with_pairs, IsSimplified, pair_lines, clause_lines, IsPairIn, IsLeftOpen, LeavesOpen, NotesWatches};
+ghost use Rattle.varisat_search.specs.Simplifications.{IsSimplified, pair_lines, clause_lines, IsLeftOpen, LeavesOpen, NotesWatches};
 
 use crate::context::Context;
 use crate::mend::mend_lists;
+use crate::replace::{add_pairs, replace_clause};
 use crate::trace::{copy_unassigned, trace_pairs, trace_stored, trace_units};
 use std::alloc::{AllocError, Allocator};
 use varisat_analysis::clause_literals::is_satisfied;
 use varisat_clause::alloc::{ClauseAlloc, ClauseRef};
 use varisat_clause::filter::{ClauseFilter, filter_clauses};
 use varisat_literals::Lit;
-use varisat_prop::binary::BinaryClauses;
 use varisat_prop::prop::{Assignment, ImplGraph, Reason};
 use varisat_steps::{ProofTracer, TraceError};
 
@@ -69,27 +67,6 @@ pub fn prove_units<A: Allocator + Copy, P: ProofTracer>(
     trace_units(proof, &ctx.impl_graph, ctx.trail.trail())?;
     forget_reasons(&mut ctx.impl_graph, ctx.trail.trail());
     Ok(!ctx.trail.trail().is_empty())
-}
-
-/// Writes the literals over the first ones.
-fn write_front(lits: &mut [Lit], front: &[Lit])
-    requires { length front.now ≤ length lits.old }
-    ensures { lits.new ≡ front.now ++ drop (length front.now) lits.old }
-{
-    lits[..front.len()].copy_from_slice(front);
-}
-
-/// Leaves these literals of the clause, three or more. The words of the others become a gap.
-fn shrink<A: Allocator + Copy>(alloc: &mut ClauseAlloc<A>, cref: ClauseRef, left: &[Lit])
-    requires sound { IsSound alloc.old }
-    requires place { IsClauseRef (stored_clauses alloc.old) cref }
-    requires least { 3 ≤ length left.now }
-    requires most { length left.now ≤ length (literals_at (stored_clauses alloc.old) cref) }
-    ensures { HoldsClauses alloc.new (length alloc.old.words)
-        (with_shortened (stored_clauses alloc.old) cref left.now) }
-{
-    write_front(alloc.lits_mut(cref), left);
-    alloc.shorten(cref, left.len());
 }
 
 /// Whether a literal of the clause has a value.
@@ -146,27 +123,9 @@ impl<'a, A: Allocator + Copy> ClauseFilter<A> for UnitFilter<'a, A> {
             return Ok(false);
         }
         copy_unassigned(&mut self.left, self.assignment, lits)?;
-        if self.left.len() == 2 {
-            self.pairs.push([self.left[0], self.left[1]])?;
-            return Ok(false);
-        }
-        shrink(alloc, cref, &self.left);
-        Ok(true)
+        let stays = replace_clause(alloc, cref, &self.left, &mut self.pairs)?;
+        Ok(stays)
     }
-}
-
-/// Keeps the clauses of two literals.
-fn add_pairs<A: Allocator + Copy>(
-    binary_clauses: &mut BinaryClauses<A>,
-    pairs: &[[Lit; 2]],
-) -> Result<(), AllocError>
-    requires { (c : Clause) → c ∈ pairs.now → IsPairIn binary_clauses.old c }
-    ensures { OnOk result (binary_clauses.new ≡ with_pairs binary_clauses.old pairs.now) }
-{
-    for pair in pairs {
-        binary_clauses.add_binary_clause(*pair)?;
-    }
-    Ok(())
 }
 
 /// Takes out the clauses of two literals of which one has a value: at level 0 after complete propagation, where each

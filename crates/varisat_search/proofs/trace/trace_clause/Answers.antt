@@ -1,10 +1,9 @@
-use Rattle.varisat_steps.proofs.Broken.{lines-broken, breaks-on, breaks-in, breaks-not}
+use Rattle.varisat_steps.proofs.Broken.{lines-broken, breaks-in, breaks-not}
 use Rattle.varisat_steps.specs.declared.tracer.TraceError.TheVariants.{Memory}
 use Rattle.std.proofs.Common.{◌≡◌, ◌<◌, false, List, [], ◌∷◌, length, refl, sym, ap, ◌∙◌, subst, arith}
 use Rattle.varisat_theory.specs.promises.Literals.{Clause}
 use Rattle.varisat_theory.specs.promises.Derivations.{Line, Add, Delete}
 use Rattle.varisat_steps.specs.Traces.{TakesLines, CanTake}
-use Rattle.varisat_steps.proofs.Traced.{lines-more, can_take_first, can_take_rest}
 use Rattle.varisat_search.specs.Simplifications.{has_true, lines_of_clause}
 use Rattle.varisat_search.proofs.simplifying.FilteredUnits.{satisfied-read, unsatisfied-read}
 use Rattle.varisat_search.proofs.simplifying.TracedClauses.{lines-satisfied, lines-shorter, lines-same}
@@ -38,32 +37,20 @@ returns-then-is_satisfied g c =
     (satisfied-read c.args.assignment.now.current c.args.lits.now c.args.lits.now refl (c.if-is_satisfied.ensures.0 refl)) in
     subst (λ (ls : List Line). TakesLines g.P.ProofTracer.takes c.args.proof.now ls c.add_step.new.self) (sym e) (c.in_ok-add_step.ensures {u = tt})
 
-pub add_step-requires-then-len-lits : goal.add_step-requires-then-len-lits
-add_step-requires-then-len-lits g c =
-    let here = (goal.at.add_step-requires-then-len-lits g c).After-len in
+pub trace_replaced-requires : goal.trace_replaced-requires
+trace_replaced-requires g c =
+    let here = (goal.at.trace_replaced-requires g c).After-len in
     let whole : lines g here ≡ Add c.deref.result.now ∷ Delete c.args.lits.now ∷ [] = two g here c.if-len-lits.true
     ∙ ap (λ (d : Clause). Add d ∷ Delete c.args.lits.now ∷ []) (sym c.deref.ensures.value) in
-    can_take_first (g.P.ProofTracer.holds c.args.proof.now) (Add c.deref.result.now ∷ []) (Delete c.args.lits.now ∷ [])
-    (subst (λ (ls : List Line). CanTake (g.P.ProofTracer.holds c.args.proof.now) ls) whole c.requires.able)
+    subst (λ (ls : List Line). CanTake (g.P.ProofTracer.holds c.args.proof.now) ls) whole c.requires.able
 
-pub add_step-requires-then-len-lits-2 : goal.add_step-requires-then-len-lits-2
-add_step-requires-then-len-lits-2 g c =
-    let here = (goal.at.add_step-requires-then-len-lits-2 g c).After-len in
+pub returns-in_ok-trace_replaced : goal.returns-in_ok-trace_replaced
+returns-in_ok-trace_replaced g c =
+    let here = (goal.at.returns-in_ok-trace_replaced g c).After-len in
     let whole : lines g here ≡ Add c.deref.result.now ∷ Delete c.args.lits.now ∷ [] = two g here c.if-len-lits.true
     ∙ ap (λ (d : Clause). Add d ∷ Delete c.args.lits.now ∷ []) (sym c.deref.ensures.value) in
-    can_take_rest g.P.ProofTracer.holds g.P.ProofTracer.takes g.met.P.ProofTracer.holds_after c.args.proof.now c.add_step-then-len-lits.new.self
-    (Add c.deref.result.now ∷ []) (Delete c.args.lits.now ∷ [])
-    (subst (λ (ls : List Line). CanTake (g.P.ProofTracer.holds c.args.proof.now) ls) whole c.requires.able) (c.in_ok-add_step-2.ensures {u = tt})
-
-pub returns-in_ok-add_step-3 : goal.returns-in_ok-add_step-3
-returns-in_ok-add_step-3 g c =
-    let here = (goal.at.returns-in_ok-add_step-3 g c).After-len in
-    let whole : lines g here ≡ Add c.deref.result.now ∷ Delete c.args.lits.now ∷ [] = two g here c.if-len-lits.true
-    ∙ ap (λ (d : Clause). Add d ∷ Delete c.args.lits.now ∷ []) (sym c.deref.ensures.value) in
-    subst (λ (ls : List Line). TakesLines g.P.ProofTracer.takes c.args.proof.now ls c.add_step-then-len-lits-2.new.self) (sym whole)
-    (lines-more g.P.ProofTracer.takes g.met.P.ProofTracer.takes_more c.args.proof.now c.add_step-then-len-lits.new.self
-    c.add_step-then-len-lits-2.new.self (Add c.deref.result.now ∷ []) (Delete c.args.lits.now ∷ []) (c.in_ok-add_step-2.ensures {u = tt})
-    (c.in_ok-add_step-3.ensures {u = tt}))
+    subst (λ (ls : List Line). TakesLines g.P.ProofTracer.takes c.args.proof.now ls c.trace_replaced.new.proof) (sym whole)
+    (c.in_ok-trace_replaced.ensures {u = tt})
 
 pub returns-else-len-lits : goal.returns-else-len-lits
 returns-else-len-lits g c =
@@ -86,17 +73,9 @@ returns-in_err-copy_unassigned g c =
     c.from_residual-in_err-copy_unassigned.ensures
     (breaks-not g.P.ProofTracer.breaks_off g.met.P.ProofTracer.breaks_none c.args.proof.now)
 
-pub returns-in_err-add_step-2 : goal.returns-in_err-add_step-2
-returns-in_err-add_step-2 g c =
-    lines-broken g.P.ProofTracer.takes g.P.ProofTracer.breaks_off c.args.proof.now c.add_step-then-len-lits.new.self
-    (lines_of_clause c.args.assignment.now.current c.args.lits.now) c.from_residual-in_err-add_step-2.result c.in_err-add_step-2.field-0.0
-    c.from_residual-in_err-add_step-2.ensures
-    (breaks-in g.P.ProofTracer.breaks_off (c.in_err-add_step-2.ensures {u = tt}))
-
-pub returns-in_err-add_step-3 : goal.returns-in_err-add_step-3
-returns-in_err-add_step-3 g c =
-    lines-broken g.P.ProofTracer.takes g.P.ProofTracer.breaks_off c.args.proof.now c.add_step-then-len-lits-2.new.self
-    (lines_of_clause c.args.assignment.now.current c.args.lits.now) c.from_residual-in_err-add_step-3.result c.in_err-add_step-3.field-0.0
-    c.from_residual-in_err-add_step-3.ensures
-    (breaks-on g.P.ProofTracer.takes g.P.ProofTracer.breaks_off g.met.P.ProofTracer.breaks_behind (c.in_ok-add_step-2.ensures {u = tt})
-    (breaks-in g.P.ProofTracer.breaks_off (c.in_err-add_step-3.ensures {u = tt})))
+pub returns-in_err-trace_replaced : goal.returns-in_err-trace_replaced
+returns-in_err-trace_replaced g c =
+    lines-broken g.P.ProofTracer.takes g.P.ProofTracer.breaks_off c.args.proof.now c.trace_replaced.new.proof
+    (lines_of_clause c.args.assignment.now.current c.args.lits.now) c.from_residual-in_err-trace_replaced.result c.in_err-trace_replaced.field-0.0
+    c.from_residual-in_err-trace_replaced.ensures
+    (c.in_err-trace_replaced.ensures {u = tt})

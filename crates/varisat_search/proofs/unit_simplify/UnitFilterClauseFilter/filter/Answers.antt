@@ -1,26 +1,25 @@
-use Rattle.std.proofs.Common.{◌≡◌, ◌≢◌, ◌≤◌, ◌++◌, ◌∷◌, Bool, Option, List, [], true, false, length, get_or, refl, sym, ap, ◌∙◌, subst, arith}
+use Rattle.std.proofs.Common.{◌≡◌, ◌≤◌, ◌++◌, ◌∷◌, Bool, Option, List, [], true, false, length, get_or, refl, sym, ap, ◌∙◌, subst, arith}
 use Rattle.varisat_theory.specs.promises.Literals.{Literal, Clause, opposite}
 use Rattle.varisat_clause.specs.Stored.{StoredClause, stored_at}
 use Rattle.varisat_clause.specs.Stores.{stored_clauses}
-use Rattle.varisat_clause.specs.Filters.{left_if}
 use Rattle.varisat_clause.proofs.FilteredClauses.{alters-same}
 use Rattle.varisat_prop.specs.Simplified.{is_unassigned}
 use Rattle.varisat_prop.proofs.trails.LiteralValues.{none-made}
 use Rattle.varisat_prop.proofs.views.ReadElements.{element}
-use Rattle.varisat_search.specs.Simplifications.{has_true, unassigned, shortened_to, LeavesOpen, NotesWatches}
-use Rattle.varisat_analysis.proofs.CopiedLiterals.{only-two}
-use Rattle.varisat_search.proofs.simplifying.ShrunkClauses.{header-length, shrunk-alters, shrunk-stored}
-use Rattle.varisat_search.proofs.simplifying.FilteredUnits.{satisfied-read, unsatisfied-read, filter-short, leaves-none, leaves-pair, leaves-long, not-shortened, notes-none, notes-two}
+use Rattle.varisat_search.specs.Simplifications.{has_true, unassigned, NotesWatches}
+use Rattle.varisat_search.proofs.simplifying.ShrunkClauses.{header-length}
+use Rattle.varisat_search.proofs.simplifying.ReplacedClauses.{replaced-alters, replaced-leaves}
+use Rattle.varisat_search.proofs.simplifying.FilteredUnits.{satisfied-read, unsatisfied-read, filter-short, leaves-none, leaves-long, not-shortened, notes-none, notes-two}
 use Rattle.varisat_search.proofs.simplifying.UnassignedLiterals.{left-all, unassigned-read}
 use Rattle.varisat_clause.proofs.DatabaseTracks.{long-at}
 use Rattle.varisat_search.proofs.unit_simplify.UnitFilterClauseFilter.filter.Given.{Over}
-use Rattle.varisat_search.proofs.unit_simplify.UnitFilterClauseFilter.filter.Goals.{After-len, In_ok-push-2}
+use Rattle.varisat_search.proofs.unit_simplify.UnitFilterClauseFilter.filter.Goals.{In_ok-copy_unassigned, In_ok-push-2}
 use Rattle.varisat_search.proofs.unit_simplify.UnitFilterClauseFilter.filter.Goals as goal
 
-abbrev values : (g : Over) (c : After-len g) → List (Option Bool)
+abbrev values : (g : Over) (c : In_ok-copy_unassigned g) → List (Option Bool)
 values g c = c.args.self.now.assignment.now.current
 
-abbrev clause : (g : Over) (c : After-len g) → StoredClause
+abbrev clause : (g : Over) (c : In_ok-copy_unassigned g) → StoredClause
 clause g c = stored_at (stored_clauses c.args.alloc.now) c.args.cref
 
 -- the literals whose watch lists name the clause are noted
@@ -38,27 +37,20 @@ notes g c =
     (c.in_ok-push-2.ensures.items ∙ ap (λ (ls : List Literal). ls ++ c.not-2.result ∷ []) c.in_ok-push.ensures.items)
 
 -- what is left of the clause
-left-is : (g : Over) (c : After-len g) → c.copy_unassigned.new.left.items ≡ unassigned (values g c) (clause g c).literals
+left-is : (g : Over) (c : In_ok-copy_unassigned g) → c.copy_unassigned.new.left.items ≡ unassigned (values g c) (clause g c).literals
 left-is g c = c.in_ok-copy_unassigned.ensures ∙ ap (unassigned (values g c)) c.lits-lits.ensures
 
 -- none of its literals is true
-none-true : (g : Over) (c : After-len g) → has_true (values g c) (clause g c).literals ≡ false
+none-true : (g : Over) (c : In_ok-copy_unassigned g) → has_true (values g c) (clause g c).literals ≡ false
 none-true g c = unsatisfied-read (values g c) c.lits-lits.result.now (clause g c).literals c.lits-lits.ensures
     (λ h. let b = c.if-is_satisfied.ensures.1 h in cc)
 
--- three or more are left, unless there are two
-three-left : (g : Over) (c : After-len g) → c.len.result ≢ 2 → 3 ≤ length c.copy_unassigned.new.left.items
-three-left g c n =
+-- two or more are left
+two-left : (g : Over) (c : In_ok-copy_unassigned g) → 2 ≤ length c.copy_unassigned.new.left.items
+two-left g c =
     let two = c.requires.accepted.two (none-true g c) in
     let e = ap (λ (d : Clause). length d) (left-is g c) in
-    omega (arith, c.copy_unassigned.new.left.ok.0, n, two, e)
-
--- the clause stays, as j
-stays : (g : Over) (c : After-len g) (j : StoredClause) → c.len.result ≢ 2 →
-    j ≡ shortened_to (unassigned (values g c) (clause g c).literals) (clause g c) →
-    LeavesOpen (values g c) (clause g c) (left_if true j) c.args.self.now.pairs.items c.args.self.now.pairs.items
-stays g c j n is = leaves-long (values g c) (clause g c) c.args.self.now.pairs.items j (none-true g c)
-    (subst (λ (d : Clause). 3 ≤ length d) (left-is g c) (three-left g c n)) c.requires.live is
+    omega (arith, two, e)
 
 pub returns-then-is_satisfied-clause-altered : goal.returns-then-is_satisfied-clause-altered
 returns-then-is_satisfied-clause-altered g c = alters-same c.args.alloc.now c.args.cref c.requires.sound c.requires.place c.requires.live
@@ -73,47 +65,37 @@ returns-then-is_satisfied-clause-left g c =
       notes g (goal.at.returns-then-is_satisfied-clause-left g c).In_ok-push-2,
     )
 
-pub returns-then-len-eq2-clause-altered : goal.returns-then-len-eq2-clause-altered
-returns-then-len-eq2-clause-altered g c = alters-same c.args.alloc.now c.args.cref c.requires.sound c.requires.place c.requires.live
-
-pub returns-then-len-eq2-clause-left : goal.returns-then-len-eq2-clause-left
-returns-then-len-eq2-clause-left g c =
-    let here = (goal.at.returns-then-len-eq2-clause-left g c).After-len in
-    let left = c.copy_unassigned.new.left in
-    let n : length left.items ≡ 2 = omega (arith, left.ok.0, c.if-len-eq2.true) in
-    let two = only-two left.items c.index.result.now c.index-then-len-eq2.result.now n c.index.ensures c.index-then-len-eq2.ensures in (
-      refl,
-      leaves-pair (values g here) (clause g here) c.args.self.now.pairs.items (clause g here) c.push-then-len-eq2.new.self.items (none-true g here)
-          (sym (ap (λ (d : Clause). length d) (left-is g here)) ∙ n)
-          (c.in_ok-push-3.ensures.items ∙ ap (λ (d : Clause). c.args.self.now.pairs.items ++ d ∷ []) (sym two ∙ left-is g here)),
-      notes g (goal.at.returns-then-len-eq2-clause-left g c).In_ok-push-2,
-    )
-
-pub shrink-requires-clause-least : goal.shrink-requires-clause-least
-shrink-requires-clause-least g c =
-    let three = three-left g (goal.at.shrink-requires-clause-least g c).After-len c.if-len-eq2.false in
+pub replace_clause-requires-clause-least : goal.replace_clause-requires-clause-least
+replace_clause-requires-clause-least g c =
+    let two = two-left g (goal.at.replace_clause-requires-clause-least g c).In_ok-copy_unassigned in
     let m = ap (λ (d : Clause). length d) c.deref.ensures.value in
-    omega (arith, three, m)
+    omega (arith, two, m)
 
-pub shrink-requires-clause-most : goal.shrink-requires-clause-most
-shrink-requires-clause-most g c =
-    let here = (goal.at.shrink-requires-clause-most g c).After-len in
+pub replace_clause-requires-clause-most : goal.replace_clause-requires-clause-most
+replace_clause-requires-clause-most g c =
+    let here = (goal.at.replace_clause-requires-clause-most g c).In_ok-copy_unassigned in
     let m = ap (λ (d : Clause). length d) c.deref.ensures.value in
     let n = ap (λ (d : Clause). length d) (left-is g here) in
     let short = filter-short (is_unassigned (values g here)) (clause g here).literals in
     omega (arith, m, n, short)
 
 pub returns-clause-altered : goal.returns-clause-altered
-returns-clause-altered g c = shrunk-alters c.args.alloc.now c.shrink.new.alloc c.args.cref c.deref.result.now c.requires.place
-    c.shrink.ensures c.requires.live
+returns-clause-altered g c =
+    let two = two-left g (goal.at.returns-clause-altered g c).In_ok-copy_unassigned in
+    let m = ap (λ (d : Clause). length d) c.deref.ensures.value in
+    replaced-alters c.deref.result.now c.args.cref c.args.alloc.now c.replace_clause.new.alloc c.args.self.now.pairs.items
+    c.replace_clause.new.pairs.items c.in_ok-stays.stays c.requires.place c.requires.live (omega (arith, two, m)) c.in_ok-stays.ensures.replaced
+    c.requires.sound
 
 pub returns-clause-left : goal.returns-clause-left
 returns-clause-left g c =
-    let here = (goal.at.returns-clause-left g c).After-len in
-    let shrunk = shrunk-stored c.args.alloc.now c.shrink.new.alloc c.args.cref c.deref.result.now c.requires.place c.shrink.ensures in (
+    let here = (goal.at.returns-clause-left g c).In_ok-copy_unassigned in
+    let two = two-left g here in
+    let m = ap (λ (d : Clause). length d) c.deref.ensures.value in (
       refl,
-      stays g here (stored_at (stored_clauses c.shrink.new.alloc) c.args.cref) c.if-len-eq2.false
-          (shrunk ∙ ap (λ (d : Clause). shortened_to d (clause g here)) (c.deref.ensures.value ∙ left-is g here)),
+      replaced-leaves c.deref.result.now c.args.cref c.args.alloc.now c.replace_clause.new.alloc c.args.self.now.pairs.items
+          c.replace_clause.new.pairs.items c.in_ok-stays.stays c.requires.place c.requires.live (omega (arith, two, m)) c.in_ok-stays.ensures.replaced
+          (values g here) (none-true g here) (c.deref.ensures.value ∙ left-is g here),
       notes g (goal.at.returns-clause-left g c).In_ok-push-2,
     )
 

@@ -3,7 +3,7 @@ use Rattle.std.proofs.Common.{ℕ, List, take, length, ap, ◌∙◌, arith}
 use Rattle.varisat_prop.proofs.views.ReadElements.{item-∈}
 use Rattle.varisat_search.specs.Simplifications.{with_pairs}
 use Rattle.varisat_search.proofs.simplifying.SimplifiedKept.{longer-pair, joined-count, joined-on, next-taken}
-use Rattle.varisat_search.proofs.unit_simplify.add_pairs.Goals as goal
+use Rattle.varisat_search.proofs.replace.add_pairs.Goals as goal
 
 pub add_binary_clause-requires-clause-first : goal.add_binary_clause-requires-clause-first
 add_binary_clause-requires-clause-first g c =

@@ -1,6 +1,6 @@
 use Rattle.std.proofs.Common.{◌≡◌, take, length}
 use Rattle.varisat_search.specs.Simplifications.{with_pairs}
-use Rattle.varisat_search.proofs.unit_simplify.add_pairs.Given as goal
+use Rattle.varisat_search.proofs.replace.add_pairs.Given as goal
 
 abbrev pub invariant-loop-pair : goal.invariant-loop-pair
 invariant-loop-pair g l = record {

@@ -1,7 +1,7 @@
 use Rattle.std.proofs.Common.{◌+◌, drop, length, arith}
 use Rattle.varisat_clause.specs.Stores.{put_words}
 use Rattle.varisat_search.proofs.simplifying.ShrunkClauses.{written-place, written-length, shrunk}
-use Rattle.varisat_search.proofs.unit_simplify.shrink.Goals as goal
+use Rattle.varisat_search.proofs.replace.shrink.Goals as goal
 
 pub shorten-requires-clause-place : goal.shorten-requires-clause-place
 shorten-requires-clause-place g c =

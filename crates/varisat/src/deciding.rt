@@ -82,7 +82,7 @@ pub fn decide_text<W: ProofTarget, A: Allocator + Copy, S: ByteSource, E: Write>
 
 /// A new solver, inside which a checker runs where that is wanted. Before anything is accepted that is not refused.
 pub fn new_solver<W: ProofTarget, A: Allocator + Copy>(alloc: A, is_checked: bool) -> Solver<W, A>
-    ensures stands { Represents result (new_state is_checked) }
+    ensures represents { Represents result (new_state is_checked) }
     ensures checks { is_checked ≡ true → IsSome result.checker }
 {
     let mut solver = Solver::new_in(alloc);

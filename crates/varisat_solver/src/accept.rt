@@ -104,7 +104,7 @@ pub fn accept_user_clause<W: ProofTarget, A: Allocator + Copy>(
 ) -> Result<(), StepError>
     requires valid { IsValidSolver tracer.old.tables ctx.old }
     requires logs { CanLog tracer.old.proof }
-    requires stands { FitSome (spaces_with tracer.old.tables tracer.old.proof.checker ctx.old) }
+    requires represents { FitSome (spaces_with tracer.old.tables tracer.old.proof.checker ctx.old) }
     requires undecided_before { IsNotUnsat ctx.old }
     requires names { CanBeNamed clause.now tracer.old.tables }
     ensures valid { OnOk result (IsValidSolver tracer.new.tables ctx.new) }

@@ -256,7 +256,7 @@ pub fn detach_fixed<W: ProofTarget, A: Allocator + Copy>(
         (DetachesInTime tracer.old.tables (view ctx.old) → HasDetached tracer.new.tables (view ctx.new)) }
     ensures calm { OnOk result (IsCalm (view ctx.new)) }
     // Parts of all clauses that were held are held still, but for variables that left.
-    ensures stands { OnOk result
+    ensures represents { OnOk result
         ((at : Turn) → ComesOnUndecided at 0 (tracer_state tracer.old) ctx.old (tracer_state tracer.new) ctx.new) }
     // What the target of an open proof has after an error, which is never that the store is full.
     ensures broken { IfErr result (λ error. BreaksProof tracer.old.proof (step_faults error) tracer.new.proof) }

@@ -277,14 +277,14 @@ module _ {A : Type 0} (l : Literal) (old new : Searched A) (v : ℕ) (none : old
 pub record HaveSolvers {A : Type 0} (d : List Literal) (old new : Searched A) : Type 0 where
   pub kept : IsValidSolver new.tables new.context
   pub verdict : KeepsVerdict old.context new.context
-  pub stands : (checker : Option CheckerState) (s : State) → SpacesFit (spaces_at checker old old.context.solver_state.sat_state) s →
+  pub represents : (checker : Option CheckerState) (s : State) → SpacesFit (spaces_at checker old old.context.solver_state.sat_state) s →
       FitWithNew (spaces_at checker new new.context.solver_state.sat_state) s (with_names d s)
 
 pub have-solvers : {A : Type 0} (d : List Literal) (old new : Searched A) → old.context.solver_state.sat_state ≢ verdict.Sat →
     AreLinked old.tables → IsValidSolver old.tables old.context → HaveSolversInTurn d old new → HaveSolvers d old new
 have-solvers {A = A} [] old new none linked k e =
     subst (λ (y : Searched A). HaveSolvers [] old y) (sym e)
-    (record { kept = k; verdict = record { state = refl; assumptions = refl }; stands = λ checker s f. (s.variables, λ i b. refl, f) })
+    (record { kept = k; verdict = record { state = refl; assumptions = refl }; represents = λ checker s f. (s.variables, λ i b. refl, f) })
 have-solvers (l ∷ d) old new none linked k (mid, v, h, rest) =
     let t = turn-verdict l old mid v none h in
     let sat = ap (λ (x : SolverState). x.sat_state) t.state in
@@ -295,7 +295,7 @@ have-solvers (l ∷ d) old new none linked k (mid, v, h, rest) =
         state = more.verdict.state ∙ ap (λ (x : SolverState). record x { formula_is_empty = new.context.solver_state.formula_is_empty }) t.state;
         assumptions = more.verdict.assumptions ∙ ap (λ (x : AssumptionParts). record x { levels = new.context.assumptions.levels }) t.assumptions;
       };
-      stands = λ checker s f.
+      represents = λ checker s f.
           let m = name_one (variable_of l) s.naming in
           let all = name_all d m in
           let (variables, keep, first) = turn-spaces l old mid v none h checker s k.count f in
@@ -310,7 +310,7 @@ have-solvers (l ∷ d) old new none linked k (mid, v, h, rest) =
           let w = first.1.watermark in
           let stays : all.names (variable_of l) ≡ Some i = all-stay d (variable_of l) i m (omega (arith, inside, w)) named in
           let same : variable_of (through_names m l) ≡ variable_of (through_names all l) = carry-at m.names l i named ∙ sym (carry-at all.names l i stays) in
-          let (last, further, fits) = more.stands checker (with_variables variables (with_names (l ∷ []) s)) first in (
+          let (last, further, fits) = more.represents checker (with_variables variables (with_names (l ∷ []) s)) first in (
             last,
             λ i b. further i (omega (arith, b, made)) ∙ keep i b,
             subst (λ j. SpacesFit (spaces_at checker new new.context.solver_state.sat_state)

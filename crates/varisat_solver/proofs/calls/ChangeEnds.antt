@@ -24,7 +24,7 @@ pub kept-changed : {A : Type 0} (tables : Tables) (proof : ProofParts) (x y : Co
     IsValidSolver tables x → CanLog proof → RepresentsSome (spaces_with tables proof.checker x) started → IsValidSince tables proof y started changed_at
 kept-changed {A} tables proof x y started changed_at c k t s =
     subst (λ (z : Context A). IsValidSince tables proof z started changed_at) (sym c.same)
-    (record { kept = k; logs = t; counts = since-now changed_at x c.steps k.ready c.plan; stands = s })
+    (record { kept = k; logs = t; counts = since-now changed_at x c.steps k.ready c.plan; represents = s })
 
 -- It stands for the state that the change comes to, where steps are counted anew.
 pub stands-changed : {A : Type 0} (p q : TracerState) (started : Bool) (before changed_at : ℕ) (x y z : Context A) (s t : State) →

@@ -351,7 +351,7 @@ none-leaves p x k = record {
   within = λ c q b. b;
   count = refl;
   given = ([], logged-none p.proof);
-  stands =
+  represents =
       λ s fit. (s.logged, leaving-nothing s.variables s.logged p.proof, fit);
 }
 

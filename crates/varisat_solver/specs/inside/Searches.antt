@@ -38,7 +38,7 @@ answer_at verdict.UnsatUnderAssumptions = Some false
 pub record CanSearch {A : Type 0} (p : TracerState) (x : Context A) : Type 0 where
   pub valid : IsValidSolver p.tables x
   pub logs : CanLog p.proof
-  pub stands : FitSome (undecided_spaces p.tables p.proof.checker x)
+  pub represents : FitSome (undecided_spaces p.tables p.proof.checker x)
   pub unknown : x.solver_state.sat_state ≡ verdict.Unknown
 
 -- some entries were logged to an open proof
@@ -97,7 +97,7 @@ pub record BeginsSolverStep {A : Type 0} (p q : TracerState) (x y : Context A) :
   -- at level 0 all is propagated, or a clause is false
   pub calm : IsCalm (view y)
   pub leaves : DetachesInTime p.tables (view x) → HasDetached q.tables (view y)
-  pub stands : ComesOnUndecided (turn_of x) 0 p x q y
+  pub represents : ComesOnUndecided (turn_of x) 0 p x q y
 
 -- A step leads from one context to the other, which has a verdict or none, as a tracer that was p takes its lines and the core;
 -- and a core that was found is kept over names too.
@@ -139,7 +139,7 @@ pub record MakesSolverStep {A : Type 0} (p q : TracerState) (x y : Context A) : 
   pub state : y.solver_state ≡ record x.solver_state { sat_state = y.solver_state.sat_state }
   pub count : length y.assignment.current ≡ length x.assignment.current
   pub leaves : DetachesInTime p.tables (view x) → IsNotUnsat y → DetachesInTime q.tables (view y)
-  pub stands : ComesOn (turn_of x) 1 (undecided_spaces p.tables p.proof.checker x)
+  pub represents : ComesOn (turn_of x) 1 (undecided_spaces p.tables p.proof.checker x)
       (spaces_with q.tables q.proof.checker y) p.proof q.proof
 
 -- Steps were made, from one context to the other, until there was a verdict or they were spent. Where none was made nothing changed.
@@ -151,6 +151,6 @@ pub record FindsVerdict {A : Type 0} (p q : TracerState) (x y : Context A) (foun
   pub logged : LogsSome p.proof q.proof
   -- where no variable was to leave but with literals that are still to be propagated, so it is, unless under Unsat
   pub leaves : DetachesInTime p.tables (view x) → IsNotUnsat y → DetachesInTime q.tables (view y)
-  pub stands : ComesOn (turn_of x) (steps_since x.schedule y.schedule) (undecided_spaces p.tables p.proof.checker x)
+  pub represents : ComesOn (turn_of x) (steps_since x.schedule y.schedule) (undecided_spaces p.tables p.proof.checker x)
       (spaces_with q.tables q.proof.checker y) p.proof q.proof
   pub still : y.schedule.steps ≡ x.schedule.steps → (y ≡ x) × (q ≡ p)

@@ -136,6 +136,6 @@ pub record Detaches {A : Type 0} (p : TracerState) (x : Context A) (q : TracerSt
   pub within : GoesOnWithin x y
   pub count : length y.assignment.current ≡ length x.assignment.current
   pub given : (entries : List Entry) × IsLogged p.proof entries q.proof
-  pub stands : (s : State) → SpacesFit (undecided_spaces p.tables p.proof.checker x) s →
+  pub represents : (s : State) → SpacesFit (undecided_spaces p.tables p.proof.checker x) s →
       (logged : List Entry) × LogsRetired s.variables s.logged logged p.proof q.proof
       × SpacesFit (undecided_spaces q.tables q.proof.checker y) (with_entries logged s)

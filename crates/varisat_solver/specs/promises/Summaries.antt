@@ -115,7 +115,7 @@ pub record IsValidSince {A : Type 0} (tables : Tables) (proof : ProofParts) (sea
   pub kept : IsValidSolver tables search
   pub logs : CanLog proof
   pub counts : CountsSince changed_at search
-  pub stands : RepresentsSome (spaces_with tables proof.checker search) started
+  pub represents : RepresentsSome (spaces_with tables proof.checker search) started
 
 -- The solver represents the state: both have the same ledger and as many words in the store, and the same proof is open, whose
 -- target has the bytes that the state says; and where it is valid, what the solver holds stands for it, these are the bytes of the

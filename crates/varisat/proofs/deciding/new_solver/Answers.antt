@@ -5,8 +5,8 @@ use Rattle.varisat_solver.specs.promises.Summaries.{Represents}
 use Rattle.varisat.proofs.ProgramDecides.{enables-new}
 use Rattle.varisat.proofs.deciding.new_solver.Goals as goal
 
-pub returns-then-is_checked-clause-stands : goal.returns-then-is_checked-clause-stands
-returns-then-is_checked-clause-stands g c =
+pub returns-then-is_checked-clause-represents : goal.returns-then-is_checked-clause-represents
+returns-then-is_checked-clause-represents g c =
     let (s, a, x) = c.enable_self_checking.ensures.call empty_state c.new_in-solver.ensures in
     subst (λ (t : State). Represents c.enable_self_checking.new.self t)
     ((enables-new c.enable_self_checking.result s a).1 ∙ ap new_state (sym c.if-is_checked.true)) x

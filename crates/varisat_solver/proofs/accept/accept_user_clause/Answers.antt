@@ -100,7 +100,7 @@ all-named-in g c s f =
     let first = summary_in c.args.tracer.now.tables checker old s.ledger in
     let begins = subst (λ y. SpacesFit (spaces_of c.args.tracer.now.tables checker (view old) old.assumptions y)
     (with_verdict (reopened_verdict s.verdict) s)) (sym (ap (λ (x : SolverState). x.sat_state) c.reopen.ensures)) (reopened-spaces first s f) in
-    (have g c).stands checker (with_verdict (reopened_verdict s.verdict) s) begins
+    (have g c).represents checker (with_verdict (reopened_verdict s.verdict) s) begins
 
 -- what was accepted before and the clause that was logged may be held then
 pub load_clause-requires-clause-holds : goal.load_clause-requires-clause-holds
@@ -110,7 +110,7 @@ load_clause-requires-clause-holds g c n =
     let m = c.solver_from_user_lits.new.variables in
     let p = c.args.tracer.now.proof in
     let lits = c.as_slice-lits.result.now in
-    let (s, f) = c.requires.stands in
+    let (s, f) = c.requires.represents in
     let (variables, keep, named) = all-named-in g here s f in
     let (held, relies, fits) = relied-open m p (view mid) mid.assumptions mid.solver_state.sat_state (opened g here) c.requires.logs
     (_, named) in

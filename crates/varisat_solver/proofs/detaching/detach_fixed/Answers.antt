@@ -27,7 +27,7 @@ use Rattle.varisat_solver.proofs.detaching.detach_fixed.Goals as goal
 
 pub simplify_root-requires-clause-holds : goal.simplify_root-requires-clause-holds
 simplify_root-requires-clause-holds g c = relied c.args.tracer.now.tables c.args.tracer.now.proof
-    (view c.args.ctx.now) c.args.ctx.now.assumptions c.requires.logs c.requires.stands
+    (view c.args.ctx.now) c.args.ctx.now.assumptions c.requires.logs c.requires.represents
 
 -- what simplifying comes to
 begun : (g : Over) (c : In-Ok g) (at : Turn) → ComesOn at 0 (undecided_spaces c.args.tracer.now.tables c.args.tracer.now.proof.checker c.args.ctx.now)
@@ -117,15 +117,15 @@ returns-clause-logs g c =
     let (given, logged) = returns-clause-logged g c in
     logs-logged c.args.tracer.now.proof c.detach_unneeded.new.tracer.proof given logged c.requires.logs
 
-pub returns-then-not-has_root_news-clause-stands : goal.returns-then-not-has_root_news-clause-stands
-returns-then-not-has_root_news-clause-stands g c at s fit = comes-nowhere at 0 s c.args.tracer.now.proof _ refl
+pub returns-then-not-has_root_news-clause-represents : goal.returns-then-not-has_root_news-clause-represents
+returns-then-not-has_root_news-clause-represents g c at s fit = comes-nowhere at 0 s c.args.tracer.now.proof _ refl
     (unknown-undecided c.args.tracer.now.tables c.args.tracer.now.proof.checker c.args.ctx.now s fit) fit
 
-pub returns-then-is_err-clause-stands : goal.returns-then-is_err-clause-stands
-returns-then-is_err-clause-stands g c at = begun g (goal.at.returns-then-is_err-clause-stands g c).In-Ok at
+pub returns-then-is_err-clause-represents : goal.returns-then-is_err-clause-represents
+returns-then-is_err-clause-represents g c at = begun g (goal.at.returns-then-is_err-clause-represents g c).In-Ok at
 
-pub returns-clause-stands : goal.returns-clause-stands
-returns-clause-stands g c at =
+pub returns-clause-represents : goal.returns-clause-represents
+returns-clause-represents g c at =
     let p = c.args.tracer.now in
     let q = c.simplify_root.new.proof in
     let r = c.detach_listed.new.tracer in
@@ -136,13 +136,13 @@ returns-clause-stands g c at =
     let z = c.detach_unneeded.new.ctx in
     comes-through at p.proof q.proof last.proof (undecided_spaces p.tables p.proof.checker x) (undecided_spaces q.tables q.proof.checker y)
     (undecided_spaces last.tables last.proof.checker z) (unknown-undecided q.tables q.proof.checker y)
-    (begun g (goal.at.returns-clause-stands g c).In-Ok at)
+    (begun g (goal.at.returns-clause-represents g c).In-Ok at)
     (comes-through at q.proof r.proof last.proof (undecided_spaces q.tables q.proof.checker y)
     (undecided_spaces r.tables r.proof.checker u) (undecided_spaces last.tables last.proof.checker z) (unknown-undecided r.tables r.proof.checker u)
     (leaving-comes at q.proof r.proof (undecided_spaces q.tables q.proof.checker y) (undecided_spaces r.tables r.proof.checker u)
-    (unknown-undecided q.tables q.proof.checker y) (c.in_ok-detach_listed.ensures {u = tt}).leave.stands)
+    (unknown-undecided q.tables q.proof.checker y) (c.in_ok-detach_listed.ensures {u = tt}).leave.represents)
     (leaving-comes at r.proof last.proof (undecided_spaces r.tables r.proof.checker u) (undecided_spaces last.tables last.proof.checker z)
-    (unknown-undecided r.tables r.proof.checker u) (c.in_ok-detach_unneeded.ensures {u = tt}).leave.stands))
+    (unknown-undecided r.tables r.proof.checker u) (c.in_ok-detach_unneeded.ensures {u = tt}).leave.represents))
 
 pub returns-then-not-has_root_news-clause-calm : goal.returns-then-not-has_root_news-clause-calm
 returns-then-not-has_root_news-clause-calm g c =

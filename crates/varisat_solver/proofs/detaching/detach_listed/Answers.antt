@@ -108,7 +108,7 @@ returns-clause-leave g c =
       count = values-left gone;
       given = dropped-logged (unassumed_among c.args.tracer.now.tables x.trail.literals) (tracer_state c.args.tracer.now)
           (tracer_state c.detach_fixed_vars.new.tracer) (dropped g here.In_ok-detach_fixed_vars);
-      stands = λ s fit.
+      represents = λ s fit.
           stands-dropped gone c.requires.settled (dropped g here.In_ok-detach_fixed_vars)
           (subst (λ fs. search_of (view y) ≡ search_without fs (search_of (view x))) c.deref-2.ensures.value e.seen) s fit;
     }

@@ -107,7 +107,7 @@ returns-clause-leave g c =
           (ap (λ (z : Context g.row.A.Denot). z.solver_config) e.frame);
       count = values-left gone;
       given = released-logged c.list_unneeded.new.unneeded.items p q released;
-      stands = λ s fit.
+      represents = λ s fit.
           stands-released c.requires.left c.in_ok-mentioned.ensures list gone
           released
           (subst (λ fs. search_of (view y) ≡ search_without fs (search_of (view x))) c.deref-3.ensures.value e.seen) s fit;

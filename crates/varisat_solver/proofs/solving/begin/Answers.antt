@@ -21,7 +21,7 @@ use Rattle.varisat_solver.proofs.solving.begin.Goals as goal
 
 pub begin_step-requires-clause-holds : goal.begin_step-requires-clause-holds
 begin_step-requires-clause-holds g c = relied c.args.tracer.now.tables c.args.tracer.now.proof
-    (view c.args.ctx.now) c.args.ctx.now.assumptions c.requires.can.logs c.requires.can.stands
+    (view c.args.ctx.now) c.args.ctx.now.assumptions c.requires.can.logs c.requires.can.represents
 
 -- how the step began
 begun : (g : Over) (c : In_ok-begin_step g) →
@@ -48,8 +48,8 @@ detach_fixed-requires g c =
     record {
       valid = kept g here;
       logs = begin-logs p q c.args.ctx.now c.begin_step.new.ctx (begun g here) c.requires.can.logs;
-      stands = some-on _ 0 _ _ p.proof q.proof
-          (begin-comes p q c.args.ctx.now c.begin_step.new.ctx c.requires.can.valid (steps-still g here) (begun g here)) c.requires.can.stands;
+      represents = some-on _ 0 _ _ p.proof q.proof
+          (begin-comes p q c.args.ctx.now c.begin_step.new.ctx c.requires.can.valid (steps-still g here) (begun g here)) c.requires.can.represents;
       unknown = ap (λ (x : Context g.row.A.Denot). x.solver_state.sat_state) c.begin_step.ensures.frame ∙ c.requires.can.unknown;
     }
 
@@ -76,11 +76,11 @@ returns-clause-begins g c =
       left = record { reduced = y; begins = begins-any x y b; left = e.left };
       leaves = λ h. e.leaves (leaves-begun p.tables q.tables x y c.requires.can.valid.ready b (begin-tables (tracer_state p) (tracer_state q) x y b) h);
       calm = e.calm;
-      stands = comes-through (turn_of x) p.proof q.proof r.proof (undecided_spaces p.tables p.proof.checker x)
+      represents = comes-through (turn_of x) p.proof q.proof r.proof (undecided_spaces p.tables p.proof.checker x)
           (undecided_spaces q.tables q.proof.checker y) (undecided_spaces r.tables r.proof.checker z)
           (unknown-undecided q.tables q.proof.checker y)
           (begin-comes (tracer_state p) (tracer_state q) x y c.requires.can.valid
-          (steps-still g (goal.at.returns-clause-begins g c).In_ok-begin_step) b) (e.stands (turn_of x));
+          (steps-still g (goal.at.returns-clause-begins g c).In_ok-begin_step) b) (e.represents (turn_of x));
     }
 
 pub returns-clause-schedule : goal.returns-clause-schedule

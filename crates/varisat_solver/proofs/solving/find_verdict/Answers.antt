@@ -51,8 +51,8 @@ stepped g c =
     let same : turn_of y ≡ later n (turn_of x) = later-turn x y n c.steps.invariant.config (so-far (stepping g c).searching) in
     comes-one-more (turn_of x) n (steps_since x.schedule z.schedule) p.proof q.proof r.proof
     (undecided_spaces p.tables p.proof.checker x) before after
-    (one-more (stepping g c)) (unknown-undecided q.tables q.proof.checker y) c.steps.invariant.stands
-    (subst (λ (at : Turn). ComesOn at 1 before after q.proof r.proof) same (made g c).stands)
+    (one-more (stepping g c)) (unknown-undecided q.tables q.proof.checker y) c.steps.invariant.represents
+    (subst (λ (at : Turn). ComesOn at 1 before after q.proof r.proof) same (made g c).represents)
 
 -- the solver's state but for the verdict
 same-state : (g : Over) (c : In_ok-make_step g) → c.make_step.new.ctx.solver_state ≡ record c.args.ctx.now.solver_state
@@ -69,7 +69,7 @@ found g c answer e = record {
   answer = e;
   logged = some-through c.args.tracer.now.proof c.steps.tracer.proof c.make_step.new.tracer.proof c.steps.invariant.logged (made g c).logged;
   leaves = λ h n. (made g c).leaves (c.steps.invariant.leaves h) n;
-  stands = stepped g c;
+  represents = stepped g c;
   still = λ s. absurd (stepping-moved (stepping g c) s);
 }
 
@@ -79,7 +79,7 @@ make_step-requires-clause-can g c =
     record {
       valid = i.kept;
       logs = i.logs;
-      stands = some-on _ _ _ _ c.args.tracer.now.proof c.steps.tracer.proof i.stands c.requires.stands;
+      represents = some-on _ _ _ _ c.args.tracer.now.proof c.steps.tracer.proof i.represents c.requires.represents;
       unknown = ap (λ (s : SolverState). s.sat_state) i.state ∙ c.requires.unknown;
     }
 
@@ -99,7 +99,7 @@ steps-init g c =
       config = refl;
       made = none-made x c.args.max_steps c.steps-first.ensures.plan;
       leaves = λ h. h;
-      stands = λ s fit. comes-nowhere (turn_of x) (steps_since x.schedule x.schedule) s p.proof (undecided_spaces p.tables p.proof.checker x) (omega arith)
+      represents = λ s fit. comes-nowhere (turn_of x) (steps_since x.schedule x.schedule) s p.proof (undecided_spaces p.tables p.proof.checker x) (omega arith)
           (unknown-undecided p.tables p.proof.checker x s fit) fit;
       still = λ e. (refl, refl);
     }
@@ -134,7 +134,7 @@ steps-preserved g c =
       config = c.make_step.ensures.config ∙ i.config;
       made = stepping-goes-on d (m.since c.in-Unknown.is);
       leaves = λ h. m.leaves (i.leaves h) (λ e. let z : verdict.Unknown ≡ verdict.Unsat = sym c.in-Unknown.is ∙ e in cc);
-      stands = comes-undecided _ _ (undecided_spaces p.tables p.proof.checker c.args.ctx.now) r.tables z p.proof r.proof c.in-Unknown.is (stepped g h);
+      represents = comes-undecided _ _ (undecided_spaces p.tables p.proof.checker c.args.ctx.now) r.tables z p.proof r.proof c.in-Unknown.is (stepped g h);
       still = λ e. absurd (stepping-moved d e);
     }
 
@@ -149,8 +149,8 @@ returns-then-steps-first-clause-found g c =
       answer = sym (ap answer_at unknown);
       logged = i.logged;
       leaves = λ h n. i.leaves h;
-      stands = comes-decided _ _ (undecided_spaces c.args.tracer.now.tables c.args.tracer.now.proof.checker c.args.ctx.now)
-          c.steps.tracer.tables c.steps.ctx c.args.tracer.now.proof c.steps.tracer.proof unknown i.stands;
+      represents = comes-decided _ _ (undecided_spaces c.args.tracer.now.tables c.args.tracer.now.proof.checker c.args.ctx.now)
+          c.steps.tracer.tables c.steps.ctx c.args.tracer.now.proof c.steps.tracer.proof unknown i.represents;
       still = i.still;
     }
 

@@ -18,7 +18,7 @@ invariant-steps g l = record {
   config : l.ctx.solver_config ≡ l.fn.ctx.solver_config;
   made : HasMade l.fn.ctx l.ctx l.max_steps;
   leaves : DetachesInTime l.fn.tracer.tables (view l.fn.ctx) → DetachesInTime l.tracer.tables (view l.ctx);
-  stands : ComesOn (turn_of l.fn.ctx) (steps_since l.fn.ctx.schedule l.ctx.schedule) (undecided_spaces l.fn.tracer.tables l.fn.tracer.proof.checker l.fn.ctx)
+  represents : ComesOn (turn_of l.fn.ctx) (steps_since l.fn.ctx.schedule l.ctx.schedule) (undecided_spaces l.fn.tracer.tables l.fn.tracer.proof.checker l.fn.ctx)
       (undecided_spaces l.tracer.tables l.tracer.proof.checker l.ctx) l.fn.tracer.proof l.tracer.proof;
   still : l.ctx.schedule.steps ≡ l.fn.ctx.schedule.steps → (l.ctx ≡ l.fn.ctx) × (tracer_state l.tracer ≡ tracer_state l.fn.tracer);
 }

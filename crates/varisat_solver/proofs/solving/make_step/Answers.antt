@@ -32,7 +32,7 @@ named_conflict_step-requires g c =
     record {
       valid = b.kept;
       logs = b.logs;
-      stands = some-on _ 0 _ _ c.args.tracer.now.proof c.begin.new.tracer.proof b.stands c.requires.can.stands;
+      represents = some-on _ 0 _ _ c.args.tracer.now.proof c.begin.new.tracer.proof b.represents c.requires.can.represents;
       unknown = ap (λ (s : SolverState). s.sat_state) b.state ∙ c.requires.can.unknown;
     }
 
@@ -65,10 +65,10 @@ returns-clause-made g c =
       state = m.state ∙ ap (λ (s : SolverState). record s { sat_state = z.solver_state.sat_state }) b.state;
       count = m.count ∙ b.count;
       leaves = λ h n. leaves-stepped q.tables r.tables y z m.tables m.fixes (b.leaves h) n;
-      stands = comes-one-more (turn_of x) 0 1 p.proof q.proof r.proof (undecided_spaces p.tables p.proof.checker x)
+      represents = comes-one-more (turn_of x) 0 1 p.proof q.proof r.proof (undecided_spaces p.tables p.proof.checker x)
           (undecided_spaces q.tables q.proof.checker y) (spaces_with r.tables r.proof.checker (record z { schedule = plan })) refl
           (unknown-undecided q.tables q.proof.checker y)
-          b.stands (named-comes (tracer_state q) (tracer_state r) y z b.kept m b.calm (later 0 (turn_of x)));
+          b.represents (named-comes (tracer_state q) (tracer_state r) y z b.kept m b.calm (later 0 (turn_of x)));
     }
 
 pub returns-clause-schedule : goal.returns-clause-schedule

@@ -16,7 +16,7 @@ use Rattle.varisat_solver.proofs.solving.named_conflict_step.Goals as goal
 
 pub conflict_step-requires-clause-holds : goal.conflict_step-requires-clause-holds
 conflict_step-requires-clause-holds g c = relied c.args.tracer.now.tables c.args.tracer.now.proof
-    (view c.args.ctx.now) c.args.ctx.now.assumptions c.requires.logs c.requires.stands
+    (view c.args.ctx.now) c.args.ctx.now.assumptions c.requires.logs c.requires.represents
 
 pub name_core-requires : goal.name_core-requires
 name_core-requires g c l h =

@@ -27,14 +27,14 @@ use Rattle.varisat_solver.proofs.solver.Solver.add_clause.Goals as goal
 pub accept_user_clause-accepted-requires-clause-names : goal.accept_user_clause-accepted-requires-clause-names
 accept_user_clause-accepted-requires-clause-names g c = c.in_ok-check_names.ensures.0
 
-pub accept_user_clause-accepted-requires-clause-stands : goal.accept_user_clause-accepted-requires-clause-stands
-accept_user_clause-accepted-requires-clause-stands g c = let (s, fits, fresh) = (c.self.invariant c.in_ok-ensure_valid.ensures).stands in (s, fits)
+pub accept_user_clause-accepted-requires-clause-represents : goal.accept_user_clause-accepted-requires-clause-represents
+accept_user_clause-accepted-requires-clause-represents g c = let (s, fits, fresh) = (c.self.invariant c.in_ok-ensure_valid.ensures).represents in (s, fits)
 
 pub invariant_of-self-2 : goal.invariant_of-self-2
 invariant_of-self-2 g c _ =
     let (is, counted) = c.in_ok-end_change.ensures in
     let kept = rw is at c.accept_user_clause-accepted.ensures.valid in
-    let (s, fits, fresh) = (c.self.invariant c.in_ok-ensure_valid.ensures).stands in
+    let (s, fits, fresh) = (c.self.invariant c.in_ok-ensure_valid.ensures).represents in
     let (x, logged, variables, v, more, keep, proof, now) = (rw is at c.accept_user_clause-accepted.ensures.accepted) s fits in
     kept-changed c.accept_user_clause-accepted.new.tracer.tables c.accept_user_clause-accepted.new.tracer.proof c.accept_user_clause-accepted.new.ctx
     c.end_change.new.ctx true c.end_change.new.changed_at counted kept (rw is at c.accept_user_clause-accepted.ensures.logs) (_, now, λ e. absurd cc)

@@ -30,7 +30,7 @@ pub invariant_of-self-2 : goal.invariant_of-self-2
 invariant_of-self-2 g c _ =
     let (is, counted) = c.in_ok-end_change.ensures in
     let new = c.assume_list-assumed.new in
-    let (s, fits, fresh) = (c.self.invariant c.in_ok-ensure_valid.ensures).stands in
+    let (s, fits, fresh) = (c.self.invariant c.in_ok-ensure_valid.ensures).represents in
     let (variables, keep, proof, now) = (rw is at c.assume_list-assumed.ensures.assumed) s fits in
     kept-changed new.tracer.tables new.tracer.proof new.ctx c.end_change.new.ctx true c.end_change.new.changed_at counted
     (rw is at c.assume_list-assumed.ensures.valid) (rw is at c.assume_list-assumed.ensures.logs) (_, now, λ e. absurd cc)

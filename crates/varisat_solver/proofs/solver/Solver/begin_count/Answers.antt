@@ -10,7 +10,7 @@ invariant_of-self g c v =
     record {
       kept = k;
       logs = (c.self.invariant v).logs;
-      stands = (c.self.invariant v).stands;
+      represents = (c.self.invariant v).represents;
       counts =
           since-now c.steps-self-inside.result c.self.inside.ctx c.steps-self-inside.ensures.steps k.ready c.steps-self-inside.ensures.plan;
     }

@@ -18,5 +18,5 @@ invariant_of-self g c v =
           record { units = since.units; come = since.come; scale = since.scale; variables = since.variables; room = since.room },
         );
       };
-      stands = k.stands;
+      represents = k.represents;
     }

@@ -25,8 +25,8 @@ invariant_of-self-in-Ok g c v =
     record {
       kept = k.kept;
       logs = subst CanLog (sym c.close_proof.ensures.closed) (record { room = tt; usable = k.logs.usable });
-      stands = subst (λ (p : ProofParts). RepresentsSome (spaces_with c.self.inside.tracer.tables p.checker c.self.inside.ctx)
-          c.self.inside.started) (sym c.close_proof.ensures.closed) k.stands;
+      represents = subst (λ (p : ProofParts). RepresentsSome (spaces_with c.self.inside.tracer.tables p.checker c.self.inside.ctx)
+          c.self.inside.started) (sym c.close_proof.ensures.closed) k.represents;
       counts = k.counts;
     }
 

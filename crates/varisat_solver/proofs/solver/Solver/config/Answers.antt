@@ -39,9 +39,9 @@ invariant_of-self-2 g c v =
     let ready = c.config_changed.ensures.ready k.ready in
     record {
       kept = kept-updated c.self.inside.tracer.tables x y c.args.update.now _ _ e.1 ready c.config_changed.ensures.decidable k;
-      stands = subst (λ (z : Context g.row.A.Denot). RepresentsSome
+      represents = subst (λ (z : Context g.row.A.Denot). RepresentsSome
           (spaces_with c.self.inside.tracer.tables c.self.inside.tracer.proof.checker z) c.self.inside.started) (sym e.1)
-          (c.self.invariant c.in_ok-ensure_valid.ensures).stands;
+          (c.self.invariant c.in_ok-ensure_valid.ensures).represents;
       logs = (c.self.invariant c.in_ok-ensure_valid.ensures).logs;
       counts = since-now c.steps-self-inside.result y c.steps-self-inside.ensures.steps ready c.steps-self-inside.ensures.plan;
     }

@@ -18,7 +18,7 @@ invariant_of-self g c v =
     record {
       kept = k.kept;
       logs = logs-checking p q e k.logs;
-      stands = some-checking c.self.inside.tracer.tables p q c.self.inside.ctx c.self.inside.started e c.if-is_late.false k.stands;
+      represents = some-checking c.self.inside.tracer.tables p q c.self.inside.ctx c.self.inside.started e c.if-is_late.false k.represents;
       counts = k.counts;
     }
 

@@ -56,7 +56,7 @@ invariant_of-result g c _ =
     record {
       kept = first-kept c.new_in-2.result.tables c.new_in.result c.new_in-2.ensures.variables e.ready e.empty e.assumptions e.none_decidable;
       logs = subst CanLog (sym c.new_in-2.ensures.proof) (record { room = tt; usable = tt });
-      stands = begun c.new_in-2.result.tables c.new_in-2.result.proof c.new_in.result c.new_in-2.ensures.variables c.new_in-2.ensures.proof
+      represents = begun c.new_in-2.result.tables c.new_in-2.result.proof c.new_in.result c.new_in-2.ensures.variables c.new_in-2.ensures.proof
           c.new_in.ensures.assumptions (ap (λ (x : SolverState). x.sat_state) c.new_in.ensures.state) c.new_in.ensures.seen c.new_in.ensures.empty;
       counts = since-now 0 c.new_in.result (ap (λ (x : Plan). x.steps) (sym e.schedule)) e.ready (subst IsPlan (sym e.schedule) first-plan-is);
     }

@@ -65,7 +65,7 @@ invariant_of-self-2 g c v =
           marked-keeps old new (variable_of l) y z c.prove_linked.ensures keeps e (k.marked l z h e) f;
       working = λ l h. assumed-keeps old new (variable_of l) c.prove_linked.ensures keeps (k.working l h);
     }) i.logs (
-    let (s, f, fresh) = i.stands in
+    let (s, f, fresh) = i.represents in
     let (variables, keep, fits) = new-named
     (summary_of (tracer_state c.self.inside.tracer) c.self.inside.started c.self.inside.changed_at c.self.inside.ctx) s new u x f
     least.least (unmapped-near old.users.forward u least.least) t in

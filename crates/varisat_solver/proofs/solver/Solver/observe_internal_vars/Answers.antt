@@ -24,7 +24,7 @@ invariant_of-self-2 g c v =
     let shown = rw is at c.observe_internal_vars-shown.ensures.shown in
     kept-changed new inside.tracer.proof inside.ctx c.end_change.new.ctx inside.started c.end_change.new.changed_at counted
     (kept-after inside.ctx old new i.kept (turns-stay us old new c.prove_linked.ensures i.kept.bounded shown.in_turn).0) i.logs (
-    let (s, f, fresh) = i.stands in
+    let (s, f, fresh) = i.represents in
     let (m, all, fits) = show-state us (summary_of (tracer_state inside.tracer) inside.started inside.changed_at inside.ctx) s new f
     c.prove_linked.ensures i.kept.bounded shown in (_, fits, fresh)
     )

@@ -53,7 +53,7 @@ module _ {A : Type 0} {p q : TracerState} {started : Bool} {changed_at : ℕ} {x
   n = y.schedule.steps
 
   comes : ComesTo (turn_of x) (steps_since x.schedule y.schedule) s p.proof q.proof (spaces_with q.tables q.proof.checker y)
-  comes = d.finds.stands s (subst (λ b. SpacesFit (spaces_of p.tables p.proof.checker (view x) x.assumptions b) s) d.unknown (d.stood.fits d.valid))
+  comes = d.finds.represents s (subst (λ b. SpacesFit (spaces_of p.tables p.proof.checker (view x) x.assumptions b) s) d.unknown (d.stood.fits d.valid))
 
   made : steps_since x.schedule y.schedule ≡ y.schedule.steps - s.ledger.steps
   made = ap (λ (l : Ledger). y.schedule.steps - l.steps) (sym d.stood.ledger)
@@ -192,15 +192,15 @@ pub find_verdict-requires : goal.find_verdict-requires
 find_verdict-requires g c =
     let i = c.self.invariant c.in_ok-ensure_valid.ensures in
     let (s, fits, fresh) = begins c.self.inside.tracer.tables c.self.inside.tracer.proof.checker c.self.inside.started c.self.inside.ctx
-    c.in-Unknown.is i.stands in
-    record { valid = i.kept; logs = i.logs; stands = (s, fits); unknown = c.in-Unknown.is }
+    c.in-Unknown.is i.represents in
+    record { valid = i.kept; logs = i.logs; represents = (s, fits); unknown = c.in-Unknown.is }
 
 pub invariant_of-self : goal.invariant_of-self
 invariant_of-self g c _ =
     let f = c.in-Ok-Some.ensures.found in
     record {
-      stands = on f.stands (begins c.self.inside.tracer.tables c.self.inside.tracer.proof.checker c.self.inside.started c.self.inside.ctx
-          c.in-Unknown.is (c.self.invariant c.in_ok-ensure_valid.ensures).stands);
+      represents = on f.represents (begins c.self.inside.tracer.tables c.self.inside.tracer.proof.checker c.self.inside.started c.self.inside.ctx
+          c.in-Unknown.is (c.self.invariant c.in_ok-ensure_valid.ensures).represents);
       kept = f.kept;
       logs = f.logs;
       counts =
@@ -211,8 +211,8 @@ pub invariant_of-self-in-Ok-None : goal.invariant_of-self-in-Ok-None
 invariant_of-self-in-Ok-None g c _ =
     let f = c.in-Ok-None.ensures.found in
     record {
-      stands = on f.stands (begins c.self.inside.tracer.tables c.self.inside.tracer.proof.checker c.self.inside.started c.self.inside.ctx
-          c.in-Unknown.is (c.self.invariant c.in_ok-ensure_valid.ensures).stands);
+      represents = on f.represents (begins c.self.inside.tracer.tables c.self.inside.tracer.proof.checker c.self.inside.started c.self.inside.ctx
+          c.in-Unknown.is (c.self.invariant c.in_ok-ensure_valid.ensures).represents);
       kept = f.kept;
       logs = f.logs;
       counts =

@@ -26,8 +26,8 @@ invariant_of-self g c v =
     record {
       kept = kept-updated c.self.inside.tracer.tables x y (record no_update { max_steps = Some n }) b a e
           (c.config_changed.ensures.ready k.kept.ready) c.config_changed.ensures.decidable k.kept;
-      stands = subst (λ (z : Context g.row.A.Denot). RepresentsSome
-          (spaces_with c.self.inside.tracer.tables c.self.inside.tracer.proof.checker z) c.self.inside.started) (sym e) k.stands;
+      represents = subst (λ (z : Context g.row.A.Denot). RepresentsSome
+          (spaces_with c.self.inside.tracer.tables c.self.inside.tracer.proof.checker z) c.self.inside.started) (sym e) k.represents;
       logs = k.logs;
       counts = counts-limited c.self.inside.changed_at n x y b a e c.config_changed.ensures.decidable k.counts;
     }

@@ -29,7 +29,7 @@ invariant_of-self-2 g c v =
     kept-changed new.tables new.proof old.ctx c.end_change.new.ctx old.started c.end_change.new.changed_at counted
     (kept-after old.ctx old.tracer.tables new.tables i.kept (changed-stays c.args.var c.args.mode sat (tracer_state old.tracer) new changes))
     (changed-logs c.args.var c.args.mode sat (tracer_state old.tracer) new changes i.logs) (
-    let (s, f, fresh) = i.stands in
+    let (s, f, fresh) = i.represents in
     let m = mode-changed (summary_of (tracer_state old.tracer) old.started old.changed_at old.ctx) s c.args.var old.tracer.proof new refl f
     c.args.mode changes in
     (_, m.fits, fresh)

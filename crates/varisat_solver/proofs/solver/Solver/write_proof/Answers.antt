@@ -19,8 +19,8 @@ invariant_of-self g c v =
     record {
       kept = k.kept;
       logs = subst CanLog (sym c.write_proof.ensures) (record { room = c.requires; usable = k.logs.usable });
-      stands = subst (λ (p : ProofParts). RepresentsSome (spaces_with c.self.inside.tracer.tables p.checker c.self.inside.ctx)
-          c.self.inside.started) (sym c.write_proof.ensures) k.stands;
+      represents = subst (λ (p : ProofParts). RepresentsSome (spaces_with c.self.inside.tracer.tables p.checker c.self.inside.ctx)
+          c.self.inside.started) (sym c.write_proof.ensures) k.represents;
       counts = k.counts;
     }
 

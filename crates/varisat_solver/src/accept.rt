@@ -5,14 +5,12 @@ ghost use Rattle.varisat_theory.specs.promises.Membership.{◌∈◌};
 ghost use Rattle.varisat_theory.specs.promises.Literals.{Literal, variable_of};
 ghost use Rattle.varisat_names.specs.promises.VarData.{data_at};
 ghost use Rattle.varisat_names.specs.promises.VarMap.{at};
-ghost use Rattle.varisat_search.specs.Contexts.{IsNotUnsat, KeepsSchedule};
-ghost use Rattle.varisat_solver.specs.inside.Accepted.{KeepsValidity, IsWithinIdentities, RepresentsOnceAccepted, RepresentsOnceAssumed};
+ghost use Rattle.varisat_search.specs.Contexts.{KeepsSchedule};
+ghost use Rattle.varisat_solver.specs.inside.Accepted.{CanAccept, AcceptsUserClause, FailsClause, AssumesUserList};
 ghost use Rattle.varisat_theory.specs.promises.Journals.{Accepts, Assumes};
 ghost use Rattle.varisat_tracer.specs.inside.Tracing.{tracer_state, TakesGlobally, BreaksProof, CanLog};
-ghost use Rattle.varisat_search.specs.StepErrors.{step_faults, HasNoRoom};
-ghost use Rattle.varisat_solver.specs.inside.Spaces.{FitSome};
-ghost use Rattle.varisat_solver.specs.promises.Summaries.{spaces_with, IsValidSolver};
-ghost use Rattle.varisat_solver.specs.inside.Searches.{LogsSome};
+ghost use Rattle.varisat_search.specs.StepErrors.{step_faults};
+ghost use Rattle.varisat_solver.specs.promises.Summaries.{IsValidSolver};
 ghost use Rattle.varisat_solver.specs.inside.Accepting.{CanBeNamed, HasNames, AreJoined, AreMarked};
 
 use std::alloc::Allocator;
@@ -102,24 +100,13 @@ pub fn accept_user_clause<W: ProofTarget, A: Allocator + Copy>(
     literals: &mut Vec<Lit, A>,
     clause: &[Lit],
 ) -> Result<(), StepError>
-    requires valid { IsValidSolver tracer.old.tables ctx.old }
-    requires logs { CanLog tracer.old.proof }
-    requires represents { FitSome (spaces_with tracer.old.tables tracer.old.proof.checker ctx.old) }
-    requires undecided_before { IsNotUnsat ctx.old }
+    requires can { CanAccept (tracer_state tracer.old) ctx.old }
     requires names { CanBeNamed clause.now tracer.old.tables }
-    ensures valid { OnOk result (IsValidSolver tracer.new.tables ctx.new) }
-    ensures logs { OnOk result (CanLog tracer.new.proof) }
-    ensures state { OnOk result (ctx.new.solver_state ≡
-        record ctx.old.solver_state { sat_state = ctx.new.solver_state.sat_state; formula_is_empty = false }) }
-    ensures schedule { KeepsSchedule ctx.old ctx.new }
-    ensures logged { OnOk result (LogsSome tracer.old.proof tracer.new.proof) }
     ensures accepted { OnOk result
-        (RepresentsOnceAccepted clause.now (tracer_state tracer.old) ctx.old (tracer_state tracer.new) ctx.new) }
-    // What the target of an open proof has after an error.
-    ensures broken { IfErr result (λ error. BreaksProof tracer.old.proof (step_faults error) tracer.new.proof) }
-    ensures full { IfErr result (λ error. error ≡ StepError.Full → HasNoRoom ctx.new) }
-    ensures size { IfErr result
-        (λ error. error ≡ StepError.Full → IsWithinIdentities clause.now (tracer_state tracer.old) ctx.old ctx.new) }
+        (AcceptsUserClause clause.now (tracer_state tracer.old) ctx.old (tracer_state tracer.new) ctx.new) }
+    ensures schedule { KeepsSchedule ctx.old ctx.new }
+    ensures fails { IfErr result
+        (FailsClause clause.now (tracer_state tracer.old) ctx.old (tracer_state tracer.new) ctx.new) }
 {
     // A model that was found may not satisfy the clause.
     ctx.solver_state.reopen();
@@ -144,13 +131,9 @@ pub fn assume_list<W: ProofTarget, A: Allocator + Copy>(
     requires valid { IsValidSolver tracer.old.tables ctx.old }
     requires logs { CanLog tracer.old.proof }
     requires names { CanBeNamed list.now tracer.old.tables }
-    ensures valid { OnOk result (IsValidSolver tracer.new.tables ctx.new) }
-    ensures logs { OnOk result (CanLog tracer.new.proof) }
-    ensures state { OnOk result (KeepsValidity ctx.old.solver_state ctx.new.solver_state) }
-    ensures schedule { KeepsSchedule ctx.old ctx.new }
-    ensures logged { OnOk result (LogsSome tracer.old.proof tracer.new.proof) }
     ensures assumed { OnOk result
-        (RepresentsOnceAssumed list.now (tracer_state tracer.old) ctx.old (tracer_state tracer.new) ctx.new) }
+        (AssumesUserList list.now (tracer_state tracer.old) ctx.old (tracer_state tracer.new) ctx.new) }
+    ensures schedule { KeepsSchedule ctx.old ctx.new }
     // What the target of an open proof has after an error. The clause store is not asked for room.
     ensures broken { IfErr result (λ error. BreaksProof tracer.old.proof (step_faults error) tracer.new.proof) }
     ensures unstored { IfErr result (λ error. error ≢ StepError.Full) }

@@ -8,13 +8,12 @@ ghost use Rattle.varisat_literals.specs.promises.Numbers.{variable_limit};
 ghost use Rattle.varisat_names.specs.promises.VarMap.{at};
 ghost use Rattle.varisat_search.specs.Contexts.{view, KeepsSchedule};
 ghost use Rattle.varisat_search.specs.RootSimplified.{IsRootSimplified};
-ghost use Rattle.varisat_solver.specs.inside.SinceChange.{GoesOnWithin};
 ghost use Rattle.varisat_solver.specs.inside.Accepting.{AreBounded};
-ghost use Rattle.varisat_solver.specs.inside.Searches.{CanSearch, LogsSome, Turn, ComesOnUndecided};
-ghost use Rattle.varisat_tracer.specs.inside.Tracing.{tracer_state, open_parts, BreaksProof, CanLog};
+ghost use Rattle.varisat_solver.specs.inside.Searches.{CanSearch, DetachesFixed};
+ghost use Rattle.varisat_tracer.specs.inside.Tracing.{tracer_state, open_parts, BreaksProof};
 ghost use Rattle.varisat_search.specs.StepErrors.{step_faults};
 ghost use Rattle.varisat_solver.specs.promises.Summaries.{IsValidSolver};
-ghost use Rattle.varisat_solver.specs.promises.Detaching.{leads_to_unassumed, unassumed_among, AreOverAssumed, DetachesInTime, IsCalm, HasDetached, FlagsVariables, LosesSolverVar, AreDetachedAlone, leads_to_hidden, ListsUnneeded, AreDetached, HasOnlyNeeded, DetachesWhereNews, DetachesFromTables, Detaches};
+ghost use Rattle.varisat_solver.specs.promises.Detaching.{leads_to_unassumed, unassumed_among, AreOverAssumed, FlagsVariables, LosesSolverVar, AreDetachedAlone, leads_to_hidden, ListsUnneeded, AreDetached, HasOnlyNeeded, DetachesFromTables, Detaches};
 
 use std::alloc::{AllocError, Allocator};
 use varisat_formula::io::ProofTarget;
@@ -243,21 +242,10 @@ pub fn detach_fixed<W: ProofTarget, A: Allocator + Copy>(
     literals: &mut Vec<Lit, A>,
 ) -> Result<(), StepError>
     requires { CanSearch (tracer_state tracer.old) ctx.old }
-    ensures valid { OnOk result (IsValidSolver tracer.new.tables ctx.new) }
-    ensures logs { OnOk result (CanLog tracer.new.proof) }
+    ensures detached { OnOk result
+        (DetachesFixed (tracer_state tracer.old) (tracer_state tracer.new) ctx.old ctx.new) }
     ensures schedule { KeepsSchedule ctx.old ctx.new }
-    ensures within { OnOk result (GoesOnWithin ctx.old ctx.new) }
-    ensures logged { OnOk result (LogsSome tracer.old.proof tracer.new.proof) }
     ensures state { ctx.new.solver_state ≡ ctx.old.solver_state }
-    ensures count { OnOk result (length ctx.new.assignment.current ≡ length ctx.old.assignment.current) }
-    ensures left { OnOk result (DetachesWhereNews ctx.old tracer.new.tables (view ctx.new)) }
-    // Where none was to leave but with such news, none is now, unless a clause is false.
-    ensures leaves { OnOk result
-        (DetachesInTime tracer.old.tables (view ctx.old) → HasDetached tracer.new.tables (view ctx.new)) }
-    ensures calm { OnOk result (IsCalm (view ctx.new)) }
-    // Parts of all clauses that were held are held still, but for variables that left.
-    ensures represents { OnOk result
-        ((at : Turn) → ComesOnUndecided at 0 (tracer_state tracer.old) ctx.old (tracer_state tracer.new) ctx.new) }
     // What the target of an open proof has after an error, which is never that the store is full.
     ensures broken { IfErr result (λ error. BreaksProof tracer.old.proof (step_faults error) tracer.new.proof) }
     ensures full { IfErr result (λ error. error ≢ StepError.Full) }

@@ -1,14 +1,14 @@
 //! The steps of a solver, until the verdict is known or the steps are spent, and the core over names.
-ghost use Rattle.std.specs.Prelude.{◌≡◌, ◌≢◌, ◌≤◌, ◌<◌, ◌-◌, ◌^◌, ℕ, suc, length, OnOk, IfOk, OnErr, IfErr};
+ghost use Rattle.std.specs.Prelude.{◌≡◌, ◌≢◌, ◌<◌, ◌-◌, ◌^◌, ℕ, suc, OnOk, IfOk, OnErr, IfErr};
 ghost use Rattle.varisat_theory.specs.promises.Membership.{◌∈◌};
 ghost use Rattle.varisat_theory.specs.promises.Literals.{Literal, variable_of};
-ghost use Rattle.varisat_schedule.specs.Plans.{step_begun, next_plan};
+ghost use Rattle.varisat_schedule.specs.Plans.{step_begun};
 ghost use Rattle.varisat_search.specs.Contexts.{KeepsSchedule};
-ghost use Rattle.varisat_search.specs.StepErrors.{step_faults, HasNoRoom};
+ghost use Rattle.varisat_search.specs.StepErrors.{step_faults};
 ghost use Rattle.varisat_solver.specs.promises.Budgets.{returned_verdict};
 ghost use Rattle.varisat_solver.specs.inside.SinceChange.{CountsOnSince, CountsStepsFrom};
 ghost use Rattle.varisat_tracer.specs.inside.Tracing.{tracer_state, BreaksProof};
-ghost use Rattle.varisat_solver.specs.inside.Searches.{CanSearch, BeginsSolverStep, MakesNamedStep, MakesSolverStep, FindsVerdict};
+ghost use Rattle.varisat_solver.specs.inside.Searches.{CanSearch, FailsStep, BeginsSolverStep, MakesNamedStep, MakesSolverStep, FindsVerdict};
 ghost use Rattle.varisat_solver.specs.inside.Accepting.{HasUser};
 ghost use Rattle.varisat_solver.specs.inside.Carried.{named_literals};
 
@@ -81,10 +81,7 @@ fn named_conflict_step<W: ProofTarget, A: Allocator + Copy>(
     requires { CanSearch (tracer_state tracer.old) ctx.old }
     ensures made { OnOk result (MakesNamedStep (tracer_state tracer.old) (tracer_state tracer.new) ctx.old ctx.new) }
     ensures schedule { KeepsSchedule ctx.old ctx.new }
-    ensures broken { IfErr result (λ error. BreaksProof tracer.old.proof (step_faults error) tracer.new.proof) }
-    ensures full { IfErr result (λ error. error ≡ StepError.Full → HasNoRoom ctx.new) }
-    ensures size { IfErr result
-        (λ error. error ≡ StepError.Full → length ctx.new.assignment.current ≡ length ctx.old.assignment.current) }
+    ensures fails { IfErr result (FailsStep tracer.old.proof tracer.new.proof ctx.old ctx.new) }
 {
     conflict_step(ctx, tracer)?;
     let SatState::UnsatUnderAssumptions = ctx.solver_state.sat_state else {
@@ -105,15 +102,9 @@ fn make_step<W: ProofTarget, A: Allocator + Copy>(
     requires can { CanSearch (tracer_state tracer.old) ctx.old }
     requires counted { ctx.old.schedule.steps < 2 ^ 64 - 1 }
     ensures made { OnOk result (MakesSolverStep (tracer_state tracer.old) (tracer_state tracer.new) ctx.old ctx.new) }
-    ensures schedule { OnOk result
-        (ctx.new.schedule ≡ next_plan ctx.old.solver_config.luby_restart_interval_scale ctx.old.schedule) }
     ensures uncounted { OnErr result (ctx.new.schedule.steps ≡ ctx.old.schedule.steps) }
     ensures config { ctx.new.solver_config ≡ ctx.old.solver_config }
-    // What the target of an open proof has after an error.
-    ensures broken { IfErr result (λ error. BreaksProof tracer.old.proof (step_faults error) tracer.new.proof) }
-    ensures full { IfErr result (λ error. error ≡ StepError.Full → HasNoRoom ctx.new) }
-    ensures size { IfErr result
-        (λ error. error ≡ StepError.Full → length ctx.new.assignment.current ≡ length ctx.old.assignment.current) }
+    ensures fails { IfErr result (FailsStep tracer.old.proof tracer.new.proof ctx.old ctx.new) }
 {
     begin(tracer, ctx, literals)?;
     named_conflict_step(tracer, ctx, literals)?;
@@ -139,11 +130,7 @@ pub fn find_verdict<W: ProofTarget, A: Allocator + Copy>(
     ensures counted { CountsStepsFrom max_steps ctx.old ctx.new (returned_verdict result) }
     ensures since { OnOk result (CountsOnSince ctx.old ctx.new) }
     ensures config { ctx.new.solver_config ≡ ctx.old.solver_config }
-    // What the target of an open proof has after an error.
-    ensures broken { IfErr result (λ error. BreaksProof tracer.old.proof (step_faults error) tracer.new.proof) }
-    ensures full { IfErr result (λ error. error ≡ StepError.Full → HasNoRoom ctx.new) }
-    ensures size { IfErr result
-        (λ error. error ≡ StepError.Full → length ctx.new.assignment.current ≡ length ctx.old.assignment.current) }
+    ensures fails { IfErr result (FailsStep tracer.old.proof tracer.new.proof ctx.old ctx.new) }
 {
     ctx.solver_config.prove_in_range();
     let first = ctx.schedule.steps();

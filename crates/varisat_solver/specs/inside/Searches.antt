@@ -5,9 +5,12 @@ use Rattle.varisat_theory.specs.inside.Outcomes.{Steps}
 use Rattle.varisat_theory.specs.promises.Journals.{Entry}
 use Rattle.varisat_steps.specs.Traces.{TakesStep}
 use Rattle.varisat_proof.specs.promises.Proving.{ProofParts, IsLogged}
-use Rattle.varisat_tracer.specs.inside.Tracing.{TracerState, TakesGlobally, CanLog}
+use Rattle.varisat_tracer.specs.inside.Tracing.{TracerState, TakesGlobally, CanLog, BreaksProof}
 use Rattle.varisat_schedule.specs.CallSteps.{steps_since}
+use Rattle.varisat_schedule.specs.Plans.{next_plan}
 use Rattle.varisat_search.specs.declared.context.Context.{Context}
+use Rattle.varisat_search.specs.declared.error.StepError.{StepError}
+use Rattle.varisat_search.specs.declared.error.StepError.TheVariants as step
 use Rattle.varisat_search.specs.declared.state.SatState.{SatState}
 use Rattle.varisat_search.specs.declared.state.SatState.TheVariants as verdict
 use Rattle.varisat_search.specs.AssumptionParts.{AssumptionParts, KeepsAssumptions}
@@ -17,12 +20,13 @@ use Rattle.varisat_search.specs.DueReductions.{BeginsStep}
 use Rattle.varisat_search.specs.Progress.{RaisesRank}
 use Rattle.varisat_search.specs.Seen.{search_of, outcome_of}
 use Rattle.varisat_search.specs.RootSimplified.{FixesByLearning, LearnsAlone}
+use Rattle.varisat_search.specs.StepErrors.{step_faults, HasNoRoom}
 use Rattle.varisat_solver.specs.promises.Calls.{with_verdict}
 use Rattle.varisat_solver.specs.inside.Carried.{named_literals}
 use Rattle.varisat_solver.specs.promises.Detaching.{DetachesWhereNews, DetachesInTime, HasDetached, IsCalm}
 use Rattle.varisat_solver.specs.promises.Journals.{with_entries, LogsMore, BeginsInSteps, EndBy, LogsToProof}
 use Rattle.varisat_solver.specs.promises.StepEntries.{LogsInSteps, SpeakOfAdded, HasStayed}
-use Rattle.varisat_solver.specs.inside.SinceChange.{GoesOnSince, BeginsWithin}
+use Rattle.varisat_solver.specs.inside.SinceChange.{GoesOnSince, BeginsWithin, GoesOnWithin}
 use Rattle.varisat_solver.specs.inside.Spaces.{Spaces, SpacesFit, FitSome}
 use Rattle.varisat_solver.specs.promises.States.{State, Verdict, Unknown}
 use Rattle.varisat_solver.specs.promises.Summaries.{undecided_spaces, spaces_with, IsValidSolver}
@@ -44,6 +48,12 @@ pub record CanSearch {A : Type 0} (p : TracerState) (x : Context A) : Type 0 whe
 -- some entries were logged to an open proof
 abbrev pub LogsSome : ProofParts → ProofParts → Type 0
 LogsSome p q = (given : List Entry) × IsLogged p given q
+
+-- What a step leaves that failed with the error: the target of an open proof has a beginning of its lines behind what it
+-- had. That the store is full is said only where it has no room for a clause of all variables, which are as many as before.
+pub record FailsStep {A : Type 0} (p q : ProofParts) (x y : Context A) (error : StepError) : Type 0 where
+  pub broken : BreaksProof p (step_faults error) q
+  pub full : error ≡ step.Full → HasNoRoom y × (length y.assignment.current ≡ length x.assignment.current)
 
 -- When learned clauses may be deleted: before each step whose number is a multiple of the interval. And the number of the next step.
 pub record Turn : Type 0 where
@@ -77,6 +87,21 @@ abbrev pub ComesOnUndecided : {A : Type 0} → Turn → ℕ → TracerState → 
 ComesOnUndecided at n p x q y =
     ComesOn at n (undecided_spaces p.tables p.proof.checker x)
     (undecided_spaces q.tables q.proof.checker y) p.proof q.proof
+
+-- Where at level 0 literals were still to be propagated, the root level was simplified, and then variables left, unless a
+-- clause is false. The solver keeps what it did, and represents the same states, to which more was logged.
+pub record DetachesFixed {A : Type 0} (p q : TracerState) (x y : Context A) : Type 0 where
+  pub kept : IsValidSolver q.tables y
+  pub logs : CanLog q.proof
+  pub logged : LogsSome p.proof q.proof
+  pub within : GoesOnWithin x y
+  pub count : length y.assignment.current ≡ length x.assignment.current
+  pub left : DetachesWhereNews x q.tables (view y)
+  -- at level 0 all is propagated, or a clause is false
+  pub calm : IsCalm (view y)
+  -- where no variable was to leave but with such news, none is now, unless a clause is false
+  pub leaves : DetachesInTime p.tables (view x) → HasDetached q.tables (view y)
+  pub represents : (at : Turn) → ComesOnUndecided at 0 p x q y
 
 -- Where the step begins at level 0 with literals still to be propagated, variables leave that may: those that have a value then
 -- and are not assumed, and hidden ones that no kept clause names; unless a clause is false.
@@ -136,6 +161,7 @@ pub record MakesSolverStep {A : Type 0} (p q : TracerState) (x y : Context A) : 
   pub logs : CanLog q.proof
   pub logged : LogsSome p.proof q.proof
   pub since : y.solver_state.sat_state ≡ verdict.Unknown → GoesOnSince x y
+  pub schedule : y.schedule ≡ next_plan x.solver_config.luby_restart_interval_scale x.schedule
   pub state : y.solver_state ≡ record x.solver_state { sat_state = y.solver_state.sat_state }
   pub count : length y.assignment.current ≡ length x.assignment.current
   pub leaves : DetachesInTime p.tables (view x) → IsNotUnsat y → DetachesInTime q.tables (view y)

@@ -1,5 +1,7 @@
 use Rattle.varisat_search.specs.declared.error.StepError.TheVariants as step
-use Rattle.varisat_search.specs.StepErrors.{step_faults, HasNoRoom}
+use Rattle.varisat_search.specs.declared.error.StepError.{StepError}
+use Rattle.varisat_search.specs.declared.context.Context.{Context}
+use Rattle.varisat_search.specs.StepErrors.{step_faults}
 use Rattle.varisat_steps.proofs.Broken.{passed-on}
 -- What each part did to the maps and to the search.
 use Rattle.std.proofs.Common.{◌≡◌, ◌≢◌, ◌≤◌, arith, ◌++◌, ◌∷◌, [], List, false, sym, ap, ap₂, ◌∙◌, subst, refl, length, map}
@@ -12,7 +14,7 @@ use Rattle.varisat_names.specs.promises.VarMap.{at}
 use Rattle.varisat_names.specs.promises.VarBiMap.{BiMap}
 use Rattle.varisat_names.specs.declared.variables.data.VarData.{VarData}
 use Rattle.varisat_names.specs.promises.Variables.{Tables}
-use Rattle.varisat_theory.specs.promises.Literals.{Literal}
+use Rattle.varisat_theory.specs.promises.Literals.{Literal, Clause}
 use Rattle.varisat_theory.specs.promises.Journals.{Accepts, written}
 use Rattle.varisat_tracer.specs.promises.Carried.{carry, logged_as}
 use Rattle.varisat_tracer.specs.inside.Tracing.{TracerState, tracer_state, global_literal, CanLog, BreaksProof}
@@ -30,6 +32,8 @@ use Rattle.varisat_solver.specs.promises.Calls.{with_naming, append_clause, reop
 use Rattle.varisat_solver.specs.promises.Journals.{with_entries}
 use Rattle.varisat_proof.specs.promises.Proving.{IsCheckedIf}
 use Rattle.varisat_solver.specs.promises.States.{State, with_variables}
+use Rattle.varisat_solver.specs.inside.Accepted.{FailsClause, RepresentsOnceAccepted}
+use Rattle.varisat_solver.specs.inside.Searches.{LogsSome}
 use Rattle.varisat_solver.specs.inside.Spaces.{SpacesFit, FitWithNew}
 use Rattle.varisat_solver.specs.promises.Summaries.{spaces_of, spaces_with, IsValidSolver}
 use Rattle.varisat_solver.proofs.calls.SettingsCalls.{summary_in}
@@ -46,7 +50,7 @@ use Rattle.varisat_solver.proofs.accept.accept_user_clause.Goals.{In_ok-solver_f
 use Rattle.varisat_solver.proofs.accept.accept_user_clause.Goals as goal
 
 pub solver_from_user_lits-requires-clause-variables : goal.solver_from_user_lits-requires-clause-variables
-solver_from_user_lits-requires-clause-variables g c = has-variables c.args.tracer.now.tables c.args.ctx.now c.reopen.new.self c.requires.valid
+solver_from_user_lits-requires-clause-variables g c = has-variables c.args.tracer.now.tables c.args.ctx.now c.reopen.new.self c.requires.can.valid
 
 pub solver_from_user_lits-requires-clause-room : goal.solver_from_user_lits-requires-clause-room
 solver_from_user_lits-requires-clause-room g c = can-have-room c.args.clause.now c.args.tracer.now.tables c.requires.names
@@ -59,7 +63,7 @@ have g c =
     have-solvers-then c.args.clause.now c.args.tracer.now.tables c.args.ctx.now c.reopen.new.self
     (record { tables = c.solver_from_user_lits.new.variables; context = c.solver_from_user_lits.new.ctx })
     (λ e. no-model-reopened c.args.ctx.now.solver_state.sat_state (ap (λ (x : SolverState). x.sat_state) (sym c.reopen.ensures) ∙ e))
-    c.prove_linked.ensures c.requires.valid (c.in_ok-solver_from_user_lits.ensures {u = tt}).in_turn
+    c.prove_linked.ensures c.requires.can.valid (c.in_ok-solver_from_user_lits.ensures {u = tt}).in_turn
 
 pub mark_joined-requires : goal.mark_joined-requires
 mark_joined-requires g c =
@@ -81,12 +85,12 @@ load_clause-requires-clause-decidable g c l h =
 -- the proof can log for the search once the clause was
 can-tell : (g : Over) (c : In_ok-log_clause g) → CanLog c.log_clause.new.tracer.proof
 can-tell g c = logs-on (record { tables = c.mark_joined.new.variables; proof = c.args.tracer.now.proof }) (tracer_state c.log_clause.new.tracer) _
-    (c.in_ok-log_clause.ensures {u = tt}).logged c.requires.logs
+    (c.in_ok-log_clause.ensures {u = tt}).logged c.requires.can.logs
 
 -- the verdict is not Unsat when the clause is loaded
 opened : (g : Over) (c : In_ok-solver_from_user_lits g) → c.solver_from_user_lits.new.ctx.solver_state.sat_state ≢ verdict.Unsat
 opened g c e =
-    reopened-not c.args.ctx.now.solver_state.sat_state c.requires.undecided_before
+    reopened-not c.args.ctx.now.solver_state.sat_state c.requires.can.undecided
     (ap (λ (x : SolverState). x.sat_state) (sym c.reopen.ensures) ∙ ap (λ (x : SolverState). x.sat_state) (sym (have g c).verdict.state) ∙ e)
 
 -- the solver represents the state once the names have solver variables
@@ -110,9 +114,9 @@ load_clause-requires-clause-holds g c n =
     let m = c.solver_from_user_lits.new.variables in
     let p = c.args.tracer.now.proof in
     let lits = c.as_slice-lits.result.now in
-    let (s, f) = c.requires.represents in
+    let (s, f) = c.requires.can.represents in
     let (variables, keep, named) = all-named-in g here s f in
-    let (held, relies, fits) = relied-open m p (view mid) mid.assumptions mid.solver_state.sat_state (opened g here) c.requires.logs
+    let (held, relies, fits) = relied-open m p (view mid) mid.assumptions mid.solver_state.sat_state (opened g here) c.requires.can.logs
     (_, named) in
     let before : TracerState = record { tables = c.mark_joined.new.variables; proof = p } in (
       held,
@@ -125,21 +129,24 @@ load_clause-requires-clause-holds g c n =
 -- names and variables stay as the clause is logged and loaded
 same-tables : (g : Over) (c : In_ok-load_clause g) → c.load_clause.new.proof.tables ≡ c.mark_joined.new.variables
 same-tables g c =
-    let here = (goal.at.returns-clause-valid g c).In_ok-solver_from_user_lits in
+    let here = (goal.at.returns-clause-accepted g c).In_ok-solver_from_user_lits in
     ((c.in_ok-load_clause.ensures {u = tt}).loads (opened g here)).lines.written.tables ∙ (c.in_ok-log_clause.ensures {u = tt}).logged.tables
 
-pub returns-clause-state : goal.returns-clause-state
-returns-clause-state g c =
-    let here = (goal.at.returns-clause-state g c).In_ok-solver_from_user_lits in
+-- the verdict may change, and that there is a clause
+new-state : (g : Over) (c : In_ok-load_clause g) → c.load_clause.new.ctx.solver_state ≡ record c.args.ctx.now.solver_state
+    { sat_state = c.load_clause.new.ctx.solver_state.sat_state; formula_is_empty = false }
+new-state g c =
+    let here = (goal.at.returns-clause-accepted g c).In_ok-solver_from_user_lits in
     let sat = c.load_clause.new.ctx.solver_state.sat_state in
     ((c.in_ok-load_clause.ensures {u = tt}).loads (opened g here)).state
     ∙ ap (λ (x : SolverState). record x { sat_state = sat; formula_is_empty = false })
     ((have g here).verdict.state ∙ ap
     (λ (x : SolverState). record x { formula_is_empty = c.solver_from_user_lits.new.ctx.solver_state.formula_is_empty }) c.reopen.ensures)
 
-pub returns-clause-valid : goal.returns-clause-valid
-returns-clause-valid g c =
-    let here = (goal.at.returns-clause-valid g c).In_ok-solver_from_user_lits in
+-- the solver keeps what it did
+kept : (g : Over) (c : In_ok-load_clause g) → IsValidSolver c.load_clause.new.proof.tables c.load_clause.new.ctx
+kept g c =
+    let here = (goal.at.returns-clause-accepted g c).In_ok-solver_from_user_lits in
     let k = (have g here).kept in
     let taken = c.solver_from_user_lits.new.variables in
     let mid = c.solver_from_user_lits.new.ctx in
@@ -164,20 +171,22 @@ returns-clause-valid g c =
           (k.working l (subst (λ ls. l ∈ ls) (ap (λ (x : AssumptionParts). x.working) parts) h));
     })
 
-pub returns-clause-logs : goal.returns-clause-logs
-returns-clause-logs g c =
-    let here = goal.at.returns-clause-logs g c in
+goes-on-logging : (g : Over) (c : In_ok-load_clause g) → CanLog c.load_clause.new.proof.proof
+goes-on-logging g c =
+    let here = goal.at.returns-clause-accepted g c in
     logs-on (tracer_state c.log_clause.new.tracer) (tracer_state c.load_clause.new.proof) _
     ((c.in_ok-load_clause.ensures {u = tt}).loads (opened g here.In_ok-solver_from_user_lits)).lines.written (can-tell g here.In_ok-log_clause)
 
-pub returns-clause-logged : goal.returns-clause-logged
-returns-clause-logged g c =
-    let here = goal.at.returns-clause-logged g c in
+logged-some : (g : Over) (c : In_ok-load_clause g) → LogsSome c.args.tracer.now.proof c.load_clause.new.proof.proof
+logged-some g c =
+    let here = goal.at.returns-clause-accepted g c in
     some-through c.args.tracer.now.proof c.log_clause.new.tracer.proof c.load_clause.new.proof.proof (_, (c.in_ok-log_clause.ensures {u = tt}).logged.logged)
     (_, ((c.in_ok-load_clause.ensures {u = tt}).loads (opened g here.In_ok-solver_from_user_lits)).lines.written.logged)
 
-pub returns-clause-accepted : goal.returns-clause-accepted
-returns-clause-accepted g c s f =
+-- and it represents the states to which the clause was added
+represented : (g : Over) (c : In_ok-load_clause g) → RepresentsOnceAccepted c.args.clause.now (tracer_state c.args.tracer.now) c.args.ctx.now
+    (tracer_state c.load_clause.new.proof) c.load_clause.new.ctx
+represented g c s f =
     let here = (goal.at.returns-clause-accepted g c).In_ok-solver_from_user_lits in
     let all = have g here in
     let r = c.in_ok-load_clause.ensures {u = tt} in
@@ -240,49 +249,53 @@ returns-clause-accepted g c s f =
           (with_variables variables (with_entries logged (append_clause (map (through_names n.naming) list) x n)))) (sym (same-tables g c)) k,
     )
 
-pub returns-in_err-solver_from_user_lits-clause-broken : goal.returns-in_err-solver_from_user_lits-clause-broken
-returns-in_err-solver_from_user_lits-clause-broken g c =
-    let p = c.args.tracer.now.proof in
-    passed-on c.from_residual.result step.Memory (λ z. BreaksProof p (step_faults z) p) c.from_residual.ensures
-    (proof-unbroken p)
+pub returns-clause-accepted : goal.returns-clause-accepted
+returns-clause-accepted g c =
+    record { kept = kept g c; logs = goes-on-logging g c; logged = logged-some g c; state = new-state g c; represents = represented g c }
 
-pub returns-in_err-log_clause-clause-broken : goal.returns-in_err-log_clause-clause-broken
-returns-in_err-log_clause-clause-broken g c =
-    passed-on c.from_residual-in_err-log_clause.result c.in_err-log_clause.field-0.0
-    (λ z. BreaksProof c.args.tracer.now.proof (step_faults z) c.log_clause.new.tracer.proof)
-    c.from_residual-in_err-log_clause.ensures (c.in_err-log_clause.ensures {u = tt}).broken
+-- it failed as it was out of memory or its target failed, so that the store was not full
+unfilled : {A : Type 0} (d : Clause) (p : TracerState) (x : Context A) (q : TracerState) (y : Context A) (e : StepError) → e ≢ step.Full →
+    BreaksProof p.proof (step_faults e) q.proof → FailsClause d p x q y e
+unfilled d p x q y e apart b = record { broken = b; full = λ f. absurd (apart f); size = λ f. absurd (apart f) }
 
-pub returns-in_err-load_clause-clause-broken : goal.returns-in_err-load_clause-clause-broken
-returns-in_err-load_clause-clause-broken g c =
-    let e = c.in_err-load_clause.field-0.0 in
-    let p = c.args.tracer.now.proof in
-    let q = c.log_clause.new.tracer in
-    let r = c.load_clause.new.proof in
-    passed-on c.from_residual-in_err-load_clause.result e (λ z. BreaksProof p (step_faults z) r.proof) c.from_residual-in_err-load_clause.ensures
-    (proof-breaks-on p q.proof r.proof _ (step_faults e) (c.in_ok-log_clause.ensures {u = tt}).logged.logged
-    (breaks-proof (tracer_state q) (tracer_state r) (step_faults e) (c.in_err-load_clause.ensures {u = tt}).broken))
+pub returns-in_err-solver_from_user_lits-clause-fails : goal.returns-in_err-solver_from_user_lits-clause-fails
+returns-in_err-solver_from_user_lits-clause-fails g c =
+    let p = tracer_state c.args.tracer.now in
+    let q : TracerState = record { tables = c.solver_from_user_lits.new.variables; proof = p.proof } in
+    let x = c.args.ctx.now in
+    let y = c.solver_from_user_lits.new.ctx in
+    passed-on c.from_residual.result step.Memory (λ e. FailsClause c.args.clause.now p x q y e) c.from_residual.ensures
+    (unfilled c.args.clause.now p x q y step.Memory (λ e. cc) (proof-unbroken p.proof))
 
-pub returns-in_err-log_clause-clause-full : goal.returns-in_err-log_clause-clause-full
-returns-in_err-log_clause-clause-full g c =
-    passed-on c.from_residual-in_err-log_clause.result c.in_err-log_clause.field-0.0 (λ z. z ≡ step.Full → HasNoRoom c.solver_from_user_lits.new.ctx)
-    c.from_residual-in_err-log_clause.ensures (λ f. absurd ((c.in_err-log_clause.ensures {u = tt}).unstored f))
-
-pub returns-in_err-log_clause-clause-size : goal.returns-in_err-log_clause-clause-size
-returns-in_err-log_clause-clause-size g c =
-    passed-on c.from_residual-in_err-log_clause.result c.in_err-log_clause.field-0.0 (λ z. z ≡ step.Full → (s : State) →
-    SpacesFit (spaces_with c.args.tracer.now.tables c.args.tracer.now.proof.checker c.args.ctx.now) s →
-    length c.solver_from_user_lits.new.ctx.assignment.current ≤ (name_all c.args.clause.now s.naming).made)
-    c.from_residual-in_err-log_clause.ensures (λ f. absurd ((c.in_err-log_clause.ensures {u = tt}).unstored f))
+pub returns-in_err-log_clause-clause-fails : goal.returns-in_err-log_clause-clause-fails
+returns-in_err-log_clause-clause-fails g c =
+    let e = c.in_err-log_clause.field-0.0 in
+    let p = tracer_state c.args.tracer.now in
+    let q = tracer_state c.log_clause.new.tracer in
+    let x = c.args.ctx.now in
+    let y = c.solver_from_user_lits.new.ctx in
+    passed-on c.from_residual-in_err-log_clause.result e (λ e. FailsClause c.args.clause.now p x q y e) c.from_residual-in_err-log_clause.ensures
+    (unfilled c.args.clause.now p x q y e (c.in_err-log_clause.ensures {u = tt}).unstored (c.in_err-log_clause.ensures {u = tt}).broken)
 
 -- the clause is over no more variables than identities that were made with its names
-pub returns-in_err-load_clause-clause-size : goal.returns-in_err-load_clause-clause-size
-returns-in_err-load_clause-clause-size g c =
-    let here = (goal.at.returns-in_err-load_clause-clause-size g c).In_ok-solver_from_user_lits in
-    passed-on c.from_residual-in_err-load_clause.result c.in_err-load_clause.field-0.0 (λ z. z ≡ step.Full → (s : State) →
-    SpacesFit (spaces_with c.args.tracer.now.tables c.args.tracer.now.proof.checker c.args.ctx.now) s →
-    length c.load_clause.new.ctx.assignment.current ≤ (name_all c.args.clause.now s.naming).made)
-    c.from_residual-in_err-load_clause.ensures (λ f s fit.
-    let same = ((c.in_err-load_clause.ensures {u = tt}).ends.full f).1 in
-    let (variables, keep, (w, k)) = all-named-in g here s fit in
-    let few = few-made w _ _ k in
-    omega (arith, same, few))
+pub returns-in_err-load_clause-clause-fails : goal.returns-in_err-load_clause-clause-fails
+returns-in_err-load_clause-clause-fails g c =
+    let here = goal.at.returns-in_err-load_clause-clause-fails g c in
+    let e = c.in_err-load_clause.field-0.0 in
+    let p = tracer_state c.args.tracer.now in
+    let q = tracer_state c.log_clause.new.tracer in
+    let r = tracer_state c.load_clause.new.proof in
+    let x = c.args.ctx.now in
+    let y = c.load_clause.new.ctx in
+    let failed = c.in_err-load_clause.ensures {u = tt} in
+    let fails : FailsClause c.args.clause.now p x r y e = record {
+      broken = proof-breaks-on p.proof q.proof r.proof _ (step_faults e) (c.in_ok-log_clause.ensures {u = tt}).logged.logged
+          (breaks-proof q r (step_faults e) failed.broken);
+      full = λ f. (failed.ends.full f).0;
+      size = λ f s fit.
+          let same = (failed.ends.full f).1 in
+          let (variables, keep, (w, k)) = all-named-in g here.In_ok-solver_from_user_lits s fit in
+          let few = few-made w _ _ k in
+          omega (arith, same, few);
+    } in
+    passed-on c.from_residual-in_err-load_clause.result e (λ z. FailsClause c.args.clause.now p x r y z) c.from_residual-in_err-load_clause.ensures fails

@@ -6,7 +6,7 @@ use Rattle.varisat_names.specs.promises.Maps.{chain}
 use Rattle.varisat_names.specs.promises.VarMap.{at}
 use Rattle.varisat_names.specs.promises.VarBiMap.{BiMap}
 use Rattle.varisat_names.specs.promises.Variables.{Tables}
-use Rattle.varisat_tracer.specs.inside.Tracing.{TracerState, tracer_state, global_literal, BreaksProof}
+use Rattle.varisat_tracer.specs.inside.Tracing.{TracerState, tracer_state, global_literal, BreaksProof, CanLog}
 use Rattle.varisat_tracer.proofs.Logging.{logs-on, proof-unbroken}
 use Rattle.varisat_steps.proofs.Broken.{passed-on}
 use Rattle.varisat_search.specs.declared.error.StepError.{StepError}
@@ -18,6 +18,7 @@ use Rattle.varisat_solver.proofs.entries.LoggedProofs.{proof-logged}
 use Rattle.varisat_search.specs.declared.state.SolverState.{SolverState}
 use Rattle.varisat_search.specs.AssumptionParts.{AssumptionParts, newly_assumed, assumed_state}
 use Rattle.varisat_search.specs.Contexts.{view}
+use Rattle.varisat_solver.specs.inside.Accepted.{KeepsValidity, RepresentsOnceAssumed}
 use Rattle.varisat_solver.specs.inside.Accepting.{HasNames, AreMarked}
 use Rattle.varisat_solver.specs.promises.Names.{name_all, through_names}
 use Rattle.varisat_solver.specs.promises.Calls.{with_naming, assumed_verdict, with_assumptions, with_verdict}
@@ -33,7 +34,7 @@ use Rattle.varisat_solver.proofs.accepting.SolversInTurn.{HaveSolvers, have-solv
 use Rattle.varisat_solver.proofs.modes.VariableMoves.{same-in-use, tables-in-use}
 use Rattle.varisat_solver.proofs.modes.TableMarks.{names-marked, marked-same, assumed-listed}
 use Rattle.varisat_solver.proofs.accept.assume_list.Given.{Over}
-use Rattle.varisat_solver.proofs.accept.assume_list.Goals.{In_ok-solver_from_user_lits}
+use Rattle.varisat_solver.proofs.accept.assume_list.Goals.{In_ok-solver_from_user_lits, In_ok-log_assumptions}
 use Rattle.varisat_solver.proofs.accept.assume_list.Goals as goal
 
 pub solver_from_user_lits-requires-clause-variables : goal.solver_from_user_lits-requires-clause-variables
@@ -80,9 +81,10 @@ set_assumptions-requires-clause-decidable g c l h =
     literals-decidable c.args.list.now c.solver_from_user_lits.new.solver_lits.items (have g here).kept
     (c.in_ok-solver_from_user_lits.ensures {u = tt}).literals c.prove_linked-2.ensures l (subst (λ ls. l ∈ ls) c.as_slice-lits.ensures.value h)
 
-pub returns-clause-state : goal.returns-clause-state
-returns-clause-state g c =
-    let here = (goal.at.returns-clause-state g c).In_ok-solver_from_user_lits in
+-- the verdict may change, and whether there is a clause
+new-state : (g : Over) (c : In_ok-log_assumptions g) → KeepsValidity c.args.ctx.now.solver_state c.set_assumptions.new.ctx.solver_state
+new-state g c =
+    let here = (goal.at.returns-clause-assumed g c).In_ok-solver_from_user_lits in
     let new = c.set_assumptions.new.ctx.solver_state in
     (c.in_ok-set_assumptions.ensures {u = tt}).state
     ∙ ap (λ (x : SolverState). record x { sat_state = assumed_state x.sat_state })
@@ -95,9 +97,10 @@ returns-clause-state g c =
     c.assume.ensures) in sym e ∙ sym (ap (λ (x : SolverState). x.sat_state) (c.in_ok-set_assumptions.ensures {u = tt}).state))
     (sym (ap (λ (x : SolverState). x.formula_is_empty) (c.in_ok-set_assumptions.ensures {u = tt}).state))
 
-pub returns-clause-valid : goal.returns-clause-valid
-returns-clause-valid g c =
-    let here = (goal.at.returns-clause-valid g c).In_ok-solver_from_user_lits in
+-- the solver keeps what it did
+kept : (g : Over) (c : In_ok-log_assumptions g) → IsValidSolver c.log_assumptions.new.tracer.tables c.set_assumptions.new.ctx
+kept g c =
+    let here = (goal.at.returns-clause-assumed g c).In_ok-solver_from_user_lits in
     let k = (have g here).kept in
     let over = (c.in_ok-solver_from_user_lits.ensures {u = tt}).literals in
     let list = c.args.list.now in
@@ -126,16 +129,15 @@ returns-clause-valid g c =
           (subst (λ ls. l ∈ ls) (ap (λ (z : AssumptionParts). z.working) r.assumed ∙ literals) h);
     })
 
-pub returns-clause-logs : goal.returns-clause-logs
-returns-clause-logs g c =
+goes-on-logging : (g : Over) (c : In_ok-log_assumptions g) → CanLog c.log_assumptions.new.tracer.proof
+goes-on-logging g c =
     logs-on (record { tables = c.mark_assumed-2.new.variables; proof = c.args.tracer.now.proof }) (tracer_state c.log_assumptions.new.tracer) _
     (c.in_ok-log_assumptions.ensures {u = tt}).logged c.requires.logs
 
-pub returns-clause-logged : goal.returns-clause-logged
-returns-clause-logged g c = (_, (c.in_ok-log_assumptions.ensures {u = tt}).logged.logged)
-
-pub returns-clause-assumed : goal.returns-clause-assumed
-returns-clause-assumed g c s f =
+-- and it represents the states in which the list is assumed
+represented : (g : Over) (c : In_ok-log_assumptions g) → RepresentsOnceAssumed c.args.list.now (tracer_state c.args.tracer.now) c.args.ctx.now
+    (tracer_state c.log_assumptions.new.tracer) c.set_assumptions.new.ctx
+represented g c s f =
     let here = (goal.at.returns-clause-assumed g c).In_ok-solver_from_user_lits in
     let all = have g here in
     let over = (c.in_ok-solver_from_user_lits.ensures {u = tt}).literals in
@@ -194,6 +196,16 @@ returns-clause-assumed g c s f =
           (with_variables variables (with_entries logged (with_assumptions carried n))))
           (sym (checked-assumed checker after.proof.checker (map (global_literal marked) c.as_slice-lits.result.now) taken.logged.checked)) fits),
     )
+
+pub returns-clause-assumed : goal.returns-clause-assumed
+returns-clause-assumed g c =
+    record {
+      kept = kept g c;
+      logs = goes-on-logging g c;
+      logged = (_, (c.in_ok-log_assumptions.ensures {u = tt}).logged.logged);
+      state = new-state g c;
+      represents = represented g c;
+    }
 
 pub returns-in_err-solver_from_user_lits-clause-broken : goal.returns-in_err-solver_from_user_lits-clause-broken
 returns-in_err-solver_from_user_lits-clause-broken g c =

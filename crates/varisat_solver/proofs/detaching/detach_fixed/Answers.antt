@@ -3,7 +3,8 @@ use Rattle.varisat_search.proofs.stepping.StepErrors.{trace-faults, trace-unfill
 use Rattle.varisat_search.specs.StepErrors.{step_faults}
 use Rattle.varisat_steps.proofs.Broken.{passed-on}
 use Rattle.varisat_steps.specs.Traces.{faults_of}
-use Rattle.std.proofs.Common.{◌≡◌, ◌≢◌, inl, inr, ⊎_elim, length, ap, ◌∙◌, sym, subst, refl, arith}
+use Rattle.std.proofs.Common.{◌≡◌, ◌≢◌, ◌<◌, inl, inr, ⊎_elim, length, ap, ◌∙◌, sym, subst, refl, arith}
+use Rattle.std.proofs.Math.Arith.{lt_of_le-ne}
 use Rattle.varisat_prop.specs.Changes.{IsConflicting}
 use Rattle.varisat_search.specs.RootSimplified.{HasRootNews}
 use Rattle.varisat_search.proofs.stepping.FixedLiterals.{fixed-undecided}
@@ -14,6 +15,7 @@ use Rattle.varisat_tracer.specs.inside.Tracing.{tracer_state, open_parts, Breaks
 use Rattle.varisat_proof.specs.promises.Proving.{ProofParts}
 use Rattle.varisat_tracer.proofs.Logging.{logs-logged, breaks-proof, open-unbroken, proof-breaks-on}
 use Rattle.varisat_solver.specs.inside.Searches.{LogsSome, Turn, ComesOn}
+use Rattle.varisat_solver.specs.inside.SinceChange.{GoesOnWithin}
 use Rattle.varisat_solver.proofs.steps.RootSimplifiedParts.{settled-parts}
 use Rattle.varisat_solver.specs.promises.Summaries.{undecided_spaces, IsValidSolver}
 use Rattle.varisat_solver.proofs.steps.SearchVerdicts.{kept-on}
@@ -60,72 +62,62 @@ kept g c =
     subst (λ (t : Tables). IsValidSolver t c.simplify_root.new.ctx) (sym goes.proves.2.1.tables)
     (kept-on c.args.tracer.now.tables x c.simplify_root.new.ctx c.requires.valid goes.ready goes.extends.count goes.decidable same)
 
-pub returns-then-is_err-clause-valid : goal.returns-then-is_err-clause-valid
-returns-then-is_err-clause-valid g c = kept g (goal.at.returns-then-is_err-clause-valid g c).In-Ok
-
 pub detach_listed-requires-clause-valid : goal.detach_listed-requires-clause-valid
 detach_listed-requires-clause-valid g c = kept g (goal.at.detach_listed-requires-clause-valid g c).In-Ok
 
 pub detach_unneeded-requires-clause-valid : goal.detach_unneeded-requires-clause-valid
 detach_unneeded-requires-clause-valid g c = (c.in_ok-detach_listed.ensures {u = tt}).leave.kept
 
-pub returns-clause-valid : goal.returns-clause-valid
-returns-clause-valid g c = (c.in_ok-detach_unneeded.ensures {u = tt}).leave.kept
+-- and the steps of a call go on in it
+within : (g : Over) (c : In-Ok g) → GoesOnWithin c.args.ctx.now c.simplify_root.new.ctx
+within g c =
+    come-settled _ c.args.ctx.now c.simplify_root.new.ctx (c.in-Ok.ensures {u = tt}).goes_on
+    (ap (λ (z : Context g.row.A.Denot). z.solver_config) c.simplify_root.ensures.frame)
 
-pub returns-clause-count : goal.returns-clause-count
-returns-clause-count g c =
-    (c.in_ok-detach_unneeded.ensures {u = tt}).leave.count ∙ (c.in_ok-detach_listed.ensures {u = tt}).leave.count ∙ (c.in-Ok.ensures {u = tt}).goes_on.extends.count
+-- nothing was to be done
+pub returns-then-not-has_root_news-clause-detached : goal.returns-then-not-has_root_news-clause-detached
+returns-then-not-has_root_news-clause-detached g c =
+    let p = c.args.tracer.now in
+    let x = c.args.ctx.now in
+    let quiet : HasRootNews (view x) → ⊥ = λ u. let b = c.has_root_news.ensures.1 u in let n = c.if-not-has_root_news.true in absurd cc in
+    record {
+      kept = c.requires.valid;
+      logs = c.requires.logs;
+      logged = some-none p.proof;
+      within = λ i q k. k;
+      count = refl;
+      left = λ d n. absurd (quiet (d, lt_of_le-ne c.requires.valid.ready.well.head n));
+      calm = inl quiet;
+      leaves = λ h. ⊎_elim (λ n. inl (n, quiet)) (λ u. absurd (quiet u)) h;
+      represents = λ at s fit. comes-nowhere at 0 s p.proof _ refl (unknown-undecided p.tables p.proof.checker x s fit) fit;
+    }
 
-pub returns-then-not-has_root_news-clause-leaves : goal.returns-then-not-has_root_news-clause-leaves
-returns-then-not-has_root_news-clause-leaves g c h =
-    let calm : HasRootNews (view c.args.ctx.now) → ⊥ = λ u.
-    let b = c.has_root_news.ensures.1 u in let n = c.if-not-has_root_news.true in absurd cc in
-    ⊎_elim (λ n. inl (n, calm)) (λ u. absurd (calm u)) h
-
-pub returns-then-is_err-clause-leaves : goal.returns-then-is_err-clause-leaves
-returns-then-is_err-clause-leaves g c h =
+-- a clause is false
+pub returns-then-is_err-clause-detached : goal.returns-then-is_err-clause-detached
+returns-then-is_err-clause-detached g c =
+    let here = (goal.at.returns-then-is_err-clause-detached g c).In-Ok in
+    let p = c.args.tracer.now in
+    let q = c.simplify_root.new.proof in
+    let y = c.simplify_root.new.ctx in
     let e = c.in-Ok.ensures {u = tt} in
-    inr (
-      e.at_zero,
-      failed-there c.in-Ok.settled (λ _. Unit {0}) (IsConflicting (view c.simplify_root.new.ctx))
-          (sym c.is_err.ensures.value ∙ c.if-is_err.true) e.conflict,
-    )
+    let (given, logged) = settled-logged g here in
+    let found = failed-there c.in-Ok.settled (λ _. Unit {0}) (IsConflicting (view y)) (sym c.is_err.ensures.value ∙ c.if-is_err.true) e.conflict in
+    record {
+      kept = kept g here;
+      logs = logs-logged p.proof q.proof given logged c.requires.logs;
+      logged = (given, logged);
+      within = within g here;
+      count = e.goes_on.extends.count;
+      left = λ d n. inl found;
+      calm = inr (e.at_zero, found);
+      leaves = λ h. inr (e.at_zero, found);
+      represents = begun g here;
+    }
 
-pub returns-clause-leaves : goal.returns-clause-leaves
-returns-clause-leaves g c h =
-    let z = c.detach_unneeded.new.ctx in
-    let e = c.in_ok-detach_unneeded.ensures {u = tt} in
-    let d = e.settled in
-    inl (
-      subst (AreOverAssumed c.detach_unneeded.new.tracer.tables) (sym (fixed-undecided (view z) d.undecided)) e.left.assumed,
-      λ u. let head = d.propagated in let low = u.1 in omega (arith, head, low),
-    )
-
-pub returns-then-not-has_root_news-clause-logged : goal.returns-then-not-has_root_news-clause-logged
-returns-then-not-has_root_news-clause-logged g c = some-none c.args.tracer.now.proof
-
-pub returns-then-is_err-clause-logged : goal.returns-then-is_err-clause-logged
-returns-then-is_err-clause-logged g c = settled-logged g (goal.at.returns-then-is_err-clause-logged g c).In-Ok
-
-pub returns-clause-logged : goal.returns-clause-logged
-returns-clause-logged g c =
-    some-through c.args.tracer.now.proof c.simplify_root.new.proof.proof c.detach_unneeded.new.tracer.proof
-    (settled-logged g (goal.at.returns-clause-logged g c).In-Ok) (left-logged g (goal.at.returns-clause-logged g c).In_ok-detach_unneeded)
-
-pub returns-clause-logs : goal.returns-clause-logs
-returns-clause-logs g c =
-    let (given, logged) = returns-clause-logged g c in
-    logs-logged c.args.tracer.now.proof c.detach_unneeded.new.tracer.proof given logged c.requires.logs
-
-pub returns-then-not-has_root_news-clause-represents : goal.returns-then-not-has_root_news-clause-represents
-returns-then-not-has_root_news-clause-represents g c at s fit = comes-nowhere at 0 s c.args.tracer.now.proof _ refl
-    (unknown-undecided c.args.tracer.now.tables c.args.tracer.now.proof.checker c.args.ctx.now s fit) fit
-
-pub returns-then-is_err-clause-represents : goal.returns-then-is_err-clause-represents
-returns-then-is_err-clause-represents g c at = begun g (goal.at.returns-then-is_err-clause-represents g c).In-Ok at
-
-pub returns-clause-represents : goal.returns-clause-represents
-returns-clause-represents g c at =
+-- variables left
+pub returns-clause-detached : goal.returns-clause-detached
+returns-clause-detached g c =
+    let here = (goal.at.returns-clause-detached g c).In-Ok in
     let p = c.args.tracer.now in
     let q = c.simplify_root.new.proof in
     let r = c.detach_listed.new.tracer in
@@ -134,45 +126,31 @@ returns-clause-represents g c at =
     let y = c.simplify_root.new.ctx in
     let u = c.detach_listed.new.ctx in
     let z = c.detach_unneeded.new.ctx in
-    comes-through at p.proof q.proof last.proof (undecided_spaces p.tables p.proof.checker x) (undecided_spaces q.tables q.proof.checker y)
-    (undecided_spaces last.tables last.proof.checker z) (unknown-undecided q.tables q.proof.checker y)
-    (begun g (goal.at.returns-clause-represents g c).In-Ok at)
-    (comes-through at q.proof r.proof last.proof (undecided_spaces q.tables q.proof.checker y)
-    (undecided_spaces r.tables r.proof.checker u) (undecided_spaces last.tables last.proof.checker z) (unknown-undecided r.tables r.proof.checker u)
-    (leaving-comes at q.proof r.proof (undecided_spaces q.tables q.proof.checker y) (undecided_spaces r.tables r.proof.checker u)
-    (unknown-undecided q.tables q.proof.checker y) (c.in_ok-detach_listed.ensures {u = tt}).leave.represents)
-    (leaving-comes at r.proof last.proof (undecided_spaces r.tables r.proof.checker u) (undecided_spaces last.tables last.proof.checker z)
-    (unknown-undecided r.tables r.proof.checker u) (c.in_ok-detach_unneeded.ensures {u = tt}).leave.represents))
-
-pub returns-then-not-has_root_news-clause-calm : goal.returns-then-not-has_root_news-clause-calm
-returns-then-not-has_root_news-clause-calm g c =
-    inl (λ u. let b = c.has_root_news.ensures.1 u in let n = c.if-not-has_root_news.true in absurd cc)
-
-pub returns-then-is_err-clause-calm : goal.returns-then-is_err-clause-calm
-returns-then-is_err-clause-calm g c =
-    let e = c.in-Ok.ensures {u = tt} in
-    inr (
-      e.at_zero,
-      failed-there c.in-Ok.settled (λ _. Unit {0}) (IsConflicting (view c.simplify_root.new.ctx))
-          (sym c.is_err.ensures.value ∙ c.if-is_err.true) e.conflict,
-    )
-
-pub returns-clause-calm : goal.returns-clause-calm
-returns-clause-calm g c =
-    let d = (c.in_ok-detach_unneeded.ensures {u = tt}).settled in
-    inl (λ u. let head = d.propagated in let low = u.1 in omega (arith, head, low))
-
-pub returns-then-is_err-clause-within : goal.returns-then-is_err-clause-within
-returns-then-is_err-clause-within g c =
-    come-settled _ c.args.ctx.now c.simplify_root.new.ctx (c.in-Ok.ensures {u = tt}).goes_on
-    (ap (λ (z : Context g.row.A.Denot). z.solver_config) c.simplify_root.ensures.frame)
-
-pub returns-clause-within : goal.returns-clause-within
-returns-clause-within g c i q k =
-    (c.in_ok-detach_unneeded.ensures {u = tt}).leave.within i q
-    ((c.in_ok-detach_listed.ensures {u = tt}).leave.within i q
-    (come-settled _ c.args.ctx.now c.simplify_root.new.ctx (c.in-Ok.ensures {u = tt}).goes_on
-    (ap (λ (z : Context g.row.A.Denot). z.solver_config) c.simplify_root.ensures.frame) i q k))
+    let first = (c.in_ok-detach_listed.ensures {u = tt}).leave in
+    let e = c.in_ok-detach_unneeded.ensures {u = tt} in
+    let d = e.settled in
+    let quiet : HasRootNews (view z) → ⊥ = λ n. let head = d.propagated in let low = n.1 in omega (arith, head, low) in
+    let (given, logged) = some-through p.proof q.proof last.proof (settled-logged g here)
+    (left-logged g (goal.at.returns-clause-detached g c).In_ok-detach_unneeded) in
+    record {
+      kept = e.leave.kept;
+      logs = logs-logged p.proof last.proof given logged c.requires.logs;
+      logged = (given, logged);
+      within = λ i q k. e.leave.within i q (first.within i q (within g here i q k));
+      count = e.leave.count ∙ first.count ∙ (c.in-Ok.ensures {u = tt}).goes_on.extends.count;
+      left = λ a n. inr e.left;
+      calm = inl quiet;
+      leaves = λ h. inl (subst (AreOverAssumed last.tables) (sym (fixed-undecided (view z) d.undecided)) e.left.assumed, quiet);
+      represents = λ at.
+          comes-through at p.proof q.proof last.proof (undecided_spaces p.tables p.proof.checker x) (undecided_spaces q.tables q.proof.checker y)
+          (undecided_spaces last.tables last.proof.checker z) (unknown-undecided q.tables q.proof.checker y) (begun g here at)
+          (comes-through at q.proof r.proof last.proof (undecided_spaces q.tables q.proof.checker y) (undecided_spaces r.tables r.proof.checker u)
+          (undecided_spaces last.tables last.proof.checker z) (unknown-undecided r.tables r.proof.checker u)
+          (leaving-comes at q.proof r.proof (undecided_spaces q.tables q.proof.checker y) (undecided_spaces r.tables r.proof.checker u)
+          (unknown-undecided q.tables q.proof.checker y) first.represents)
+          (leaving-comes at r.proof last.proof (undecided_spaces r.tables r.proof.checker u) (undecided_spaces last.tables last.proof.checker z)
+          (unknown-undecided r.tables r.proof.checker u) e.leave.represents));
+    }
 
 pub returns-in-Err-clause-broken : goal.returns-in-Err-clause-broken
 returns-in-Err-clause-broken g c =

@@ -62,11 +62,11 @@ returns-clause-begins g c =
     let y = c.begin_step.new.ctx in
     let z = c.detach_fixed.new.ctx in
     let b = begun g (goal.at.returns-clause-begins g c).In_ok-begin_step in
-    let e = c.in_ok-detach_fixed.ensures {u = tt} in
+    let e = (c.in_ok-detach_fixed.ensures {u = tt}).detached in
     let count = begin-count x y b c.requires.can.valid.ready in
     let config = ap (λ (c : Context g.row.A.Denot). c.solver_config) c.begin_step.ensures.frame in
     record {
-      kept = e.valid;
+      kept = e.kept;
       logs = e.logs;
       logged = some-through p.proof q.proof r.proof (begin-logged (tracer_state p) (tracer_state q) x y b) e.logged;
       within = λ i k. e.within i x.schedule

@@ -1,14 +1,13 @@
 use Rattle.std.proofs.Common.{◌≡◌, ◌-◌, ◌∙◌, length, ⊎_elim, inl, inr, ap, sym, subst, refl, Bool, true, false, Option, arith}
 use Rattle.varisat_steps.proofs.Broken.{passed-on}
-use Rattle.varisat_search.specs.declared.error.StepError.TheVariants as step
 use Rattle.varisat_search.specs.StepErrors.{step_faults}
 use Rattle.varisat_search.specs.declared.state.SolverState.{SolverState}
 use Rattle.varisat_search.specs.declared.state.SatState.TheVariants as verdict
 use Rattle.varisat_schedule.specs.CallSteps.{steps_since}
-use Rattle.varisat_tracer.specs.inside.Tracing.{tracer_state, BreaksProof}
+use Rattle.varisat_tracer.specs.inside.Tracing.{tracer_state}
 use Rattle.varisat_tracer.proofs.Logging.{proof-breaks-on}
 use Rattle.varisat_solver.specs.promises.Budgets.{CountsSteps}
-use Rattle.varisat_solver.specs.inside.Searches.{answer_at, Turn, turn_of, ComesOn, MakesSolverStep, FindsVerdict}
+use Rattle.varisat_solver.specs.inside.Searches.{answer_at, Turn, turn_of, ComesOn, FailsStep, MakesSolverStep, FindsVerdict}
 use Rattle.varisat_solver.specs.promises.Summaries.{undecided_spaces, spaces_with}
 use Rattle.varisat_solver.proofs.entries.CheckedHeld.{some-on}
 use Rattle.varisat_solver.proofs.steps.FindVerdictSteps.{searching-at, not-less, so-far, Stepping, one-more, stepping-moved, stepping-goes-on, stepping-counts, stepping-since, stepping-shortens, none-made, counts-spent, counts-refused, since-stopped, logged-refused, not-spent, room}
@@ -29,7 +28,7 @@ stepping g c =
           c.requires.valid.ready c.requires.unknown r.count r.config r.made;
       left = not-spent c.args.ctx.now.schedule c.steps.ctx.schedule c.args.max_steps c.steps-first.result c.steps-steps.result
           c.steps-first.ensures.steps c.steps-steps.ensures.steps c.if-steps-first.false;
-      next = (c.in_ok-make_step.ensures {u = tt}).schedule;
+      next = (made g c).schedule;
       same_count = (made g c).count;
     }
 
@@ -210,17 +209,17 @@ returns-in_err-make_step-clause-counted g c n changed_at h k =
     (counts-refused (searching-at x y c.args.max_steps c.prove_in_range.ensures.luby_restart_interval_scale c.requires.valid.ready c.requires.unknown
     r.count r.config r.made) changed_at k e c.make_step.new.ctx.schedule.steps (c.in_err-make_step.ensures {u = tt}).uncounted n h)
 
-pub returns-in_err-make_step-clause-broken : goal.returns-in_err-make_step-clause-broken
-returns-in_err-make_step-clause-broken g c =
+pub returns-in_err-make_step-clause-fails : goal.returns-in_err-make_step-clause-fails
+returns-in_err-make_step-clause-fails g c =
     let e = c.in_err-make_step.field-0.0 in
-    let p = c.args.tracer.now in
-    let r = c.make_step.new.tracer in
+    let p = c.args.tracer.now.proof in
+    let r = c.make_step.new.tracer.proof in
+    let x = c.args.ctx.now in
+    let z = c.make_step.new.ctx in
     let (given, logged) = c.steps.invariant.logged in
-    passed-on c.from_residual.result e (λ z. BreaksProof p.proof (step_faults z) r.proof) c.from_residual.ensures
-    (proof-breaks-on p.proof c.steps.tracer.proof r.proof given (step_faults e) logged (c.in_err-make_step.ensures {u = tt}).broken)
-
-pub returns-in_err-make_step-clause-size : goal.returns-in_err-make_step-clause-size
-returns-in_err-make_step-clause-size g c =
-    passed-on c.from_residual.result c.in_err-make_step.field-0.0
-    (λ z. z ≡ step.Full → length c.make_step.new.ctx.assignment.current ≡ length c.args.ctx.now.assignment.current) c.from_residual.ensures
-    (λ f. (c.in_err-make_step.ensures {u = tt}).size f ∙ c.steps.invariant.count)
+    let failed = (c.in_err-make_step.ensures {u = tt}).fails in
+    let fails : FailsStep p r x z e = record {
+      broken = proof-breaks-on p c.steps.tracer.proof r given (step_faults e) logged failed.broken;
+      full = λ f. let (room, same) = failed.full f in (room, same ∙ c.steps.invariant.count);
+    } in
+    passed-on c.from_residual.result e (λ w. FailsStep p r x z w) c.from_residual.ensures fails

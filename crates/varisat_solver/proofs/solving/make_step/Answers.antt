@@ -1,13 +1,12 @@
-use Rattle.std.proofs.Common.{◌≡◌, ◌<◌, length, ap, ◌∙◌, sym, subst, refl}
+use Rattle.std.proofs.Common.{◌≡◌, ◌<◌, ap, ◌∙◌, sym, subst, refl}
 use Rattle.varisat_schedule.specs.Plans.{Plan, next_plan}
 use Rattle.varisat_names.specs.promises.Settings.{Settings}
-use Rattle.varisat_search.specs.declared.error.StepError.TheVariants as step
 use Rattle.varisat_search.specs.declared.state.SolverState.{SolverState}
-use Rattle.varisat_search.specs.StepErrors.{step_faults, HasNoRoom}
+use Rattle.varisat_search.specs.StepErrors.{step_faults}
 use Rattle.varisat_steps.proofs.Broken.{passed-on, on-error}
-use Rattle.varisat_tracer.specs.inside.Tracing.{tracer_state, BreaksProof}
+use Rattle.varisat_tracer.specs.inside.Tracing.{tracer_state}
 use Rattle.varisat_tracer.proofs.Logging.{proof-breaks-on, logs-on}
-use Rattle.varisat_solver.specs.inside.Searches.{turn_of, BeginsSolverStep, MakesNamedStep}
+use Rattle.varisat_solver.specs.inside.Searches.{turn_of, FailsStep, BeginsSolverStep, MakesNamedStep}
 use Rattle.varisat_solver.specs.promises.Summaries.{undecided_spaces, spaces_with}
 use Rattle.varisat_solver.proofs.steps.SinceSteps.{leaves-stepped, come-ended, steps-begun, step-ended}
 use Rattle.varisat_solver.proofs.entries.CheckedHeld.{some-on}
@@ -62,6 +61,7 @@ returns-clause-made g c =
           (step-ended _ x.schedule z.schedule plan (same.schedule ∙ c.begin.ensures.schedule) c.end_step.ensures
           ∙ ap (λ (s : Settings). next_plan s.luby_restart_interval_scale x.schedule) (sym c.begin.ensures.config))
           same.solver_config m.count m.decidable (b.within i k);
+      schedule = step-ended _ x.schedule z.schedule plan (same.schedule ∙ c.begin.ensures.schedule) c.end_step.ensures;
       state = m.state ∙ ap (λ (s : SolverState). record s { sat_state = z.solver_state.sat_state }) b.state;
       count = m.count ∙ b.count;
       leaves = λ h n. leaves-stepped q.tables r.tables y z m.tables m.fixes (b.leaves h) n;
@@ -70,10 +70,6 @@ returns-clause-made g c =
           (unknown-undecided q.tables q.proof.checker y)
           b.represents (named-comes (tracer_state q) (tracer_state r) y z b.kept m b.calm (later 0 (turn_of x)));
     }
-
-pub returns-clause-schedule : goal.returns-clause-schedule
-returns-clause-schedule g c = step-ended _ c.args.ctx.now.schedule c.named_conflict_step.new.ctx.schedule c.end_step.new.self
-    (c.named_conflict_step.ensures.schedule.schedule ∙ c.begin.ensures.schedule) c.end_step.ensures
 
 pub returns-clause-config : goal.returns-clause-config
 returns-clause-config g c = c.named_conflict_step.ensures.schedule.solver_config ∙ c.begin.ensures.config
@@ -85,30 +81,18 @@ pub returns-in_err-begin-clause-uncounted : goal.returns-in_err-begin-clause-unc
 returns-in_err-begin-clause-uncounted g c = on-error c.from_residual.result _
     (ap (λ (p : Plan). p.steps) c.begin.ensures.schedule ∙ steps-begun _ c.args.ctx.now.schedule)
 
-pub returns-in_err-begin-clause-broken : goal.returns-in_err-begin-clause-broken
-returns-in_err-begin-clause-broken g c =
+pub returns-in_err-begin-clause-fails : goal.returns-in_err-begin-clause-fails
+returns-in_err-begin-clause-fails g c =
     let e = c.in_err-begin.field-0.0 in
-    passed-on c.from_residual.result e (λ z. BreaksProof c.args.tracer.now.proof (step_faults z) c.begin.new.tracer.proof) c.from_residual.ensures
-    (c.in_err-begin.ensures {u = tt}).broken
-
-pub returns-in_err-begin-clause-full : goal.returns-in_err-begin-clause-full
-returns-in_err-begin-clause-full g c =
-    let e = c.in_err-begin.field-0.0 in
-    passed-on c.from_residual.result e (λ z. z ≡ step.Full → HasNoRoom c.begin.new.ctx) c.from_residual.ensures
-    (λ z. absurd ((c.in_err-begin.ensures {u = tt}).full z))
-
-pub returns-in_err-begin-clause-size : goal.returns-in_err-begin-clause-size
-returns-in_err-begin-clause-size g c =
-    passed-on c.from_residual.result c.in_err-begin.field-0.0
-    (λ z. z ≡ step.Full → length c.begin.new.ctx.assignment.current ≡ length c.args.ctx.now.assignment.current) c.from_residual.ensures
-    (λ z. absurd ((c.in_err-begin.ensures {u = tt}).full z))
-
-pub returns-in_err-named_conflict_step-clause-size : goal.returns-in_err-named_conflict_step-clause-size
-returns-in_err-named_conflict_step-clause-size g c =
-    passed-on c.from_residual-in_err-named_conflict_step.result c.in_err-named_conflict_step.field-0.0
-    (λ z. z ≡ step.Full → length c.named_conflict_step.new.ctx.assignment.current ≡ length c.args.ctx.now.assignment.current)
-    c.from_residual-in_err-named_conflict_step.ensures
-    (λ f. (c.in_err-named_conflict_step.ensures {u = tt}).size f ∙ (begun g (goal.at.returns-in_err-named_conflict_step-clause-size g c).In_ok-begin).count)
+    let p = c.args.tracer.now.proof in
+    let q = c.begin.new.tracer.proof in
+    let x = c.args.ctx.now in
+    let y = c.begin.new.ctx in
+    let fails : FailsStep p q x y e = record {
+      broken = (c.in_err-begin.ensures {u = tt}).broken;
+      full = λ f. absurd ((c.in_err-begin.ensures {u = tt}).full f);
+    } in
+    passed-on c.from_residual.result e (λ z. FailsStep p q x y z) c.from_residual.ensures fails
 
 pub returns-in_err-named_conflict_step-clause-uncounted : goal.returns-in_err-named_conflict_step-clause-uncounted
 returns-in_err-named_conflict_step-clause-uncounted g c =
@@ -118,13 +102,19 @@ returns-in_err-named_conflict_step-clause-uncounted g c =
 pub returns-in_err-named_conflict_step-clause-config : goal.returns-in_err-named_conflict_step-clause-config
 returns-in_err-named_conflict_step-clause-config g c = c.named_conflict_step.ensures.schedule.solver_config ∙ c.begin.ensures.config
 
-pub returns-in_err-named_conflict_step-clause-broken : goal.returns-in_err-named_conflict_step-clause-broken
-returns-in_err-named_conflict_step-clause-broken g c =
+pub returns-in_err-named_conflict_step-clause-fails : goal.returns-in_err-named_conflict_step-clause-fails
+returns-in_err-named_conflict_step-clause-fails g c =
     let e = c.in_err-named_conflict_step.field-0.0 in
-    let p = c.args.tracer.now in
-    let q = c.begin.new.tracer in
-    let r = c.named_conflict_step.new.tracer in
-    let (given, logged) = (begun g (goal.at.returns-in_err-named_conflict_step-clause-broken g c).In_ok-begin).logged in
-    passed-on c.from_residual-in_err-named_conflict_step.result e
-    (λ z. BreaksProof p.proof (step_faults z) r.proof) c.from_residual-in_err-named_conflict_step.ensures
-    (proof-breaks-on p.proof q.proof r.proof given (step_faults e) logged (c.in_err-named_conflict_step.ensures {u = tt}).broken)
+    let p = c.args.tracer.now.proof in
+    let q = c.begin.new.tracer.proof in
+    let r = c.named_conflict_step.new.tracer.proof in
+    let x = c.args.ctx.now in
+    let z = c.named_conflict_step.new.ctx in
+    let b = begun g (goal.at.returns-in_err-named_conflict_step-clause-fails g c).In_ok-begin in
+    let (given, logged) = b.logged in
+    let failed = (c.in_err-named_conflict_step.ensures {u = tt}).fails in
+    let fails : FailsStep p r x z e = record {
+      broken = proof-breaks-on p q r given (step_faults e) logged failed.broken;
+      full = λ f. let (room, same) = failed.full f in (room, same ∙ b.count);
+    } in
+    passed-on c.from_residual-in_err-named_conflict_step.result e (λ w. FailsStep p r x z w) c.from_residual-in_err-named_conflict_step.ensures fails

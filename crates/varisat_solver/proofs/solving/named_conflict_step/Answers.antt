@@ -6,9 +6,10 @@ use Rattle.varisat_search.specs.Contexts.{view}
 use Rattle.varisat_search.specs.Seen.{outcome_of}
 use Rattle.varisat_search.specs.StepErrors.{step_faults}
 use Rattle.varisat_steps.proofs.Broken.{passed-on}
-use Rattle.varisat_tracer.specs.inside.Tracing.{tracer_state, BreaksProof}
+use Rattle.varisat_tracer.specs.inside.Tracing.{tracer_state}
 use Rattle.varisat_tracer.proofs.Logging.{breaks-proof, proof-unbroken, proof-breaks-on}
 use Rattle.varisat_solver.specs.inside.Accepting.{HasUser}
+use Rattle.varisat_solver.specs.inside.Searches.{FailsStep}
 use Rattle.varisat_solver.proofs.entries.CheckedHeld.{relied}
 use Rattle.varisat_solver.proofs.modes.TableMarks.{assumed-named}
 use Rattle.varisat_solver.proofs.steps.SearchVerdicts.{named-plainly, named-also}
@@ -38,18 +39,28 @@ returns-in_default-clause-made g c =
     named-plainly (tracer_state c.args.tracer.now) (tracer_state c.conflict_step.new.proof) c.args.ctx.now c.conflict_step.new.ctx
     (c.in_ok-conflict_step.ensures {u = tt}).made (c.in_ok-conflict_step.ensures {u = tt}).fixes c.in_default.not-UnsatUnderAssumptions
 
-pub returns-in_err-conflict_step-clause-broken : goal.returns-in_err-conflict_step-clause-broken
-returns-in_err-conflict_step-clause-broken g c =
+pub returns-in_err-conflict_step-clause-fails : goal.returns-in_err-conflict_step-clause-fails
+returns-in_err-conflict_step-clause-fails g c =
     let e = c.in_err-conflict_step.field-0.0 in
     let p = c.args.tracer.now in
     let q = c.conflict_step.new.proof in
-    passed-on c.from_residual.result e (λ z. BreaksProof p.proof (step_faults z) q.proof) c.from_residual.ensures
-    (breaks-proof (tracer_state p) (tracer_state q) (step_faults e) (c.in_err-conflict_step.ensures {u = tt}).broken)
+    let x = c.args.ctx.now in
+    let y = c.conflict_step.new.ctx in
+    let fails : FailsStep p.proof q.proof x y e = record {
+      broken = breaks-proof (tracer_state p) (tracer_state q) (step_faults e) (c.in_err-conflict_step.ensures {u = tt}).broken;
+      full = (c.in_err-conflict_step.ensures {u = tt}).ends.full;
+    } in
+    passed-on c.from_residual.result e (λ z. FailsStep p.proof q.proof x y z) c.from_residual.ensures fails
 
-pub returns-in_err-name_core-clause-broken : goal.returns-in_err-name_core-clause-broken
-returns-in_err-name_core-clause-broken g c =
+pub returns-in_err-name_core-clause-fails : goal.returns-in_err-name_core-clause-fails
+returns-in_err-name_core-clause-fails g c =
     let p = c.args.tracer.now in
     let q = c.conflict_step.new.proof in
+    let x = c.args.ctx.now in
+    let z = c.name_core.new.ctx in
     let (lines, steps, (simplifies_root, learns, takes)) = (c.in_ok-conflict_step.ensures {u = tt}).made.goes.steps in
-    passed-on c.from_residual-in_err-name_core.result step.Memory (λ z. BreaksProof p.proof (step_faults z) q.proof) c.from_residual-in_err-name_core.ensures
-    (proof-breaks-on p.proof q.proof q.proof _ 0 takes.logged (proof-unbroken q.proof))
+    let fails : FailsStep p.proof q.proof x z step.Memory = record {
+      broken = proof-breaks-on p.proof q.proof q.proof _ 0 takes.logged (proof-unbroken q.proof);
+      full = λ e. absurd cc;
+    } in
+    passed-on c.from_residual-in_err-name_core.result step.Memory (λ e. FailsStep p.proof q.proof x z e) c.from_residual-in_err-name_core.ensures fails

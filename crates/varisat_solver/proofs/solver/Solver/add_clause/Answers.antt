@@ -27,17 +27,20 @@ use Rattle.varisat_solver.proofs.solver.Solver.add_clause.Goals as goal
 pub accept_user_clause-accepted-requires-clause-names : goal.accept_user_clause-accepted-requires-clause-names
 accept_user_clause-accepted-requires-clause-names g c = c.in_ok-check_names.ensures.0
 
-pub accept_user_clause-accepted-requires-clause-represents : goal.accept_user_clause-accepted-requires-clause-represents
-accept_user_clause-accepted-requires-clause-represents g c = let (s, fits, fresh) = (c.self.invariant c.in_ok-ensure_valid.ensures).represents in (s, fits)
+pub accept_user_clause-accepted-requires-clause-can : goal.accept_user_clause-accepted-requires-clause-can
+accept_user_clause-accepted-requires-clause-can g c =
+    let i = c.self.invariant c.in_ok-ensure_valid.ensures in
+    let (s, fits, fresh) = i.represents in
+    record { valid = i.kept; logs = i.logs; represents = (s, fits); undecided = c.in_default.not-Unsat }
 
 pub invariant_of-self-2 : goal.invariant_of-self-2
 invariant_of-self-2 g c _ =
     let (is, counted) = c.in_ok-end_change.ensures in
-    let kept = rw is at c.accept_user_clause-accepted.ensures.valid in
+    let accepted = rw is at c.accept_user_clause-accepted.ensures.accepted in
     let (s, fits, fresh) = (c.self.invariant c.in_ok-ensure_valid.ensures).represents in
-    let (x, logged, variables, v, more, keep, proof, now) = (rw is at c.accept_user_clause-accepted.ensures.accepted) s fits in
+    let (x, logged, variables, v, more, keep, proof, now) = accepted.represents s fits in
     kept-changed c.accept_user_clause-accepted.new.tracer.tables c.accept_user_clause-accepted.new.tracer.proof c.accept_user_clause-accepted.new.ctx
-    c.end_change.new.ctx true c.end_change.new.changed_at counted kept (rw is at c.accept_user_clause-accepted.ensures.logs) (_, now, λ e. absurd cc)
+    c.end_change.new.ctx true c.end_change.new.changed_at counted accepted.kept accepted.logs (_, now, λ e. absurd cc)
 
 pub returns-in_err-check_names-clause-call : goal.returns-in_err-check_names-clause-call
 returns-in_err-check_names-clause-call g c s st =
@@ -65,7 +68,8 @@ joins g c s st =
     let (is, counted) = c.in_ok-end_change.ensures in
     let old = c.self.inside in
     let new = c.accept_user_clause-accepted.new in
-    let (x, logged, variables, v, more, keep, proof, now) = (rw is at c.accept_user_clause-accepted.ensures.accepted) s (st.fits ok) in
+    let accepted = rw is at c.accept_user_clause-accepted.ensures.accepted in
+    let (x, logged, variables, v, more, keep, proof, now) = accepted.represents s (st.fits ok) in
     clause-joins s c.args.clause.now (spaces_with old.tracer.tables old.tracer.proof.checker old.ctx)
     (spaces_with new.tracer.tables new.tracer.proof.checker new.ctx) old.tracer.proof new.tracer.proof x logged variables
     (length new.ctx.clause_alloc.words) (st.fits ok) (proof-fits st ok) v more keep proof now
@@ -82,9 +86,8 @@ returns-clause-call g c s st =
       unbarred = unclosed-there _ s.variables s.logged s.proof c.bars_clauses.result (proof-fits q ok) c.bars_clauses.ensures c.if-bars_clauses.false;
     } in
     let plan = c.accept_user_clause-accepted.ensures.schedule in
-    let state = rw is at c.accept_user_clause-accepted.ensures.state in
-    let kept = rw is at c.accept_user_clause-accepted.ensures.valid in
-    let logs = rw is at c.accept_user_clause-accepted.ensures.logged in
+    let accepted = rw is at c.accept_user_clause-accepted.ensures.accepted in
+    let logs = accepted.logged in
     let j = joins g (goal.at.returns-clause-call g c).In_ok-end_change s q in (
       j.state,
       (
@@ -94,9 +97,9 @@ returns-clause-call g c s st =
             j.accepts,
       ),
       stands-changed (tracer_state old.tracer) (tracer_state new.tracer) old.started old.changed_at c.end_change.new.changed_at old.ctx new.ctx
-          c.end_change.new.ctx s j.state q counted (ap (λ (x : SolverState). x.state_is_invalid) state) (ap (λ (x : Plan). x.steps) plan.schedule)
+          c.end_change.new.ctx s j.state q counted (ap (λ (x : SolverState). x.state_is_invalid) accepted.state) (ap (λ (x : Plan). x.steps) plan.schedule)
           plan.solver_config (checked-runs old.tracer.proof.checker new.tracer.proof.checker logs.0 logs.1.checked) j.ledger j.size j.fits j.proof
-          (j.flags (q.flags ok)) kept.bounded,
+          (j.flags (q.flags ok)) accepted.kept.bounded,
     )
 
 pub returns-in_err-end_change-clause-call : goal.returns-in_err-end_change-clause-call
@@ -111,9 +114,8 @@ returns-in_err-end_change-clause-call g c s st =
       unbarred = unclosed-there _ s.variables s.logged s.proof c.bars_clauses.result (proof-fits q ok) c.bars_clauses.ensures c.if-bars_clauses.false;
     } in
     let k = c.accept_user_clause-accepted.ensures.schedule in
-    let fails = rw is at c.accept_user_clause-accepted.ensures.broken in
-    let full = rw is at c.accept_user_clause-accepted.ensures.full in
-    let size = rw is at c.accept_user_clause-accepted.ensures.size in
+    let failed = rw is at c.accept_user_clause-accepted.ensures.fails in
+    let fails = failed.broken in
     let words = length new.ctx.clause_alloc.words in
     let refused = logged-error c.from_residual-in_err-end_change.result c.in_err-end_change.field-0.0 c.from_residual-in_err-end_change.ensures ∙ ap Err logged in
     let (now, goes, same) = broken-on old.tracer.proof new.tracer.proof (step_faults error) s.proof q.same fails in (
@@ -124,7 +126,7 @@ returns-in_err-end_change-clause-call g c s st =
           (subst (λ n. BreaksProof old.tracer.proof n new.tracer.proof) f fails)) bad
           (may-constrain _ s q ok c.args.clause.now c.in_ok-check_names.ensures.0 c.in_ok-check_names.ensures.1)
           (broken-invalid (step_faults error) s now words (stands-valid _ s q ok) goes)
-          (λ f. let room = full f in let few = size f s (q.fits ok) in omega (arith, room, few))),
+          (λ f. let room = failed.full f in let few = failed.size f s (q.fits ok) in omega (arith, room, few))),
       stands-broken (tracer_state old.tracer) (tracer_state new.tracer) old.started old.changed_at c.end_change.new.changed_at old.ctx new.ctx
           c.end_change.new.ctx s now q made count (ap (λ (x : Plan). x.steps) k.schedule) k.solver_config fails.2 same,
     )
@@ -168,18 +170,18 @@ returns-in_err-check_names-clause-target g c =
 pub returns-clause-target : goal.returns-clause-target
 returns-clause-target g c =
     let (is, counted) = c.in_ok-end_change.ensures in
-    let logs = rw is at c.accept_user_clause-accepted.ensures.logged in
-    rw (← c.self.view_is) (logs-writes c.self.inside.tracer.proof c.accept_user_clause-accepted.new.tracer.proof logs)
+    let accepted = rw is at c.accept_user_clause-accepted.ensures.accepted in
+    rw (← c.self.view_is) (logs-writes c.self.inside.tracer.proof c.accept_user_clause-accepted.new.tracer.proof accepted.logged)
 
 pub returns-in_err-end_change-clause-target : goal.returns-in_err-end_change-clause-target
 returns-in_err-end_change-clause-target g c =
     let (error, is, logged, made, count) = c.in_err-end_change.ensures in
-    let fails = rw is at c.accept_user_clause-accepted.ensures.broken in
+    let failed = rw is at c.accept_user_clause-accepted.ensures.fails in
     let old = c.self.inside.tracer.proof in
     let new = c.accept_user_clause-accepted.new.tracer.proof in
     let refused = logged-error c.from_residual-in_err-end_change.result c.in_err-end_change.field-0.0 c.from_residual-in_err-end_change.ensures in
     rw refused (rw (← c.self.view_is)
-    (subst (λ e. WritesUpTo (returned_faults e) old.opened new.opened) (sym logged) (breaks-writes old new error fails)))
+    (subst (λ e. WritesUpTo (returned_faults e) old.opened new.opened) (sym logged) (breaks-writes old new error failed.broken)))
 
 pub returns-in_err-check_names-clause-full : goal.returns-in_err-check_names-clause-full
 returns-in_err-check_names-clause-full g c f =
@@ -190,10 +192,10 @@ returns-in_err-check_names-clause-full g c f =
 pub returns-in_err-end_change-clause-full : goal.returns-in_err-end_change-clause-full
 returns-in_err-end_change-clause-full g c f =
     let (error, is, logged, made, count) = c.in_err-end_change.ensures in
-    let full = rw is at c.accept_user_clause-accepted.ensures.full in
+    let failed = rw is at c.accept_user_clause-accepted.ensures.fails in
     let e = c.in_err-end_change.field-0.0 in
     let refused = logged-error c.from_residual-in_err-end_change.result e c.from_residual-in_err-end_change.ensures in
-    rw made (full (refused-full error (sym logged ∙ same-error e ClauseStoreFull (sym refused ∙ f))))
+    rw made (failed.full (refused-full error (sym logged ∙ same-error e ClauseStoreFull (sym refused ∙ f))))
 
 pub returns-in_err-ensure_valid-clause-call : goal.returns-in_err-ensure_valid-clause-call
 returns-in_err-ensure_valid-clause-call g c s st =

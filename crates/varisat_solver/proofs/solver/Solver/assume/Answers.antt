@@ -31,9 +31,10 @@ invariant_of-self-2 g c _ =
     let (is, counted) = c.in_ok-end_change.ensures in
     let new = c.assume_list-assumed.new in
     let (s, fits, fresh) = (c.self.invariant c.in_ok-ensure_valid.ensures).represents in
-    let (variables, keep, proof, now) = (rw is at c.assume_list-assumed.ensures.assumed) s fits in
+    let assumed = rw is at c.assume_list-assumed.ensures.assumed in
+    let (variables, keep, proof, now) = assumed.represents s fits in
     kept-changed new.tracer.tables new.tracer.proof new.ctx c.end_change.new.ctx true c.end_change.new.changed_at counted
-    (rw is at c.assume_list-assumed.ensures.valid) (rw is at c.assume_list-assumed.ensures.logs) (_, now, λ e. absurd cc)
+    assumed.kept assumed.logs (_, now, λ e. absurd cc)
 
 pub returns-in_err-check_names-clause-call : goal.returns-in_err-check_names-clause-call
 returns-in_err-check_names-clause-call g c s st =
@@ -59,7 +60,8 @@ joins g c s st free =
     let (is, counted) = c.in_ok-end_change.ensures in
     let old = c.self.inside in
     let new = c.assume_list-assumed.new in
-    let (variables, keep, proof, now) = (rw is at c.assume_list-assumed.ensures.assumed) s (st.fits ok) in
+    let assumed = rw is at c.assume_list-assumed.ensures.assumed in
+    let (variables, keep, proof, now) = assumed.represents s (st.fits ok) in
     list-joins s c.args.lits.now (spaces_with old.tracer.tables old.tracer.proof.checker old.ctx)
     (spaces_with new.tracer.tables new.tracer.proof.checker new.ctx) old.tracer.proof new.tracer.proof variables
     (length new.ctx.clause_alloc.words) (st.fits ok) (proof-fits st ok) free keep proof now
@@ -73,9 +75,8 @@ returns-clause-call g c s st =
     let (is, counted) = c.in_ok-end_change.ensures in
     let free = unbarred-there _ s.variables s.logged s.proof c.bars_assumptions.result (proof-fits q ok) c.bars_assumptions.ensures c.if-bars_assumptions.false in
     let plan = c.assume_list-assumed.ensures.schedule in
-    let state = rw is at c.assume_list-assumed.ensures.state in
-    let kept = rw is at c.assume_list-assumed.ensures.valid in
-    let logs = rw is at c.assume_list-assumed.ensures.logged in
+    let assumed = rw is at c.assume_list-assumed.ensures.assumed in
+    let logs = assumed.logged in
     let j = joins g (goal.at.returns-clause-call g c).In_ok-end_change s q free in (
       j.state,
       (
@@ -85,9 +86,9 @@ returns-clause-call g c s st =
         j.takes,
       ),
       stands-changed (tracer_state old.tracer) (tracer_state new.tracer) old.started old.changed_at c.end_change.new.changed_at old.ctx new.ctx
-          c.end_change.new.ctx s j.state q counted (ap (λ (x : SolverState). x.state_is_invalid) state) (ap (λ (x : Plan). x.steps) plan.schedule)
+          c.end_change.new.ctx s j.state q counted (ap (λ (x : SolverState). x.state_is_invalid) assumed.state) (ap (λ (x : Plan). x.steps) plan.schedule)
           plan.solver_config (checked-runs old.tracer.proof.checker new.tracer.proof.checker _ logs.1.checked) j.ledger j.size j.fits j.proof
-          j.flags kept.bounded,
+          j.flags assumed.kept.bounded,
     )
 
 pub returns-in_err-end_change-clause-call : goal.returns-in_err-end_change-clause-call
@@ -139,8 +140,8 @@ returns-in_err-check_names-clause-target g c =
 pub returns-clause-target : goal.returns-clause-target
 returns-clause-target g c =
     let (is, counted) = c.in_ok-end_change.ensures in
-    let logs = rw is at c.assume_list-assumed.ensures.logged in
-    rw (← c.self.view_is) (logs-writes c.self.inside.tracer.proof c.assume_list-assumed.new.tracer.proof logs)
+    let assumed = rw is at c.assume_list-assumed.ensures.assumed in
+    rw (← c.self.view_is) (logs-writes c.self.inside.tracer.proof c.assume_list-assumed.new.tracer.proof assumed.logged)
 
 pub returns-in_err-end_change-clause-target : goal.returns-in_err-end_change-clause-target
 returns-in_err-end_change-clause-target g c =

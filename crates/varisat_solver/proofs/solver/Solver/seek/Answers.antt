@@ -306,21 +306,21 @@ returns-in-Err-clause-call g c s st =
     let count = counts.count in
     let words = length c.find_verdict.new.ctx.clause_alloc.words in
     let (now, goes, same) = broken-on c.self.inside.tracer.proof c.find_verdict.new.tracer.proof (step_faults c.in-Err.error) s.proof q.same
-    c.in-Err.ensures.broken in (
+    c.in-Err.ensures.fails.broken in (
       broken now words (with_steps n s),
       subst (λ e. Searches s (Err e) (broken now words (with_steps n s))) (sym c.invalidate.ensures.logged)
           (searches-broken c.in-Err.error s (broken now words (with_steps n s))
           (λ f. broken-open c.self.inside.tracer.proof c.find_verdict.new.tracer.proof s.variables s.logged s.proof (proof-fits q ok)
-          (subst (λ k. BreaksProof c.self.inside.tracer.proof k c.find_verdict.new.tracer.proof) f c.in-Err.ensures.broken)) was counts
+          (subst (λ k. BreaksProof c.self.inside.tracer.proof k c.find_verdict.new.tracer.proof) f c.in-Err.ensures.fails.broken)) was counts
           (broken-invalid (step_faults c.in-Err.error) (with_steps n s) now words (stands-valid _ s q ok) goes)
-          (λ f. let room = c.in-Err.ensures.full f in let size = c.in-Err.ensures.size f in
+          (λ f. let (room, size) = c.in-Err.ensures.fails.full f in
           let few = few-made (q.fits ok).0 _ s (q.fits ok).1 in omega (arith, room, size, few))),
       stands-same (tracer_state c.find_verdict.new.tracer) c.self.inside.started c.self.inside.changed_at (invalidated c.find_verdict.new.ctx)
           c.invalidate.new.ctx (broken now words (with_steps n s)) c.invalidate.ensures.invalid (record {
             ledger = ledger-is _ _ _ _ _ _ _ refl (ap (λ (x : Ledger). x.started) q.ledger) refl
                 (more-since c.self.inside.changed_at s.ledger.steps n s.ledger.since (omega (arith, low, steps)) (omega (arith, count))
                 (omega (arith, before, steps))) (ap (λ (x : Ledger). x.settings) q.ledger ∙ sym c.find_verdict.ensures.config)
-                (ap (λ (x : Ledger). x.checking) q.ledger ∙ sym c.in-Err.ensures.broken.2);
+                (ap (λ (x : Ledger). x.checking) q.ledger ∙ sym c.in-Err.ensures.fails.broken.2);
             words = refl;
             same = same;
             fits = λ e. absurd cc;
@@ -363,11 +363,11 @@ pub returns-in-Err-clause-target : goal.returns-in-Err-clause-target
 returns-in-Err-clause-target g c =
     rw (← c.self.view_is) (subst (λ e. WritesUpTo (returned_faults e) c.self.inside.tracer.proof.opened c.find_verdict.new.tracer.proof.opened)
     (sym c.invalidate.ensures.logged)
-    (breaks-writes c.self.inside.tracer.proof c.find_verdict.new.tracer.proof c.in-Err.error c.in-Err.ensures.broken))
+    (breaks-writes c.self.inside.tracer.proof c.find_verdict.new.tracer.proof c.in-Err.error c.in-Err.ensures.fails.broken))
 
 pub returns-in-Err-clause-full : goal.returns-in-Err-clause-full
 returns-in-Err-clause-full g c f =
-    rw c.invalidate.ensures.invalid (c.in-Err.ensures.full (refused-full c.in-Err.error (sym c.invalidate.ensures.logged ∙ same-error _ ClauseStoreFull f)))
+    rw c.invalidate.ensures.invalid (c.in-Err.ensures.fails.full (refused-full c.in-Err.error (sym c.invalidate.ensures.logged ∙ same-error _ ClauseStoreFull f))).0
 
 -- 4. Which variables left.
 pub returns-in-Ok-Some-clause-leaves : goal.returns-in-Ok-Some-clause-leaves

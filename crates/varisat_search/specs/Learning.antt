@@ -1,16 +1,20 @@
 -- What a conflict that is learned from does to activities, and where the learned clause is stored.
-use Rattle.std.specs.Prelude.{◌≡◌, List}
+use Rattle.std.specs.Prelude.{◌≡◌, ◌<◌, List, length}
+use Rattle.varisat_theory.specs.promises.Derivations.{Line}
 use Rattle.varisat_prop.specs.declared.prop.graph.Reason.{Reason}
 use Rattle.varisat_prop.specs.declared.prop.graph.Conflict.{Conflict}
 use Rattle.varisat_prop.specs.View.{View}
 use Rattle.varisat_clause.specs.Stores.{Store}
-use Rattle.varisat_analysis.specs.Learned.{Analysis}
+use Rattle.varisat_analysis.specs.Learned.{Analysis, AreInvolved}
 use Rattle.varisat_analysis.specs.Bumps.{literals_among, AreVariablesAbove, BumpsInvolved}
 use Rattle.varisat_analysis.specs.Assessments.{glue_of, assessed, BumpsClauses}
 use Rattle.varisat_vsids.specs.Activities.{Activities}
 use Rattle.varisat_search.specs.declared.context.Context.{Context}
-use Rattle.varisat_search.specs.Contexts.{view}
+use Rattle.varisat_search.specs.Contexts.{view, IsNotUnsat}
 use Rattle.varisat_search.specs.Conflicts.{IsStoredAsReason}
+use Rattle.varisat_search.specs.Progress.{IsStepFurther}
+use Rattle.varisat_search.specs.RootSimplified.{KeepsFixed}
+use Rattle.varisat_search.specs.Steps.{SavesSome}
 
 -- analysis met each variable above level 0 of the clauses that it went over, once
 abbrev pub HasMet : View → Analysis → Type 0
@@ -34,3 +38,15 @@ BumpsAndStores x y =
     × BumpsClauses x.impl_graph.nodes.items y.analyze_conflict.involved x.clause_alloc s x.clause_activity y.clause_activity
     × ((r : Reason) × IsStoredAsReason s y.clause_alloc
     (assessed (glue_of x.impl_graph.nodes.items y.analyze_conflict.clause)) y.analyze_conflict.clause r)
+
+-- The search learned from the conflict, by lines for which `are` holds. Above level 0 the variables and the clauses that the learned
+-- one came from are bumped, and it is stored.
+pub record LearnsFrom {A : Type 0} (are : List Line → Type 0) (conflict : Conflict) (x y : Context A) : Type 0 where
+  pub further : IsStepFurther are x y
+  pub involved : AreInvolved (view x) conflict y.analyze_conflict.involved
+  pub bumps : 0 < length x.trail.decisions → BumpsVariables x y
+  pub stored : 0 < length x.trail.decisions → BumpsAndStores x y
+  -- what is remembered fits where it backtracked to
+  pub last : SavesSome (view x) x.assignment.last y.assignment.last
+  -- at level 0 the clauses are refuted; else its literals stay, or one is new
+  pub fixed : IsNotUnsat y → (0 < length x.trail.decisions) × KeepsFixed (view x) (view y)

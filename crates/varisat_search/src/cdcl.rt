@@ -14,16 +14,16 @@ ghost use Rattle.varisat_prop.specs.QueueSteps.{EndsPropagation, IsFullyPropagat
 ghost use Rattle.varisat_analysis.specs.Learned.{IsLearned, AreInvolved};
 ghost use Rattle.varisat_search.specs.Contexts.{view, IsNotUnsat, IsReady};
 ghost use Rattle.varisat_search.specs.Frames.{ChangesAnalysis, ChangesClauses, ChangesPropagated, ChangesRootSimplified, SearchesOn};
-ghost use Rattle.varisat_search.specs.Steps.{IsPropagatedToEnd, SavesSome};
+ghost use Rattle.varisat_search.specs.Steps.{IsPropagatedToEnd};
 ghost use Rattle.varisat_search.specs.Seen.{search_of};
 ghost use Rattle.varisat_theory.specs.promises.Journals.{Fails};
 ghost use Rattle.varisat_steps.specs.Traces.{TakesLines, TakesStep, LogsLines, BreaksOff, faults_of, CanTake, CanFail, AdmitsFor};
 ghost use Rattle.varisat_search.specs.AssumptionParts.{TakesOutImplied};
 ghost use Rattle.varisat_search.specs.Conflicts.{ComesToDecision, EndsOrStops, keeping_of, IsKeptAsReason, IsStoredAsReason, IsWatchedAsReason};
-ghost use Rattle.varisat_search.specs.Learning.{HasMet, BumpsVariables, BumpsAndStores};
+ghost use Rattle.varisat_search.specs.Learning.{HasMet, LearnsFrom};
 ghost use Rattle.varisat_search.specs.RootSimplified.{HasRootNews, FixesNone, KeepsFixed, FixesByLearning, SimplifiesRootByLines, SimplifiesRootIfNews, IsRootSimplified, SimplifiesAndSteps};
 ghost use Rattle.varisat_search.specs.StepErrors.{EndsStep, step_faults};
-ghost use Rattle.varisat_search.specs.Progress.{outcome_at, AddOne, AddOneIfUnknown, IsStepFurther, MakesStep};
+ghost use Rattle.varisat_search.specs.Progress.{outcome_at, AddOne, AddOneIfUnknown, MakesStep};
 ghost use Rattle.varisat_search.specs.FoundCores.{HasCoreIfFailed};
 
 use crate::assess::{assess_learned, bump_involved_clauses};
@@ -237,16 +237,9 @@ fn learn_from_conflict<A: Allocator + Copy, P: ProofTracer>(
     requires conflict { IsConflicting (view ctx.old) conflict }
     requires unknown { ctx.old.solver_state.sat_state ≡ SatState.Unknown }
     requires holds { AdmitsFor (P.holds proof.old) (search_of (view ctx.old)) }
-    ensures further { OnOk result
-        (IsStepFurther (λ lines. AddOne lines × TakesLines P.takes proof.old lines proof.new) ctx.old ctx.new) }
-    // Above level 0 the variables of the clauses that the learned one came from are bumped, and activities decay.
-    ensures bumps { OnOk result (0 < length ctx.old.trail.decisions → BumpsVariables ctx.old ctx.new) }
-    // So are the clauses of the store among them, and the learned one gets the glue of the conflict, and its tier.
-    ensures stored { OnOk result (0 < length ctx.old.trail.decisions → BumpsAndStores ctx.old ctx.new) }
-    ensures involved { OnOk result (AreInvolved (view ctx.old) conflict ctx.new.analyze_conflict.involved) }
-    ensures last { OnOk result (SavesSome (view ctx.old) ctx.old.assignment.last ctx.new.assignment.last) }
-    ensures fixed { OnOk result
-        (IsNotUnsat ctx.new → (0 < length ctx.old.trail.decisions) × KeepsFixed (view ctx.old) (view ctx.new)) }
+    ensures learned { OnOk result
+        (LearnsFrom
+        (λ lines. AddOne lines × TakesLines P.takes proof.old lines proof.new) conflict ctx.old ctx.new) }
     ensures ends { EndsStep result ctx.old ctx.new }
     ensures broken { IfErr result (λ error. BreaksOff P.breaks_off proof.old (step_faults error) proof.new) }
 {

@@ -67,7 +67,7 @@ returns-in_ok-find_and_learn-in-Ok-clause-made g c =
 
 pub returns-in_ok-learn_from_conflict-in-Err-clause-made : goal.returns-in_ok-learn_from_conflict-in-Err-clause-made
 returns-in_ok-learn_from_conflict-in-Err-clause-made g c =
-    let e = c.in_ok-learn_from_conflict-in-Err.ensures in
+    let e = c.in_ok-learn_from_conflict-in-Err.ensures.learned in
     let takes = g.P.ProofTracer.takes in
     let p1 = c.simplify_root_if_news.new.proof in
     let p2 = c.learn_from_conflict.new.proof in
@@ -87,7 +87,7 @@ returns-in_ok-find_and_learn-in-Ok-clause-core g c = c.in_ok-find_and_learn-in-O
 
 pub returns-in_ok-learn_from_conflict-in-Err-clause-core : goal.returns-in_ok-learn_from_conflict-in-Err-clause-core
 returns-in_ok-learn_from_conflict-in-Err-clause-core g c u =
-    absurd (learned-no-core c.learn_from_conflict.new.ctx.solver_state.sat_state c.in_ok-learn_from_conflict-in-Err.ensures.further.known u)
+    absurd (learned-no-core c.learn_from_conflict.new.ctx.solver_state.sat_state c.in_ok-learn_from_conflict-in-Err.ensures.learned.further.known u)
 
 pub returns-in_ok-find_and_learn-in-Ok-clause-fixes : goal.returns-in_ok-find_and_learn-in-Ok-clause-fixes
 returns-in_ok-find_and_learn-in-Ok-clause-fixes g c =
@@ -104,7 +104,7 @@ returns-in_ok-find_and_learn-in-Ok-clause-fixes g c =
 pub returns-in_ok-learn_from_conflict-in-Err-clause-fixes : goal.returns-in_ok-learn_from_conflict-in-Err-clause-fixes
 returns-in_ok-learn_from_conflict-in-Err-clause-fixes g c =
     let s = c.in_ok-simplify_root_if_news.ensures in
-    let e = c.in_ok-learn_from_conflict-in-Err.ensures in
+    let e = c.in_ok-learn_from_conflict-in-Err.ensures.learned in
     let other : c.in_ok-simplify_root_if_news.field-0 ≡ Ok tt → ⊥ = λ o. (let z : Err c.in-Err.conflict ≡ Ok tt = sym c.in-Err.is ∙ o in cc) in
     record {
       keeps = λ calm n. absurd (other (s.stays calm).1);

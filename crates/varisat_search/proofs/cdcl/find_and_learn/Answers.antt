@@ -63,7 +63,7 @@ returns-in_ok-trace_core-in-Err-Assumption-clause-made g c =
 pub returns-in_ok-learn_from_conflict-in-Err-Conflict-clause-made : goal.returns-in_ok-learn_from_conflict-in-Err-Conflict-clause-made
 returns-in_ok-learn_from_conflict-in-Err-Conflict-clause-made g c =
     let here = (goal.at.returns-in_ok-learn_from_conflict-in-Err-Conflict-clause-made g c).In_ok-find_conflict in
-    let e = c.in_ok-learn_from_conflict-in-Err-Conflict.ensures in
+    let e = c.in_ok-learn_from_conflict-in-Err-Conflict.ensures.learned in
     let z = c.learn_from_conflict.new.ctx in
     let v = outcome_of (view z) z.assumptions.failed_core z.solver_state.sat_state in
     made-are c.args.ctx.now z (λ lines. AddOne lines × TakesLines g.P.ProofTracer.takes c.args.proof.now lines c.learn_from_conflict.new.proof)
@@ -85,7 +85,7 @@ returns-in_ok-trace_core-in-Err-Assumption-clause-core g c u =
 
 pub returns-in_ok-learn_from_conflict-in-Err-Conflict-clause-core : goal.returns-in_ok-learn_from_conflict-in-Err-Conflict-clause-core
 returns-in_ok-learn_from_conflict-in-Err-Conflict-clause-core g c u =
-    absurd (learned-no-core c.learn_from_conflict.new.ctx.solver_state.sat_state c.in_ok-learn_from_conflict-in-Err-Conflict.ensures.further.known u)
+    absurd (learned-no-core c.learn_from_conflict.new.ctx.solver_state.sat_state c.in_ok-learn_from_conflict-in-Err-Conflict.ensures.learned.further.known u)
 
 pub returns-in-Ok-clause-fixed : goal.returns-in-Ok-clause-fixed
 returns-in-Ok-clause-fixed g c calm n = inl (c.in_ok-find_conflict.ensures.fixed calm).0
@@ -95,7 +95,7 @@ returns-in_ok-trace_core-in-Err-Assumption-clause-fixed g c calm n = inl (c.in_o
 
 pub returns-in_ok-learn_from_conflict-in-Err-Conflict-clause-fixed : goal.returns-in_ok-learn_from_conflict-in-Err-Conflict-clause-fixed
 returns-in_ok-learn_from_conflict-in-Err-Conflict-clause-fixed g c calm n =
-    ⊎_elim (λ e. inl (e ∙ (c.in_ok-find_conflict.ensures.fixed calm).0)) inr (c.in_ok-learn_from_conflict-in-Err-Conflict.ensures.fixed n).1
+    ⊎_elim (λ e. inl (e ∙ (c.in_ok-find_conflict.ensures.fixed calm).0)) inr (c.in_ok-learn_from_conflict-in-Err-Conflict.ensures.learned.fixed n).1
 
 -- what the tracer may hold fits the search after propagation and decisions
 holds : (g : Over) (c : In_ok-find_conflict g) → AdmitsFor (g.P.ProofTracer.holds c.args.proof.now) (search_of (view c.find_conflict.new.ctx))

@@ -1,6 +1,6 @@
 use Rattle.varisat_steps.proofs.Broken.{breaks-on, breaks-not}
 use Rattle.varisat_search.proofs.stepping.StepErrors.{memory-broken, trace-broken, store-broken, if-full, ends-unfilled, memory-unfilled, trace-unfilled}
-use Rattle.std.proofs.Common.{◌≡◌, List, [], ◌∷◌, ◌++◌, refl, sym, ap, ◌∙◌, subst, length, arith}
+use Rattle.std.proofs.Common.{◌≡◌, ◌<◌, List, [], ◌∷◌, ◌++◌, refl, sym, ap, ◌∙◌, subst, length, arith}
 use Rattle.varisat_theory.specs.promises.Literals.{Literal, Clause}
 use Rattle.varisat_theory.specs.promises.Derivations.{Line, Add}
 use Rattle.varisat_search.proofs.stepping.ViewSearch.{view_reads}
@@ -16,6 +16,7 @@ use Rattle.varisat_search.specs.StepErrors.{step_error_of_trace}
 use Rattle.varisat_search.specs.declared.error.StepError.TheVariants as step
 use Rattle.varisat_analysis.specs.Learned.{Analysis, AreInvolved}
 use Rattle.varisat_search.specs.Steps.{SavesSome}
+use Rattle.varisat_search.specs.Learning.{BumpsVariables, BumpsAndStores}
 use Rattle.varisat_search.specs.Progress.{AddOne, IsStepFurther}
 use Rattle.varisat_analysis.specs.Assessments.{glue_of, assessed}
 use Rattle.varisat_search.specs.Conflicts.{IsStoredAsReason}
@@ -195,9 +196,11 @@ enqueue_assignment-requires g c =
     let fits = learning-fits d in
     record { assignable = (f.0, learning-node d, f.1); level = omega (arith, fits.0); depth = fits.1 }
 
-pub returns-clause-further : goal.returns-clause-further
-returns-clause-further g c =
-    let here = goal.at.returns-clause-further g c in
+-- What comes of a clause that has literals.
+learned-further : (g : Over) (c : In_ok-enqueue_assignment g) → IsStepFurther
+    (λ lines. AddOne lines × TakesLines g.P.ProofTracer.takes c.args.proof.now lines c.trace_learned.new.proof) c.args.ctx.now (last g c)
+learned-further g c =
+    let here = goal.at.returns-clause-learned g c in
     let d = learning g here.In_ok-reason (undone g here.After-backtrack) in
     further g here.After-backtrack (last g here.In_ok-enqueue_assignment)
     (learning-further d (last g here.In_ok-enqueue_assignment) refl
@@ -205,9 +208,9 @@ returns-clause-further g c =
     (taken g here.After-backtrack) (taken-is g here.After-backtrack (c.in-Some.first ∷ c.in-Some.ensures.0)
     (sym c.clause.ensures ∙ c.in-Some.ensures.1)))
 
-pub returns-clause-bumps : goal.returns-clause-bumps
-returns-clause-bumps g c h =
-    let here = goal.at.returns-clause-bumps g c in
+learned-bumps : (g : Over) (c : In_ok-enqueue_assignment g) → 0 < length c.args.ctx.now.trail.decisions → BumpsVariables c.args.ctx.now (last g c)
+learned-bumps g c h =
+    let here = goal.at.returns-clause-learned g c in
     let d = learning g here.In_ok-reason (undone g here.After-backtrack) in
     let analysis : (x : Context g.row.A.Denot) → Analysis = λ x. x.analyze_conflict in
     let activities : (x : Context g.row.A.Denot) → Activities = λ x. x.vsids in
@@ -224,9 +227,9 @@ returns-clause-bumps g c h =
           ∙ ap (λ (v : Activities). record v { available = w.vsids.available }) same),
     )
 
-pub returns-clause-stored : goal.returns-clause-stored
-returns-clause-stored g c h =
-    let here = goal.at.returns-clause-stored g c in
+learned-stored : (g : Over) (c : In_ok-enqueue_assignment g) → 0 < length c.args.ctx.now.trail.decisions → BumpsAndStores c.args.ctx.now (last g c)
+learned-stored g c h =
+    let here = goal.at.returns-clause-learned g c in
     let b = here.After-backtrack in
     let analysis : (x : Context g.row.A.Denot) → Analysis = λ x. x.analyze_conflict in
     let x0 = c.args.ctx.now in
@@ -263,51 +266,39 @@ returns-clause-stored g c h =
       ),
     )
 
-pub returns-clause-involved : goal.returns-clause-involved
-returns-clause-involved g c =
-    let analysis : (x : Context g.row.A.Denot) → Analysis = λ x. x.analyze_conflict in
-    subst (λ (a : Analysis). AreInvolved (view c.args.ctx.now) c.args.conflict a.involved)
-    (sym (ap analysis c.keep_learned.ensures.frame ∙ analysis-stays g (goal.at.returns-clause-involved g c).After-backtrack)) c.in_ok-level.ensures.involved
-
-pub returns-clause-fixed : goal.returns-clause-fixed
-returns-clause-fixed g c n =
-    let here = goal.at.returns-clause-fixed g c in
-    learning-fixed (learning g here.In_ok-reason (undone g here.After-backtrack)) (last g here.In_ok-enqueue_assignment) refl
-    (c.in_ok-enqueue_assignment.ensures.view c.keep_learned.new.ctx.clause_alloc c.keep_learned.new.ctx.binary_clauses)
-
-pub returns-in_default-clause-fixed : goal.returns-in_default-clause-fixed
-returns-in_default-clause-fixed g c n = absurd (n refl)
-
-pub returns-clause-last : goal.returns-clause-last
-returns-clause-last g c =
+pub returns-clause-learned : goal.returns-clause-learned
+returns-clause-learned g c =
+    let here = goal.at.returns-clause-learned g c in
+    let b = here.After-backtrack in
     let x0 = c.args.ctx.now in
+    let analysis : (x : Context g.row.A.Denot) → Analysis = λ x. x.analyze_conflict in
     let e = c.in_ok-enqueue_assignment.ensures.last ∙ ap (λ (x : Context g.row.A.Denot). x.assignment.last) c.keep_learned.ensures.frame in
-    let b = (goal.at.returns-clause-last g c).After-backtrack in
-    subst (λ xs. SavesSome (view x0) x0.assignment.last xs) (sym e) (saves g b)
+    record {
+      further = learned-further g c;
+      involved = subst (λ (a : Analysis). AreInvolved (view x0) c.args.conflict a.involved)
+          (sym (ap analysis c.keep_learned.ensures.frame ∙ analysis-stays g b)) c.in_ok-level.ensures.involved;
+      bumps = learned-bumps g c;
+      stored = learned-stored g c;
+      last = subst (λ xs. SavesSome (view x0) x0.assignment.last xs) (sym e) (saves g b);
+      fixed = λ n. learning-fixed (learning g here.In_ok-reason (undone g b)) (last g here.In_ok-enqueue_assignment) refl
+          (c.in_ok-enqueue_assignment.ensures.view c.keep_learned.new.ctx.clause_alloc c.keep_learned.new.ctx.binary_clauses);
+    }
 
-pub returns-in_default-clause-further : goal.returns-in_default-clause-further
-returns-in_default-clause-further g c =
-    let b = (goal.at.returns-in_default-clause-further g c).After-backtrack in
+-- What comes of the empty clause: no decision was made.
+pub returns-in_default-clause-learned : goal.returns-in_default-clause-learned
+returns-in_default-clause-learned g c =
+    let b = (goal.at.returns-in_default-clause-learned g c).After-backtrack in
     let e = sym c.clause.ensures ∙ c.in_default.ensures in
-    further g b _ (refuted-further (undone g b) e (taken g b) (taken-is g b [] e))
-
-pub returns-in_default-clause-bumps : goal.returns-in_default-clause-bumps
-returns-in_default-clause-bumps g c h =
-    let z = refuted-undecided (undone g (goal.at.returns-in_default-clause-bumps g c).After-backtrack) (sym c.clause.ensures ∙ c.in_default.ensures) in
-    absurd (omega (arith, h, z))
-
-pub returns-in_default-clause-stored : goal.returns-in_default-clause-stored
-returns-in_default-clause-stored g c h =
-    let z = refuted-undecided (undone g (goal.at.returns-in_default-clause-stored g c).After-backtrack) (sym c.clause.ensures ∙ c.in_default.ensures) in
-    absurd (omega (arith, h, z))
-
-pub returns-in_default-clause-involved : goal.returns-in_default-clause-involved
-returns-in_default-clause-involved g c =
-    subst (λ (a : Analysis). AreInvolved (view c.args.ctx.now) c.args.conflict a.involved)
-    (sym (analysis-stays g (goal.at.returns-in_default-clause-involved g c).After-backtrack)) c.in_ok-level.ensures.involved
-
-pub returns-in_default-clause-last : goal.returns-in_default-clause-last
-returns-in_default-clause-last g c = saves g (goal.at.returns-in_default-clause-last g c).After-backtrack
+    let none = refuted-undecided (undone g b) e in
+    record {
+      further = further g b _ (refuted-further (undone g b) e (taken g b) (taken-is g b [] e));
+      involved = subst (λ (a : Analysis). AreInvolved (view c.args.ctx.now) c.args.conflict a.involved)
+          (sym (analysis-stays g b)) c.in_ok-level.ensures.involved;
+      bumps = λ h. absurd (omega (arith, h, none));
+      stored = λ h. absurd (omega (arith, h, none));
+      last = saves g b;
+      fixed = λ n. absurd (n refl);
+    }
 
 -- the schedule stays until levels are undone, and while the clause is kept
 planned : (g : Over) (c : After-backtrack g) → KeepsSchedule c.args.ctx.now c.backtrack.new.ctx

@@ -32,10 +32,6 @@ SameDecidable s a t b = (v : ℕ) → IsDecidable s a v ↔ IsDecidable t b v
 abbrev pub SameDecidableBut : ℕ → View → Activities → View → Activities → Type 0
 SameDecidableBut v s a t b = (w : ℕ) → w ≢ v → IsDecidable s a w ↔ IsDecidable t b w
 
--- Exactly the variables are decidable that were so, and those from the first number on that are below the second.
-abbrev pub AddsDecidable : ℕ → ℕ → View → Activities → View → Activities → Type 0
-AddsDecidable first count s a t b = (v : ℕ) → IsDecidable t b v ↔ (IsDecidable s a v ⊎ ((first ≤ v) × (v < count)))
-
 -- Backtracking to the level makes exactly the variables that leave the trail available, and each other one stays as it was.
 pub record MakesAvailable (s : View) (level : ℕ) (a b : Activities) : Type 0 where
   pub rest : b ≡ record a { available = b.available }

@@ -115,6 +115,8 @@ impl<A: Allocator + Copy> Context<A> {
 
 /// Raises the count of variables. The new ones have no value, had the value false, and are not available for decisions.
 /// A refused growth forgets no value that was remembered.
+#[cold]
+#[inline(never)]
 pub fn set_var_count<A: Allocator + Copy>(
     ctx: &mut Context<A>,
     count: usize,

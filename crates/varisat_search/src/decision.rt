@@ -4,12 +4,12 @@ ghost use Rattle.varisat_prop.specs.View.{WellFormed, kept};
 ghost use Rattle.varisat_prop.specs.Changes.{IsAssignable};
 ghost use Rattle.varisat_vsids.specs.Activities.{with_available};
 ghost use Rattle.varisat_search.specs.Contexts.{view, IsReady};
-ghost use Rattle.varisat_search.specs.Frames.{ChangesDecisions, ChangesTrail, ChangesVariables, GoesForward};
-ghost use Rattle.varisat_search.specs.ContextChanges.{DecidesLit, DecidesIfLeft, CanRaise, IsRaisedTo};
-ghost use Rattle.varisat_search.specs.Decisions.{CanDecide, IsDecidable, SameDecidable, SameDecidableBut, AddsDecidable, TakesUnassigned, initialized};
+ghost use Rattle.varisat_search.specs.Frames.{ChangesDecisions, ChangesTrail, GoesForward};
+ghost use Rattle.varisat_search.specs.ContextChanges.{DecidesLit, DecidesIfLeft};
+ghost use Rattle.varisat_search.specs.Decisions.{CanDecide, IsDecidable, SameDecidable, SameDecidableBut, TakesUnassigned, initialized};
 ghost use Rattle.varisat_search.specs.Forgotten.{AreNotOf, IsUnmentioned};
 
-use crate::context::{Context, set_var_count};
+use crate::context::Context;
 use std::alloc::{AllocError, Allocator};
 use varisat_literals::{Lit, Var};
 use varisat_prop::prop::{Assignment, Reason, enqueue_assignment};
@@ -84,7 +84,8 @@ pub fn make_available<A: Allocator + Copy>(ctx: &mut Context<A>, var: Var)
     ctx.vsids.make_available(var);
 }
 
-/// Begins anew with the variable: its activity is 0, and it becomes available for decisions where that is asked.
+/// Begins anew with the variable: its activity is 0, and it becomes available for decisions where that is asked. For a
+/// caller that raises the count of variables by itself.
 pub fn initialize_var<A: Allocator + Copy>(ctx: &mut Context<A>, var: Var, available: bool)
     requires ready { IsReady ctx.old }
     requires known { var < length ctx.old.assignment.current }
@@ -98,31 +99,6 @@ pub fn initialize_var<A: Allocator + Copy>(ctx: &mut Context<A>, var: Var, avail
     if available {
         make_available(ctx, var);
     }
-}
-
-/// Raises the count of variables. The new ones have no value, had the value false, and are available for decisions. No
-/// value that was remembered is forgotten.
-#[cold]
-#[inline(never)]
-pub fn add_variables<A: Allocator + Copy>(
-    ctx: &mut Context<A>,
-    count: usize,
-) -> Result<(), AllocError>
-    requires { CanRaise count ctx.old }
-    ensures raised { OnOk result (IsRaisedTo count ctx.old ctx.new) }
-    ensures decidable { OnOk result
-        (AddsDecidable (length ctx.old.assignment.current) count (view ctx.old) ctx.old.vsids
-        (view ctx.new) ctx.new.vsids) }
-    ensures remembered { (v : ℕ) →
-        slice_index_or ctx.new.assignment.last v false ≡ slice_index_or ctx.old.assignment.last v false }
-    ensures frame { ChangesVariables ctx.old ctx.new }
-{
-    let first = ctx.assignment.assignment().len();
-    set_var_count(ctx, count)?;
-    for index in first..count {
-        initialize_var(ctx, Var::from_index(index), true);
-    }
-    Ok(())
 }
 
 /// Makes the variable unavailable for decisions. A search goes on where no kept clause and no assumption names the

@@ -15,8 +15,8 @@ ghost use Rattle.varisat_search.specs.Forgotten.{AreNotOf, IsUnmentioned};
 ghost use Rattle.varisat_search.specs.Seen.{search_of};
 ghost use Rattle.varisat_search.specs.SolverVariables.{HasRoom, HasRoomFor, searched_with, HasVariables, KeepsSeen, HasUnitAgain, HasSolverVariable, NameHasSolver, RemovesSolver, HaveSolversInTurn, AreOver};
 
-use crate::context::Context;
-use crate::decision::{add_variables, make_available, remove_var};
+use crate::context::{Context, set_var_count};
+use crate::decision::{make_available, remove_var};
 use crate::load::resurrect_unit;
 use std::alloc::{AllocError, Allocator};
 use varisat_literals::{Lit, Var};
@@ -70,7 +70,7 @@ pub fn solver_from_global<A: Allocator + Copy>(
     }
     let solver = variables.take_solver_var(global)?;
     variables.prove_linked();
-    add_variables(ctx, variables.solver_watermark())?;
+    set_var_count(ctx, variables.solver_watermark())?;
     let unit = variables.var_data_global(global).unit;
     initialize_solver_var(ctx, solver, unit)?;
     Ok(solver)
@@ -124,7 +124,8 @@ pub fn solver_from_user_lits<A: Allocator + Copy>(
 
 /// Takes the solver variable from its global variable, which is returned and may be used again where it has no name and
 /// is isolated. The search does not decide the solver variable any more, and goes on where no kept clause and no
-/// assumption names it. Where memory is refused nothing changes.
+/// assumption names it. Where memory is refused nothing changes. For a caller that removes one variable: those that leave
+/// in a step leave together, by `detach_variables`.
 pub fn remove_solver_var<A: Allocator + Copy>(
     ctx: &mut Context<A>,
     variables: &mut LinkedVariables<A>,

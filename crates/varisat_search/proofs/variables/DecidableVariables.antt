@@ -16,7 +16,7 @@ use Rattle.varisat_prop.proofs.views.WellFormedChanges.{kept-here}
 use Rattle.varisat_prop.proofs.views.ViewGrowth.{literal-stays, grows-longer}
 use Rattle.varisat_vsids.specs.Activities.{Activities, is_available}
 use Rattle.varisat_search.specs.Steps.{IsCut}
-use Rattle.varisat_search.specs.Decisions.{HasActivities, IsDecidable, AreDecidable, CanDecide, SameDecidable, SameDecidableBut, AddsDecidable, MakesAvailable, IsNextDecision, TakesUnassigned}
+use Rattle.varisat_search.specs.Decisions.{HasActivities, IsDecidable, AreDecidable, CanDecide, SameDecidable, SameDecidableBut, MakesAvailable, IsNextDecision, TakesUnassigned}
 use Rattle.varisat_analysis.proofs.WellFormedViews.{kept-reordered, same-place}
 use Rattle.varisat_search.proofs.stepping.StepOutcome.{variable-literal, polarity-literal}
 use Rattle.varisat_search.proofs.stepping.StepWithoutLines.{proved_back}
@@ -44,32 +44,6 @@ same-trans s a t b u c g h v = ((λ d. (h v).0 ((g v).0 d)), (λ d. (g v).1 ((h 
 pub still-decidable : (v : ℕ) (s : View) (a : Activities) (t : View) (b : Activities) → IsDecidable t b v → SameDecidableBut v s a t b → (w : ℕ) →
     IsDecidable s a w → IsDecidable t b w
 still-decidable v s a t b d o w h = ⊎_elim (λ e. subst (IsDecidable t b) (sym e) d) (λ n. (o w n).0 h) (equal_or_not w v)
-
--- none was added yet
-pub none-added : (first : ℕ) (s : View) (a : Activities) (t : View) (b : Activities) → SameDecidable s a t b → AddsDecidable first first s a t b
-none-added first s a t b g v = ((λ h. inl ((g v).1 h)), (λ h. ⊎_elim (λ d. (g v).0 d) (λ (x, y). absurd (omega (arith, x, y))) h))
-
--- and one more is
-pub one-more-added : (first n : ℕ) (s : View) (a : Activities) (t : View) (b : Activities) (u : View) (c : Activities) → first ≤ n →
-    AddsDecidable first n s a t b → IsDecidable u c n → SameDecidableBut n t b u c → AddsDecidable first (n + 1) s a u c
-one-more-added first n s a t b u c l g d o v = (
-  λ h. ⊎_elim
-      (λ e. inr (omega (arith, e, l), omega (arith, e)))
-      (λ m. ⊎_elim inl (λ (x, y). inr (x, omega (arith, y))) ((g v).0 ((o v m).1 h)))
-      (equal_or_not v n),
-  λ h. ⊎_elim
-      (λ k. still-decidable n t b u c d o v ((g v).1 (inl k)))
-      (λ (x, y). ⊎_elim (λ k. still-decidable n t b u c d o v ((g v).1 (inr (x, k)))) (λ k. subst (IsDecidable u c) (omega (arith, y, k)) d) (cases_lt v n))
-      h,
-)
-
--- all variables below n were decidable, and those up to m were added
-pub all-decidable : (n m : ℕ) (s : View) (a : Activities) (t : View) (b : Activities) → n ≤ m → ((v : ℕ) → IsDecidable s a v ↔ (v < n)) →
-    AddsDecidable n m s a t b → (v : ℕ) → IsDecidable t b v ↔ (v < m)
-all-decidable n m s a t b l g h v = (
-  λ d. ⊎_elim (λ o. let k = (g v).0 o in omega (arith, k, l)) (λ (x, y). y) ((h v).0 d),
-  λ k. (h v).1 (⊎_elim (λ o. inl ((g v).1 o)) (λ o. inr (o, k)) (cases_lt v n)),
-)
 
 -- the values and what is available decide
 pub same-read : (s : View) (a : Activities) (t : View) (b : Activities) → t.values ≡ s.values → b.available ≡ a.available → SameDecidable s a t b

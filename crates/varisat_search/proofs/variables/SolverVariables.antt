@@ -24,12 +24,12 @@ use Rattle.varisat_search.specs.declared.state.SolverState.{SolverState}
 use Rattle.varisat_search.specs.AssumptionParts.{AssumptionParts}
 use Rattle.varisat_search.specs.Contexts.{view}
 use Rattle.varisat_search.specs.Steps.{reopened_state}
-use Rattle.varisat_search.specs.Decisions.{IsDecidable, CanDecide, SameDecidableBut, AddsDecidable}
+use Rattle.varisat_search.specs.Decisions.{IsDecidable, CanDecide, SameDecidable, SameDecidableBut}
 use Rattle.varisat_search.specs.Seen.{search_of}
 use Rattle.varisat_search.specs.SolverVariables.{HasRoom, HasRoomFor, Searched, HasVariables, KeepsSeen, HasUnitAgain, HasSolverVariable, HadOne, TookOne, CameBack, NameHasSolver, HaveSolversInTurn, AreOver}
 use Rattle.varisat_search.proofs.stepping.ViewSearch.{seen_clauses, fixed_from}
 use Rattle.varisat_search.proofs.variables.KeptNames.{one-keeps}
-use Rattle.varisat_search.proofs.variables.TakenSolvers.{taken-stays, taken-there, taken-here, taken-other, taken-full, taken-between, solvers-within}
+use Rattle.varisat_search.proofs.variables.TakenSolvers.{taken-stays, taken-there, taken-here, taken-other, taken-full, solvers-within}
 
 -- 1. One search.
 
@@ -47,24 +47,21 @@ is-there None h = absurd (let z : false ≡ true = h in cc)
 is-there (Some v) h = (v, refl)
 
 -- the solver variable that was taken may be decided, as those before
-pub taken-decidable : (m n : Tables) (x v c : ℕ) (s : View) (a : Activities) (t : View) (b : Activities) (u : View) (e : Activities) →
-    IsTaken m n x v → ((w : ℕ) → IsDecidable s a w ↔ IsSome (at m.solvers.backward w)) → c ≡ length m.solvers.backward →
-    AddsDecidable c (length n.solvers.backward) s a t b → IsDecidable u e v → SameDecidableBut v t b u e → (w : ℕ) →
-    IsDecidable u e w ↔ IsSome (at n.solvers.backward w)
-taken-decidable m n x v c s a t b u e k before same adds made others o = (
+pub taken-decidable : (m n : Tables) (x v : ℕ) (s : View) (a : Activities) (t : View) (b : Activities) (u : View) (e : Activities) →
+    IsTaken m n x v → ((w : ℕ) → IsDecidable s a w ↔ IsSome (at m.solvers.backward w)) → SameDecidable s a t b → IsDecidable u e v →
+    SameDecidableBut v t b u e → (w : ℕ) → IsDecidable u e w ↔ IsSome (at n.solvers.backward w)
+taken-decidable m n x v s a t b u e k before same made others o = (
   λ h. ⊎_elim
       (λ q. some-is (at n.solvers.backward o) x (ap (at n.solvers.backward) q ∙ taken-there m n x v k))
-      (λ q. ⊎_elim
-      (λ d. let (y, f) = is-there (at m.solvers.backward o) ((before o).0 d) in some-is (at n.solvers.backward o) y (taken-stays m n x v k o y f))
-      (λ (low, high). let (y, f) = taken-between m n x v k o (omega (arith, low, same)) high in some-is (at n.solvers.backward o) y f)
-      ((adds o).0 ((others o q).1 h)))
+      (λ q. let (y, f) = is-there (at m.solvers.backward o) ((before o).0 ((same o).1 ((others o q).1 h))) in
+      some-is (at n.solvers.backward o) y (taken-stays m n x v k o y f))
       (equal_or_not o v),
   λ h. ⊎_elim
       (λ q. subst (IsDecidable u e) (sym q) made)
       (λ q. let (y, f) = is-there (at n.solvers.backward o) h in
-      (others o q).0 ((adds o).1 (inl
+      (others o q).0 ((same o).0
       ((before o).1 (some-is (at m.solvers.backward o) y
-      (sym (updated-other (at m.solvers.backward) v (Some x) o q) ∙ sym (k.solvers.backward.at_each o) ∙ f))))))
+      (sym (updated-other (at m.solvers.backward) v (Some x) o q) ∙ sym (k.solvers.backward.at_each o) ∙ f)))))
       (equal_or_not o v),
 )
 

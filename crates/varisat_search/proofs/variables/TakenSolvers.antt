@@ -104,14 +104,6 @@ module _ (old new : Tables) (x v : ℕ) (t : IsTaken old new x v) where
           let z : None ≡ Some y = sym n ∙ t.solvers.backward.at_each u ∙ e in
           cc
 
-  -- so those that the watermark came to pass are in use
-  pub taken-between : (w : ℕ) → length old.solvers.backward ≤ w → w < length new.solvers.backward → (y : ℕ) × (at new.solvers.backward w ≡ Some y)
-  taken-between w low high =
-      ⊎_elim
-      (λ same. absurd (omega (arith, same, low, high)))
-      (λ full. ⊎_elim (λ e. absurd (full w high e)) (λ r. r) (is-some (at new.solvers.backward w)))
-      taken-full
-
 -- where all solver variables below the watermark are in use, there are no more than global variables
 pub solvers-within : (t : Tables) → AreLinked t → IsFull t.solvers.backward → length t.solvers.backward ≤ length t.kept
 solvers-within t l n =

@@ -7,12 +7,11 @@ use Rattle.varisat_names.specs.promises.VarData.{data_at}
 use Rattle.varisat_names.specs.declared.variables.data.VarData.{VarData}
 use Rattle.varisat_search.specs.declared.context.Context.{Context}
 use Rattle.varisat_search.specs.Contexts.{view}
-use Rattle.varisat_search.specs.Decisions.{AddsDecidable}
 use Rattle.varisat_search.proofs.variables.SolverVariables.{taken-decidable, taken-small, taken-room, in-use-all, solver-case}
 use Rattle.varisat_search.proofs.solver_variables.solver_from_global.Goals as goal
 
-pub add_variables-requires : goal.add_variables-requires
-add_variables-requires g c =
+pub set_var_count-requires : goal.set_var_count-requires
+set_var_count-requires g c =
     let k = c.requires.variables in
     let s = taken-small c.args.variables.now c.take_solver_var.new.self c.args.global c.in_ok-solver.solver c.prove_linked.ensures k.room k.solvers
     c.in_ok-solver.ensures.taken in
@@ -25,7 +24,7 @@ initialize_solver_var-requires-clause-unmentioned g c l h e =
     let old = c.args.ctx.now in
     let m = c.args.variables.now in
     let (y, q) = in-use-all m (view old) old.vsids k.decidable k.ready.decidable k.ready.well l
-    (subst (λ s. IsLiteralOf s l) (c.in_ok-add_variables.ensures {u = tt}).raised.seen h) in
+    (subst (λ s. IsLiteralOf s l) (c.in_ok-set_var_count.ensures {u = tt}).raised.seen h) in
     let z : None ≡ Some y = sym c.in_ok-solver.ensures.taken.least.0 ∙ ap (at m.solvers.backward) (sym e) ∙ q in
     cc
 
@@ -36,19 +35,17 @@ returns-clause-variables g c =
     let n = c.take_solver_var.new.self in
     let v = c.in_ok-solver.solver in
     let old = c.args.ctx.now in
-    let mid = c.add_variables.new.ctx in
+    let mid = c.set_var_count.new.ctx in
     let new = c.initialize_solver_var.new.ctx in
     let t = c.in_ok-solver.ensures.taken in
-    let e = c.in_ok-add_variables.ensures {u = tt} in
+    let e = c.in_ok-set_var_count.ensures {u = tt} in
     let i = c.in_ok-initialize_solver_var.ensures {u = tt} in
     record {
       room = taken-room m n c.args.global v k.room t;
       solvers = taken-small m n c.args.global v c.prove_linked.ensures k.room k.solvers t;
       ready = i.ready;
       count = i.others.count ∙ e.raised.count ∙ c.solver_watermark.ensures;
-      decidable = taken-decidable m n c.args.global v (length old.assignment.current) (view old) old.vsids (view mid) mid.vsids
-          (view new) new.vsids t k.decidable k.count
-          (subst (λ j. AddsDecidable (length old.assignment.current) j (view old) old.vsids (view mid) mid.vsids) c.solver_watermark.ensures e.decidable)
+      decidable = taken-decidable m n c.args.global v (view old) old.vsids (view mid) mid.vsids (view new) new.vsids t k.decidable e.added.decidable
           i.decidable i.others.decidable;
     }
 
@@ -60,12 +57,12 @@ returns-clause-solver g c =
     let x = c.args.global in
     let left : at m.solvers.forward x ≡ None = ap (λ b. at b x) (sym c.solver_from_global.ensures) ∙ sym c.get.ensures ∙ c.in_default.is in
     let same = ap (λ (ds : List VarData). data_at ds x) (sym t.kept) ∙ sym c.var_data_global.ensures in
-    solver-case x c.in_ok-solver.solver m n c.args.ctx.now c.add_variables.new.ctx c.initialize_solver_var.new.ctx c.var_data_global.result.now.unit left t
+    solver-case x c.in_ok-solver.solver m n c.args.ctx.now c.set_var_count.new.ctx c.initialize_solver_var.new.ctx c.var_data_global.result.now.unit left t
     (ap (λ (d : VarData). d.unit) same)
     (record {
-      seen = (c.in_ok-add_variables.ensures {u = tt}).raised.seen;
-      state = ap (λ (y : Context g.row.A.Denot). y.solver_state) c.add_variables.ensures.frame;
-      assumptions = ap (λ (y : Context g.row.A.Denot). y.assumptions) c.add_variables.ensures.frame;
+      seen = (c.in_ok-set_var_count.ensures {u = tt}).raised.seen;
+      state = ap (λ (y : Context g.row.A.Denot). y.solver_state) c.set_var_count.ensures.frame;
+      assumptions = ap (λ (y : Context g.row.A.Denot). y.assumptions) c.set_var_count.ensures.frame;
     })
     (c.in_ok-initialize_solver_var.ensures {u = tt}).unit
 

@@ -17,8 +17,8 @@ use varisat_proof::proof::ProofFormat;
 use varisat_solver::rounds::search;
 use varisat_solver::solver::{Solver, SolverError};
 
-// The settings by which a file is decided. Those of a new solver, 15000 and 128, are the crate's; with these a search took
-// between half and three quarters of the time over forty formulas.
+// The settings by which a file is decided. Those of a new solver, 15000 and 128, are the crate's; with these a search
+// took between half and three quarters of the time over forty formulas.
 const REDUCE_LOCALS_INTERVAL: u64 = 2000;
 
 const LUBY_RESTART_INTERVAL_SCALE: u64 = 64;
@@ -46,11 +46,11 @@ pub enum Report<A: Allocator + Copy> {
 }
 
 /// Decides a DIMACS CNF text. A target takes the lines of the search as a proof, which is opened before a clause is
-/// accepted and closed at the end; then the target is there again. After an error it is gone. How far the search is goes
-/// on `err`, where that is wanted.
-// The new solver has a function of its own: it is dropped in one place and in one step, not at each return of `decide_in`
-// and part by part. Where all went well nothing but memory is left of it, and the program ends: a list for each literal is
-// not given back one by one.
+/// accepted and closed at the end; then the target is there again. After an error it is gone. How far the search is
+/// goes on `err`, where that is wanted.
+// The new solver has a function of its own: it is dropped in one place and in one step, not at each return of
+// `decide_in` and part by part. Where all went well nothing but memory is left of it, and the program ends: a list for
+// each literal is not given back one by one.
 pub fn decide_text<W: ProofTarget, A: Allocator + Copy, S: ByteSource, E: Write>(
     alloc: A,
     cnf: &mut S,
@@ -118,8 +118,8 @@ fn decide_in<W: ProofTarget, A: Allocator + Copy, S: ByteSource, E: Write>(
     Ok(report)
 }
 
-/// Gives a new solver the settings for a file, with the limit of steps, and opens a proof where there is a target. A new
-/// solver refuses neither.
+/// Gives a new solver the settings for a file, with the limit of steps, and opens a proof where there is a target. A
+/// new solver refuses neither.
 pub fn prepare<W: ProofTarget, A: Allocator + Copy>(
     solver: &mut Solver<W, A>,
     target: Option<W>,

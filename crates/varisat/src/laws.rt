@@ -45,14 +45,15 @@ pub fn marked_proofs_pass()
     ensures { MarkedProofsPass }
 {}
 
-/// Where nothing was hidden, `check_proof` over the accepted clauses returns for the bytes of an open proof, and for those
-/// that the program leaves, Refutation where they refute the clauses, and Derivation else.
+/// Where nothing was hidden, `check_proof` over the accepted clauses returns for the bytes of an open proof, and for
+/// those that the program leaves, Refutation where they refute the clauses, and Derivation else.
 pub fn bytes_are_accepted()
     ensures { BytesAreAccepted }
 {}
 
-/// The clause `answers` of `answers_of` rules these wrong answers out: models and cores that lack a name or do not come,
-/// a verdict that forgets a clause or assumptions, answers to other calls, and those behind an error without a way back.
+/// The clause `answers` of `answers_of` rules these wrong answers out: models and cores that lack a name or do not
+/// come, a verdict that forgets a clause or assumptions, answers to other calls, and those behind an error without a
+/// way back.
 pub fn wrong_answers_fit_no_story()
     ensures { WrongAnswersFitNoStory }
 {}

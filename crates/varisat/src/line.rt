@@ -239,8 +239,8 @@ pub fn means_one_command()
     ensures { MeansOneCommand }
 {}
 
-/// Writes the answer of a call, without a line feed: of a proof that was closed its bytes in hexadecimal. An error is the
-/// writer's, and a beginning of the answer may be written.
+/// Writes the answer of a call, without a line feed: of a proof that was closed its bytes in hexadecimal. An error is
+/// the writer's, and a beginning of the answer may be written.
 pub fn write_answer<O: Write, S: ByteSource, A: Allocator + Copy>(
     out: &mut O,
     answer: &Answer<MemoryTarget<A>, S, A>,

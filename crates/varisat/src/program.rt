@@ -48,11 +48,11 @@ pub fn session_lines<A: Allocator + Copy, R: Read + Drop, W: Write, E: Write>(
 /// Reads a DIMACS CNF text and decides it. Prints `s SATISFIABLE` and a `v` line with the model, status 10, or `s
 /// UNSATISFIABLE`, status 20; or `s UNKNOWN`, status 0, where the steps are spent before that is known. A target takes
 /// the lines of the search as a proof, which is opened before a clause is accepted and closed before anything is
-/// printed; then the target is there again. A fault of the text, its source, a target or memory is reported on `err`, and
-/// the status is 2; nothing is printed then, or, where `out` failed, a beginning of what was to be. With `check` a
-/// checker runs inside the solver, and with `progress` it is reported on `err`, after so many steps each and at the end,
-/// how far the search is. Where the text was decided the solver's memory is kept: this is for a program that ends then.
-/// The source and the targets have to have counted fewer than 2^64-1 faults.
+/// printed; then the target is there again. A fault of the text, its source, a target or memory is reported on `err`,
+/// and the status is 2; nothing is printed then, or, where `out` failed, a beginning of what was to be. With `check` a
+/// checker runs inside the solver, and with `progress` it is reported on `err`, after so many steps each and at the
+/// end, how far the search is. Where the text was decided the solver's memory is kept: this is for a program that ends
+/// then. The source and the targets have to have counted fewer than 2^64-1 faults.
 pub fn solve_lines<A: Allocator + Copy, S: ByteSource, P: ProofTarget, T: ProofTarget, E: Write>(
     alloc: A,
     cnf: &mut S,
@@ -64,8 +64,8 @@ pub fn solve_lines<A: Allocator + Copy, S: ByteSource, P: ProofTarget, T: ProofT
     requires faults { (S.input cnf.old).faults < 2 ^ 64 - 1 }
     requires room { CanCountFault P.taken proof.old }
     requires out_faults { (T.taken out.old).faults < 2 ^ 64 - 1 }
-    // Deciding fails, and nothing is printed; or the source gave a whole text, which was decided if the steps allowed it, with
-    // a proof in the target, and the outcome was printed, or a beginning of it where a call of `out` failed.
+    // Deciding fails, and nothing is printed; or the source gave a whole text, which was decided if the steps allowed
+    // it, with a proof in the target, and the outcome was printed, or a beginning of it where a call of `out` failed.
     ensures outcome { SolvesText P.taken options (S.input cnf.old) (S.input cnf.new) proof.old proof.new
         (T.taken out.old) (T.taken out.new) result }
     ensures truth { StatusIsTrue (S.input cnf.old) (S.input cnf.new) result }

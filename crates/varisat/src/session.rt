@@ -104,10 +104,10 @@ pub fn make_call<W: ProofTarget, S: ByteSource, A: Allocator + Copy>(
 }
 
 /// Makes the calls in turn, and returns their answers in this order: they mean what `answers_of` says, over what the
-/// solver has before. Behind each call what was logged is right, as long as the solver is valid. At each moment fewer than
-/// (n+2)*2^(n+2) steps were made since the last change, where n variables are counted, and so fewer than 2^(2n+3). Err
-/// comes only before the first call, where the list of answers was refused. Of what the calls are given the same is asked
-/// as by `make_call`.
+/// solver has before. Behind each call what was logged is right, as long as the solver is valid. At each moment fewer
+/// than (n+2)*2^(n+2) steps were made since the last change, where n variables are counted, and so fewer than 2^(2n+3).
+/// Err comes only before the first call, where the list of answers was refused. Of what the calls are given the same is
+/// asked as by `make_call`.
 pub fn run<W: ProofTarget, S: ByteSource, A: Allocator + Copy>(
     solver: &mut Solver<W, A>,
     calls: Vec<Call<W, S, A>, A>,
@@ -132,8 +132,8 @@ pub fn run<W: ProofTarget, S: ByteSource, A: Allocator + Copy>(
 
 /// The answers of a new solver to the calls. `answers` says what they mean, and is to be read first: true comes with a
 /// model and false with a failed core, of the clauses that were accepted until then, those of formulas and texts among
-/// them, and of the assumptions given last. `truth` says it too, and all else that the calls and answers before say: when
-/// a call is refused, what a proof would have logged, and how many steps were made since the last change, of which
+/// them, and of the assumptions given last. `truth` says it too, and all else that the calls and answers before say:
+/// when a call is refused, what a proof would have logged, and how many steps were made since the last change, of which
 /// few were made at each moment. Of what the calls are given the same is asked as by `run`.
 pub fn answers_of<W: ProofTarget, S: ByteSource, A: Allocator + Copy>(
     calls: Vec<Call<W, S, A>, A>,

@@ -372,8 +372,8 @@ fn find_and_learn<A: Allocator + Copy, P: ProofTracer>(
 }
 
 /// Makes one step: simplifies the root level, then finds a conflict and learns from it, or finds a model or that
-/// assumptions fail. A step that learns raises the rank of the trail, so that there are only finitely many of them. Fails
-/// where it is out of memory, the clause store is full or the tracer fails.
+/// assumptions fail. A step that learns raises the rank of the trail, so that there are only finitely many of them.
+/// Fails where it is out of memory, the clause store is full or the tracer fails.
 pub fn conflict_step<A: Allocator + Copy, P: ProofTracer>(
     ctx: &mut Context<A>,
     proof: &mut P,

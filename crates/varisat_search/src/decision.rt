@@ -33,7 +33,8 @@ fn take_unassigned<A: Allocator + Copy>(
     None
 }
 
-/// Begins a level with the literal, which has no value. The queue stays as it was: the literal is still to be propagated.
+/// Begins a level with the literal, which has no value. The queue stays as it was: the literal is still to be
+/// propagated.
 pub fn decide_lit<A: Allocator + Copy>(ctx: &mut Context<A>, lit: Lit) -> Result<(), AllocError>
     requires assignable { IsAssignable ctx.old.assignment.current ctx.old.impl_graph.nodes.items lit }
     requires level { length ctx.old.trail.decisions < 2 ^ 32 - 1 }

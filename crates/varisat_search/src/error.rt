@@ -5,8 +5,8 @@ use std::io;
 use varisat_prop::clause::StoreError;
 use varisat_steps::TraceError;
 
-/// Why a step failed. Contracts say when the clause store is full, and that `Target` is returned just where the tracer's
-/// target failed.
+/// Why a step failed. Contracts say when the clause store is full, and that `Target` is returned just where the
+/// tracer's target failed.
 #[derive(Debug, Drop)]
 pub enum StepError {
     /// The clause store has no room for a clause of all variables.

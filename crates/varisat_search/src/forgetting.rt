@@ -127,8 +127,8 @@ fn flag_stored<A: Allocator + Copy>(flags: &mut [bool], clause_alloc: &ClauseAll
     }
 }
 
-/// Sets the flags of the variables of which a literal implies others, as the opposite of each literal of a clause of two
-/// does.
+/// Sets the flags of the variables of which a literal implies others, as the opposite of each literal of a clause of
+/// two does.
 fn flag_implying<A: Allocator + Copy>(flags: &mut [bool], binary_clauses: &BinaryClauses<A>)
     requires known { length binary_clauses.now ≤ 2 * length flags.old }
     requires small { length flags.old ≤ variable_limit }

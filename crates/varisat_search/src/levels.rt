@@ -8,8 +8,8 @@ ghost use Rattle.varisat_search.specs.ContextChanges.{BacktracksTo};
 use crate::context::Context;
 use std::alloc::Allocator;
 
-/// Undoes the levels above the given one, as `backtrack`. Where variables wait, those of activity 0 are decided in the order
-/// of their numbers from then on.
+/// Undoes the levels above the given one, as `backtrack`. Where variables wait, those of activity 0 are decided in the
+/// order of their numbers from then on.
 fn undo<A: Allocator + Copy>(ctx: &mut Context<A>, level: usize, waits: bool)
     requires well { WellFormed (view ctx.old) }
     requires entries { HasActivities (view ctx.old) ctx.old.vsids }
@@ -40,9 +40,9 @@ pub fn backtrack<A: Allocator + Copy>(ctx: &mut Context<A>, level: usize)
     undo(ctx, level, false);
 }
 
-/// Undoes all decisions, remembers the values that variables lose, and makes these variables available again. Those that
-/// took part in no conflict are decided in the order of their numbers from then on: near numbers have their clauses and
-/// lists at near places, so that the search for what comes next waits less for memory.
+/// Undoes all decisions, remembers the values that variables lose, and makes these variables available again. Those
+/// that took part in no conflict are decided in the order of their numbers from then on: near numbers have their
+/// clauses and lists at near places, so that the search for what comes next waits less for memory.
 pub fn full_restart<A: Allocator + Copy>(ctx: &mut Context<A>)
     requires well { WellFormed (view ctx.old) }
     requires entries { HasActivities (view ctx.old) ctx.old.vsids }

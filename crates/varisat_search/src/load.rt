@@ -130,8 +130,8 @@ fn add_distinct<A: Allocator + Copy>(ctx: &mut Context<A>) -> Result<(), StoreEr
     Ok(())
 }
 
-/// Deletes a clause with a true literal from the proof, unless it is a unit, which is what proves its literal. The tracer
-/// orders the literals.
+/// Deletes a clause with a true literal from the proof, unless it is a unit, which is what proves its literal. The
+/// tracer orders the literals.
 fn trace_satisfied<P: ProofTracer>(proof: &mut P, lits: &mut [Lit]) -> Result<(), TraceError>
     requires { CanTake (P.holds proof.old) (Delete lits.old ∷ []) }
     ensures unit { OnOk result (length lits.old < 2 → TakesLines P.takes proof.old [] proof.new) }
@@ -149,8 +149,8 @@ fn trace_satisfied<P: ProofTracer>(proof: &mut P, lits: &mut [Lit]) -> Result<()
 
 /// Loads a clause, and undoes all decisions. Assumptions stay, without a level. Literals that stand twice count once,
 /// and a clause with a literal and its opposite, or with one that is true at level 0, is not kept. Where it has two
-/// literals or more and no opposites, and one is true at level 0, the proof deletes it. Under Unsat nothing changes. Fails
-/// where it is out of memory, the clause store is full or the tracer fails.
+/// literals or more and no opposites, and one is true at level 0, the proof deletes it. Under Unsat nothing changes.
+/// Fails where it is out of memory, the clause store is full or the tracer fails.
 pub fn load_clause<A: Allocator + Copy, P: ProofTracer>(
     ctx: &mut Context<A>,
     proof: &mut P,

@@ -69,8 +69,8 @@ fn global_value<A: Allocator + Copy>(
     }
 }
 
-/// The model of the global variables, where the solver variables have these values: a live variable has the value of its
-/// solver variable, without one the unit that is kept, and else false; one that is not live has none.
+/// The model of the global variables, where the solver variables have these values: a live variable has the value of
+/// its solver variable, without one the unit that is kept, and else false; one that is not live has none.
 pub fn reconstruct_global_model<A: Allocator + Copy>(
     alloc: A,
     variables: &LinkedVariables<A>,

@@ -124,8 +124,8 @@ pub fn solver_from_user_lits<A: Allocator + Copy>(
 
 /// Takes the solver variable from its global variable, which is returned and may be used again where it has no name and
 /// is isolated. The search does not decide the solver variable any more, and goes on where no kept clause and no
-/// assumption names it. Where memory is refused nothing changes. For a caller that removes one variable: those that leave
-/// in a step leave together, by `detach_variables`.
+/// assumption names it. Where memory is refused nothing changes. For a caller that removes one variable: those that
+/// leave in a step leave together, by `detach_variables`.
 pub fn remove_solver_var<A: Allocator + Copy>(
     ctx: &mut Context<A>,
     variables: &mut LinkedVariables<A>,

@@ -54,8 +54,8 @@ fn is_gone_pair(values: &[Option<bool>], first: Lit, other: Lit) -> bool
     !(has_no_value(values, first) && has_no_value(values, other))
 }
 
-/// Deletes from the proof the clauses of the literal and one of the list, where the literal has the smaller code and one
-/// of the two has a value.
+/// Deletes from the proof the clauses of the literal and one of the list, where the literal has the smaller code and
+/// one of the two has a value.
 fn trace_pairs_with<P: ProofTracer>(
     proof: &mut P,
     values: &[Option<bool>],
@@ -176,8 +176,8 @@ fn trace_clauses<A: Allocator + Copy, P: ProofTracer>(
     Ok(())
 }
 
-/// Deletes from the proof the clauses of two literals of which one has a value. Where the tracer takes nothing the lists
-/// are not even read.
+/// Deletes from the proof the clauses of two literals of which one has a value. Where the tracer takes nothing the
+/// lists are not even read.
 pub fn trace_pairs<A: Allocator + Copy, P: ProofTracer>(
     proof: &mut P,
     assignment: &Assignment<A>,
@@ -196,8 +196,8 @@ pub fn trace_pairs<A: Allocator + Copy, P: ProofTracer>(
     Ok(())
 }
 
-/// Tells the proof what becomes of the stored clauses as they are simplified. Where the tracer takes nothing they are not
-/// even read.
+/// Tells the proof what becomes of the stored clauses as they are simplified. Where the tracer takes nothing they are
+/// not even read.
 pub fn trace_stored<A: Allocator + Copy, P: ProofTracer>(
     proof: &mut P,
     assignment: &Assignment<A>,

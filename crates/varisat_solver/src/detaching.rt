@@ -70,8 +70,8 @@ fn flag_variables<A: Allocator + Copy>(
     Ok(flags)
 }
 
-/// Drops the solver variable. Its global variable is gone for good where it has no name and is isolated, and the proof is
-/// logs that.
+/// Drops the solver variable. Its global variable is gone for good where it has no name and is isolated, and the proof
+/// is logs that.
 fn detach_solver_var<W: ProofTarget, A: Allocator + Copy>(
     tracer: &mut SolverTracer<W, A>,
     solver: Var,
@@ -231,11 +231,11 @@ fn detach_unneeded<W: ProofTarget, A: Allocator + Copy>(
     Ok(())
 }
 
-/// At level 0, where literals are still to be propagated, simplifies the root level and lets the variables leave the search
-/// that have a value and are not assumed, and the hidden ones that no kept clause names. The tracer takes the lines of
-/// simplifying, and the proof logs which variables are gone for good. Does nothing at another level or where there is no
-/// such news, so that a step passes over all clauses no more often than its conflict step would. Lets none leave where a
-/// clause is false. `literals` is overwritten.
+/// At level 0, where literals are still to be propagated, simplifies the root level and lets the variables leave the
+/// search that have a value and are not assumed, and the hidden ones that no kept clause names. The tracer takes the
+/// lines of simplifying, and the proof logs which variables are gone for good. Does nothing at another level or where
+/// there is no such news, so that a step passes over all clauses no more often than its conflict step would. Lets none
+/// leave where a clause is false. `literals` is overwritten.
 pub fn detach_fixed<W: ProofTarget, A: Allocator + Copy>(
     tracer: &mut SolverTracer<W, A>,
     ctx: &mut Context<A>,

@@ -165,8 +165,8 @@ fn next_witness<A: Allocator + Copy>(
     }
 }
 
-/// One above the highest name that was ever in use, once those of the clause are named, and the first name of the clause
-/// that is a witness.
+/// One above the highest name that was ever in use, once those of the clause are named, and the first name of the
+/// clause that is a witness.
 // Both by one pass, since a clause is mostly short, and to leave a loop takes as long as some literals.
 fn scan_names<A: Allocator + Copy>(
     variables: &LinkedVariables<A>,

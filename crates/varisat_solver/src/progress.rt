@@ -5,8 +5,8 @@ use varisat_literals::Var;
 use varisat_names::variables::VarMap;
 use varisat_schedule::counters::Counters;
 
-/// How large a search is: how many of its variables no unit fixes, and how many clauses it has, those of two literals and then
-/// the longer ones by tier.
+/// How large a search is: how many of its variables no unit fixes, and how many clauses it has, those of two literals
+/// and then the longer ones by tier.
 #[derive(Clone, Copy, Debug)]
 pub(crate) struct SearchSize {
     pub(crate) variables: usize,
@@ -29,7 +29,8 @@ pub(crate) fn count_mapped<A: Allocator + Copy>(map: &VarMap<A>) -> usize {
     count
 }
 
-/// Writes the heads of the columns. Programs that read the output of solvers take a line that begins with `c` for a comment.
+/// Writes the heads of the columns. Programs that read the output of solvers take a line that begins with `c` for a
+/// comment.
 pub(crate) fn write_head<E: Write>(err: &mut E) -> io::Result<()> {
     writeln!(
         err,

@@ -10,8 +10,8 @@ use std::alloc::Allocator;
 use std::io::Write;
 use varisat_formula::io::ProofTarget;
 
-/// Searches as `solve` does. Where there is an interval, `err` gets how far the search is: after so many steps each, and
-/// at the end.
+/// Searches as `solve` does. Where there is an interval, `err` gets how far the search is: after so many steps each,
+/// and at the end.
 pub fn search<W: ProofTarget, A: Allocator + Copy, E: Write>(
     solver: &mut Solver<W, A>,
     interval: Option<u64>,
@@ -49,8 +49,8 @@ fn search_in_rounds<W: ProofTarget, A: Allocator + Copy, E: Write>(
     found
 }
 
-/// Makes at most so many steps, as `seek` does, but in rounds with a smaller limit each: they go on from one another, and together
-/// they are as one.
+/// Makes at most so many steps, as `seek` does, but in rounds with a smaller limit each: they go on from one another,
+/// and together they are as one.
 fn seek_in_rounds<W: ProofTarget, A: Allocator + Copy, E: Write>(
     solver: &mut Solver<W, A>,
     max_steps: u64,
@@ -92,7 +92,8 @@ fn is_interrupted(found: &Result<bool, SolverError>) -> bool
     matches!(found, Err(SolverError::Interrupted))
 }
 
-/// How many steps a round may make, where so many are left: the interval, or what is left, and one at least where any is.
+/// How many steps a round may make, where so many are left: the interval, or what is left, and one at least where any
+/// is.
 fn round_of(rest: u64, interval: u64) -> u64
     ensures within { result ≤ rest }
     ensures some { 0 < rest → 0 < result }

@@ -223,8 +223,8 @@ pub struct Solver<W: ProofTarget, A: Allocator + Copy> {
     // Whether a clause, a variable or a list of assumptions was accepted. From then on no proof can be opened; no other
     // call reads it.
     started: bool,
-    // How many steps were made before the last change: a call but `solve` and those that only return something, which was
-    // not refused, or accepted a clause before it was.
+    // How many steps were made before the last change: a call but `solve` and those that only return something, which
+    // was not refused, or accepted a clause before it was.
     changed_at: u64,
 }
 
@@ -298,9 +298,9 @@ impl<W: ProofTarget, A: Allocator + Copy> Solver<W, A> {
 
     /// Accepts a clause, and brings its names into use. Once the clauses are known to be unsatisfiable a clause is
     /// accepted without a change, but that steps are counted anew. Refused in an invalid solver; where `solve` was
-    /// called since the open proof was opened, unless that is a marked one; where a name is past the limit of 2^28 names
-    /// or there is no room for its variables; and where a name is a witness: then nothing changes. Where memory runs
-    /// out, the clause store is full or the target of an open proof fails, the solver is invalid.
+    /// called since the open proof was opened, unless that is a marked one; where a name is past the limit of 2^28
+    /// names or there is no room for its variables; and where a name is a witness: then nothing changes. Where memory
+    /// runs out, the clause store is full or the target of an open proof fails, the solver is invalid.
     pub fn add_clause(&mut self, clause: &[Lit]) -> Result<(), SolverError>
         ensures target { WritesOn self.old.opened result self.new.opened }
         ensures full { result ≡ Err SolverError.ClauseStoreFull → HasFullStore self.new }
@@ -396,9 +396,9 @@ impl<W: ProofTarget, A: Allocator + Copy> Solver<W, A> {
     // ---- Solving ----
 
     /// Assumes that these literals are true, in place of the assumptions before, and brings their names into use.
-    /// Refused in an invalid solver, where a proof is open that is no marked one, and for its names as a clause is: then
-    /// nothing changes, and the assumptions before stay. Where memory runs out or the target of an open proof fails, the
-    /// solver is invalid.
+    /// Refused in an invalid solver, where a proof is open that is no marked one, and for its names as a clause is:
+    /// then nothing changes, and the assumptions before stay. Where memory runs out or the target of an open proof
+    /// fails, the solver is invalid.
     pub fn assume(&mut self, lits: &[Lit]) -> Result<(), SolverError>
         ensures target { WritesOn self.old.opened result self.new.opened }
         ensures call { LeadsRepresented self.old (λ s t. Assumes s lits.now result t) self.new }
@@ -418,11 +418,11 @@ impl<W: ProofTarget, A: Allocator + Copy> Solver<W, A> {
     }
 
     /// Whether some assignment satisfies the accepted clauses and makes the assumptions true. A call makes fewer than
-    /// (n+2)*2^(n+2) steps, and so than 2^(2n+3), where the clauses and all assumptions so far name n variables. The lines
-    /// of the steps are written to an open proof, which is then flushed, also where nothing is left to search. Refused in
-    /// an invalid solver, and where the steps are spent before it is known: `max_steps` of the settings, or 2^64-1 in all.
-    /// The next call then goes on. Where memory runs out, the clause store is full or the target of an open proof fails,
-    /// the solver is invalid; a proof that cannot be flushed is returned in place of spent steps.
+    /// (n+2)*2^(n+2) steps, and so than 2^(2n+3), where the clauses and all assumptions so far name n variables. The
+    /// lines of the steps are written to an open proof, which is then flushed, also where nothing is left to search.
+    /// Refused in an invalid solver, and where the steps are spent before it is known: `max_steps` of the settings, or
+    /// 2^64-1 in all. The next call then goes on. Where memory runs out, the clause store is full or the target of an
+    /// open proof fails, the solver is invalid; a proof that cannot be flushed is returned in place of spent steps.
     pub fn solve(&mut self) -> Result<bool, SolverError>
         ensures call { LeadsRepresented self.old (λ s t. Solves by_state s result t) self.new }
         ensures satisfiable { result ≡ Ok true → (s : State) → Represents self.old s →
@@ -573,10 +573,10 @@ impl<W: ProofTarget, A: Allocator + Copy> Solver<W, A> {
         Ok(names)
     }
 
-    /// One above the highest variable that the search ever had. As a step of `solve` begins at level 0 with literals that
-    /// are not propagated yet, variables leave the search whose values are fixed, unless they are assumed, and hidden ones
-    /// that no clause names that it still keeps. The next variable that clauses or assumptions name takes the place of one
-    /// of them.
+    /// One above the highest variable that the search ever had. As a step of `solve` begins at level 0 with literals
+    /// that are not propagated yet, variables leave the search whose values are fixed, unless they are assumed, and
+    /// hidden ones that no clause names that it still keeps. The next variable that clauses or assumptions name takes
+    /// the place of one of them.
     pub fn solver_watermark(&self) -> usize
         ensures { result ≡ length self.now.tables.solvers.backward }
     {
@@ -653,8 +653,8 @@ impl<W: ProofTarget, A: Allocator + Copy> Solver<W, A> {
         !self.ctx.solver_state.state_is_invalid
     }
 
-    /// What was counted of the search so far. It only reads, and no contract says what the numbers are: no call relation
-    /// knows of them.
+    /// What was counted of the search so far. It only reads, and no contract says what the numbers are: no call
+    /// relation knows of them.
     pub fn statistics(&self) -> Counters {
         self.ctx.counters
     }
@@ -675,8 +675,8 @@ impl<W: ProofTarget, A: Allocator + Copy> Solver<W, A> {
 
     /// Does nothing when it runs. Its contract says of a valid solver that what a proof would have logged so far is
     /// right, and that an open proof has just its lines. Where no variable was ever hidden these are a derivation from
-    /// the accepted clauses, which refutes them once they are known to be unsatisfiable. And few steps were made since the
-    /// last change.
+    /// the accepted clauses, which refutes them once they are known to be unsatisfiable. And few steps were made since
+    /// the last change.
     pub fn prove_journal(&self)
         ensures journal { (s : State) → Represents self.now s → IsValid s → IsJournal s }
         ensures few { (s : State) → Represents self.now s → IsValid s → AreFew (length s.counted) s.ledger.since }
@@ -707,8 +707,8 @@ impl<W: ProofTarget, A: Allocator + Copy> Solver<W, A> {
         self.ctx.solver_config.max_steps()
     }
 
-    /// Sets how many steps a call of `solve` may make. Unlike `config` this is no change, so that the steps since the last
-    /// change are counted on: a search can be made in rounds of steps.
+    /// Sets how many steps a call of `solve` may make. Unlike `config` this is no change, so that the steps since the
+    /// last change are counted on: a search can be made in rounds of steps.
     pub fn set_max_steps(&mut self, max_steps: u64)
         ensures { (s : State) → Represents self.old s → Represents self.new (with_max_steps max_steps s) }
     {
@@ -726,8 +726,8 @@ impl<W: ProofTarget, A: Allocator + Copy> Solver<W, A> {
 
     /// How many steps calls of `solve` made together since the last change. A change is any call but `solve` and those
     /// that only return something, unless it was refused; and one that accepted a clause before it was refused. In a
-    /// valid solver they are fewer than (n+2)*2^(n+2), and so than 2^(2n+3), where the clauses and all assumptions so far
-    /// name n variables, however often a call was interrupted.
+    /// valid solver they are fewer than (n+2)*2^(n+2), and so than 2^(2n+3), where the clauses and all assumptions so
+    /// far name n variables, however often a call was interrupted.
     pub fn steps_since_change(&self) -> u64
         ensures { LeadsRepresented self.now (λ s t. ReturnsSince s result t) self.now }
     {
@@ -765,10 +765,10 @@ impl<W: ProofTarget, A: Allocator + Copy> Solver<W, A> {
         Ok(())
     }
 
-    /// Has a checker run inside the solver from here on: it takes each accepted clause and each step, and checks it. That it
-    /// finds a step wrong can't happen, so there is no such error; out of memory in it makes the solver invalid. It takes
-    /// no memory itself. Refused in an invalid solver, and once a clause, a variable or a list of assumptions was
-    /// accepted: then nothing changes. Where a checker runs already, that one goes on.
+    /// Has a checker run inside the solver from here on: it takes each accepted clause and each step, and checks it.
+    /// That it finds a step wrong can't happen, so there is no such error; out of memory in it makes the solver
+    /// invalid. It takes no memory itself. Refused in an invalid solver, and once a clause, a variable or a list of
+    /// assumptions was accepted: then nothing changes. Where a checker runs already, that one goes on.
     pub fn enable_self_checking(&mut self) -> Result<(), SolverError>
         ensures call { LeadsRepresented self.old (λ s t. EnablesChecking s result t) self.new }
         ensures runs { result ≡ Ok tt → IsSome self.new.checker }

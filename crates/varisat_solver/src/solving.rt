@@ -92,8 +92,8 @@ fn named_conflict_step<W: ProofTarget, A: Allocator + Copy>(
 }
 
 /// Makes one step: a restart, reductions and a collection where they are due, then variables leave that need not be
-/// searched, then a conflict step. The step is counted, unless it fails. A core that was found is kept as the user names it.
-/// `literals` is overwritten.
+/// searched, then a conflict step. The step is counted, unless it fails. A core that was found is kept as the user
+/// names it. `literals` is overwritten.
 fn make_step<W: ProofTarget, A: Allocator + Copy>(
     tracer: &mut SolverTracer<W, A>,
     ctx: &mut Context<A>,
@@ -115,8 +115,8 @@ fn make_step<W: ProofTarget, A: Allocator + Copy>(
 /// Makes steps until it is known whether some assignment satisfies the clauses and makes the assumptions true, and
 /// returns that; a core that was found is kept as the user names it. None where `max_steps` steps were made before, or
 /// no more can be counted; where no step may be made nothing changes. An error is out of memory, a full clause store or
-/// the target of an open proof. Between two restarts each step raises the rank of the trail, units that left counted with
-/// it, and the intervals between restarts follow the Luby sequence: so the steps come to an end. `literals` is
+/// the target of an open proof. Between two restarts each step raises the rank of the trail, units that left counted
+/// with it, and the intervals between restarts follow the Luby sequence: so the steps come to an end. `literals` is
 /// overwritten.
 pub fn find_verdict<W: ProofTarget, A: Allocator + Copy>(
     tracer: &mut SolverTracer<W, A>,

@@ -65,8 +65,8 @@ fn set_named_mode<A: Allocator + Copy>(
     Ok(global)
 }
 
-/// Lets the hidden variable leave for good where it is unused: it has no solver variable, and clauses do not hold it. The
-/// proof logs that.
+/// Lets the hidden variable leave for good where it is unused: it has no solver variable, and clauses do not hold it.
+/// The proof logs that.
 fn retire_if_unused<W: ProofTarget, A: Allocator + Copy>(
     tracer: &mut SolverTracer<W, A>,
     global: Var,
@@ -81,8 +81,8 @@ fn retire_if_unused<W: ProofTarget, A: Allocator + Copy>(
     Ok(())
 }
 
-/// Names the name, frees it, and hides its variable, which leaves for good where it is unused. Once the clauses are known
-/// to be unsatisfiable none leaves: the proof logs nothing more then, and what it logged stays a refutation.
+/// Names the name, frees it, and hides its variable, which leaves for good where it is unused. Once the clauses are
+/// known to be unsatisfiable none leaves: the proof logs nothing more then, and what it logged stays a refutation.
 fn hide_named<W: ProofTarget, A: Allocator + Copy>(
     tracer: &mut SolverTracer<W, A>,
     var: Var,

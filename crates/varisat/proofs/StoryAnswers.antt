@@ -22,7 +22,8 @@ use Rattle.varisat_solver.specs.promises.Calls.{is_valid, IsValid, Invalidates, 
 use Rattle.varisat_solver.specs.promises.Usage as usage
 use Rattle.varisat_solver.specs.promises.ReturnedLists.{returned_list, returned_variables}
 use Rattle.varisat.specs.promises.Turns.{Makes}
-use Rattle.varisat_solver.specs.promises.Summaries.{Summary, Represents}
+use Rattle.varisat_solver.specs.promises.Summaries.{Summary}
+use Rattle.varisat_solver.specs.inside.Representations.{Represents}
 use Rattle.varisat.specs.promises.Runs.{Run, found_in, story_now}
 use Rattle.varisat.specs.promises.Answers.{Story, with_names, reopened, with_clause, with_assumptions, ended, IsRefused, Outcome, Accepts, Joined, PassedOver, AcceptsAll, EndsText, AcceptsText, ToItsEnd, ToARefusal, IfValid, IsTrueAnswer, IsTrueModel, IsTrueCore, IsAnswered, AreAnswered}
 use Rattle.varisat.specs.declared.session.Call.{Call}

@@ -2,7 +2,7 @@
 ghost use Rattle.std.specs.Prelude.{◌≡◌, ◌-◌, ◌^◌, ◌<◌, true, Ok, Err, IfOk, IfErr, IsSome};
 ghost use Rattle.varisat_proof.specs.promises.Proving.{IsClosed};
 ghost use Rattle.varisat_solver.specs.promises.States.{State, new_state};
-ghost use Rattle.varisat_solver.specs.promises.Summaries.{Represents};
+ghost use Rattle.varisat_solver.specs.inside.Representations.{Represents};
 ghost use Rattle.varisat_solver.specs.promises.ProofCalls.{ClosesProof};
 ghost use Rattle.varisat.specs.promises.Decided.{concluded};
 ghost use Rattle.varisat.specs.promises.Proven.{CanCountFault, prepared, Reports, DecidesBy, FailsBy};

@@ -1,7 +1,8 @@
 //! Any list of calls of a solver.
 ghost use Rattle.std.specs.Prelude.{◌≡◌, [], IfOk, OnErr};
 ghost use Rattle.varisat_solver.specs.promises.States.{State, empty_state};
-ghost use Rattle.varisat_solver.specs.promises.Summaries.{Represents, LeadsRepresented};
+ghost use Rattle.varisat_solver.specs.inside.Representations.{Represents};
+ghost use Rattle.varisat_solver.specs.promises.Represented.{LeadsRepresented};
 ghost use Rattle.varisat.specs.promises.Runs.{MakesCall, Run, HasRightLog, MayStillFail, AreReady, story_now};
 ghost use Rattle.varisat_solver.specs.promises.Calls.{by_state};
 ghost use Rattle.varisat.specs.promises.Pasts.{empty_past, by_answers};

@@ -9,7 +9,7 @@ use Rattle.std_heap.specs.contracts.Global as heap
 use Rattle.std_heap.specs.contracts.GlobalAllocator.TheImpl as impl
 use Rattle.varisat_theory.specs.promises.Literals.{IsSatisfiableWith}
 use Rattle.varisat_solver.specs.promises.States.{State}
-use Rattle.varisat_solver.specs.promises.Summaries.{Represents}
+use Rattle.varisat_solver.specs.inside.Representations.{Represents}
 use Rattle.varisat_calls.specs.Callers.{Caller}
 use Rattle.varisat_c.specs.Slots.{may_free, slot_owns}
 use Rattle.varisat_calls.specs.contracts.caller.Caller as caller

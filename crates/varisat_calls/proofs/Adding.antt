@@ -2,7 +2,7 @@
 use Rattle.std.proofs.Common.{◌≡◌, ℕ, ℤ, pos, Bool, true, false, Some, None, List, [], ◌∷◌, ◌++◌, refl, sym, ap, subst, ◌∙◌}
 use Rattle.varisat_theory.specs.promises.Literals.{Literal}
 use Rattle.varisat_literals.specs.promises.Numbers.{literal_numbered}
-use Rattle.varisat_solver.specs.promises.Summaries.{LeadsRepresented}
+use Rattle.varisat_solver.specs.promises.Represented.{LeadsRepresented}
 use Rattle.varisat_solver.specs.promises.Calls.{AddsClause}
 use Rattle.varisat_calls.specs.Codes.{answer_number}
 use Rattle.varisat_calls.specs.Callers.{Answer, Caller, clause_of, with_clause, AddsNumber, Put, Ended}

@@ -12,7 +12,9 @@ use Rattle.varisat_names.specs.declared.config.SolverConfigUpdate.{SolverConfigU
 use Rattle.varisat_names.specs.declared.variables.data.SamplingMode.{SamplingMode}
 use Rattle.varisat_proof.specs.declared.proof.format.ProofFormat.{ProofFormat}
 use Rattle.varisat_solver.specs.promises.States.{State}
-use Rattle.varisat_solver.specs.promises.Summaries.{Summary, Represents, LeadsRepresented}
+use Rattle.varisat_solver.specs.promises.Summaries.{Summary}
+use Rattle.varisat_solver.specs.inside.Representations.{Represents}
+use Rattle.varisat_solver.specs.promises.Represented.{LeadsRepresented}
 use Rattle.varisat_solver.specs.promises.Calls.{Solves, Configures, by_state}
 use Rattle.varisat_solver.specs.promises.ClauseCalls.{AddsFormula}
 use Rattle.varisat_solver.specs.promises.ProofCalls.{OpensProof}

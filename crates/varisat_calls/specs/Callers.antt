@@ -13,7 +13,9 @@ use Rattle.varisat_names.specs.declared.config.ConfigField.{ConfigField}
 use Rattle.varisat_names.specs.declared.variables.data.SamplingMode.{SamplingMode}
 use Rattle.varisat_proof.specs.declared.proof.format.ProofFormat.{ProofFormat}
 use Rattle.varisat_solver.specs.promises.States.{State, empty_state}
-use Rattle.varisat_solver.specs.promises.Summaries.{Summary, Represents, LeadsRepresented}
+use Rattle.varisat_solver.specs.promises.Summaries.{Summary}
+use Rattle.varisat_solver.specs.inside.Representations.{Represents}
+use Rattle.varisat_solver.specs.promises.Represented.{LeadsRepresented}
 use Rattle.varisat_solver.specs.promises.Refusals.{refusal_number}
 use Rattle.varisat_solver.specs.promises.Calls.{AddsClause, Solves, Configures, MakesVar, with_max_steps, by_state}
 use Rattle.varisat_solver.specs.promises.Usage.{ChangesMode, Observes}

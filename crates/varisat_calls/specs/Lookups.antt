@@ -6,7 +6,8 @@ use Rattle.varisat_theory.specs.promises.Literals.{Literal, opposite}
 use Rattle.varisat_literals.specs.promises.Numbers.{literal_numbered}
 use Rattle.varisat_client.specs.inside.LiteralSets.{Has, IsSetOf}
 use Rattle.varisat_solver.specs.promises.States.{State}
-use Rattle.varisat_solver.specs.promises.Summaries.{Summary, LeadsRepresented}
+use Rattle.varisat_solver.specs.promises.Summaries.{Summary}
+use Rattle.varisat_solver.specs.promises.Represented.{LeadsRepresented}
 use Rattle.varisat_solver.specs.promises.Calls.{ReturnsList, by_state}
 use Rattle.varisat_calls.specs.Callers.{Caller, IsWrong}
 use Rattle.varisat_calls.specs.declared.lookups.Kept.{Kept}

@@ -6,7 +6,7 @@ use Rattle.varisat_formula.specs.promises.Dimacs.{dimacs}
 use Rattle.varisat_formula.specs.promises.Rest.{Progress, begin, AdvancesBy, RunsOutIn, IsEnding}
 use Rattle.varisat_solver.specs.promises.ClauseCalls.{AddsFormula}
 use Rattle.varisat_solver.specs.promises.Refusals.{refusal_number}
-use Rattle.varisat_solver.specs.promises.Summaries.{LeadsRepresented}
+use Rattle.varisat_solver.specs.promises.Represented.{LeadsRepresented}
 use Rattle.varisat_solver.specs.declared.solver.SolverError.{SolverError}
 use Rattle.varisat_calls.specs.Callers.{Answer, Caller}
 

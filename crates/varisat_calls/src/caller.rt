@@ -67,7 +67,8 @@ impl<A: Allocator + Copy> Model for Caller<A> {
 impl<A: Allocator + Copy> Caller<A> {
     ghost use Rattle.std.specs.Prelude.{Ok, Err};
     ghost use Rattle.varisat_solver.specs.promises.States.{State};
-    ghost use Rattle.varisat_solver.specs.promises.Summaries.{Represents, LeadsRepresented};
+    ghost use Rattle.varisat_solver.specs.inside.Representations.{Represents};
+    ghost use Rattle.varisat_solver.specs.promises.Represented.{LeadsRepresented};
     ghost use Rattle.varisat_solver.specs.promises.Calls.{AddsClause, Assumes, ReturnsList, ReturnsSteps, ReturnsValid, by_state};
     ghost use Rattle.varisat_solver.specs.promises.ProofCalls.{EnablesChecking};
     ghost use Rattle.varisat_solver.specs.promises.Usage.{ChangesMode};

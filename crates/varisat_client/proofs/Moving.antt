@@ -16,7 +16,8 @@ use Rattle.varisat.proofs.NameLaws.{none-in-order}
 use Rattle.varisat_solver.specs.promises.Calls.{AddsClause, Assumes, Solves, Configures, by_state}
 use Rattle.varisat_solver.specs.declared.solver.SolverError.{SolverError}
 use Rattle.varisat_solver.specs.declared.solver.SolverError.TheVariants as error
-use Rattle.varisat_solver.specs.promises.Summaries.{Summary, Represents, HasFullStore}
+use Rattle.varisat_solver.specs.promises.Summaries.{Summary, HasFullStore}
+use Rattle.varisat_solver.specs.inside.Representations.{Represents}
 use Rattle.varisat_client.specs.declared.client.SearchEnd.{SearchEnd}
 use Rattle.varisat_client.specs.declared.client.SearchEnd.TheVariants as end
 use Rattle.varisat_client.specs.declared.refusal.Refusal.{Refusal}

@@ -1,7 +1,7 @@
 //! A client of the solver that takes clauses and assumptions a literal at a time, and returns values one at a time.
 ghost use Rattle.std.specs.Prelude.{◌≡◌, ◌≢◌, ◌∷◌, [], ◌++◌, pos, OnOk, false, None};
 ghost use Rattle.varisat_literals.specs.promises.Numbers.{literal_numbered};
-ghost use Rattle.varisat_solver.specs.promises.Summaries.{Represents};
+ghost use Rattle.varisat_solver.specs.inside.Representations.{Represents};
 ghost use Rattle.varisat.specs.promises.Proven.{configured};
 
 use crate::literal_set::LitSet;

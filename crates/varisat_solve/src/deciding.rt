@@ -3,7 +3,7 @@ ghost use Rattle.std.specs.Prelude.{◌≡◌, ◌-◌, ◌^◌, ◌<◌, ◌≤
 ghost use Rattle.varisat_proof.specs.promises.Lines.{has_marks};
 ghost use Rattle.varisat_simplify.specs.promises.Simplified.{IsMadeOf};
 ghost use Rattle.varisat_solver.specs.promises.States.{new_state};
-ghost use Rattle.varisat_solver.specs.promises.Summaries.{Represents};
+ghost use Rattle.varisat_solver.specs.inside.Representations.{Represents};
 ghost use Rattle.varisat.specs.promises.Decided.{Decided, concluded, allowed_steps};
 ghost use Rattle.varisat.specs.promises.Proven.{CanCountFault, prepared, DecidesBy};
 ghost use Rattle.varisat_solve.specs.inside.Extending.{conclusion_of_all};

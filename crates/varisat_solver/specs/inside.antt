@@ -8,3 +8,5 @@ pub mod Carried
 pub mod Spaces
 pub mod TextCalls
 pub mod VariableChanges
+pub mod Detached
+pub mod Representations

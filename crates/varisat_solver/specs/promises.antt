@@ -17,3 +17,4 @@ pub mod Journals
 pub mod Usage
 pub mod ClauseCalls
 pub mod Detaching
+pub mod Represented

@@ -10,7 +10,7 @@ ghost use Rattle.varisat_solver.specs.inside.Accepted.{CanAccept, AcceptsUserCla
 ghost use Rattle.varisat_theory.specs.promises.Journals.{Accepts, Assumes};
 ghost use Rattle.varisat_tracer.specs.inside.Tracing.{tracer_state, TakesGlobally, BreaksProof, CanLog};
 ghost use Rattle.varisat_search.specs.StepErrors.{step_faults};
-ghost use Rattle.varisat_solver.specs.promises.Summaries.{IsValidSolver};
+ghost use Rattle.varisat_solver.specs.inside.Representations.{IsValidSolver};
 ghost use Rattle.varisat_solver.specs.inside.Accepting.{CanBeNamed, HasNames, AreJoined, AreMarked};
 
 use std::alloc::Allocator;

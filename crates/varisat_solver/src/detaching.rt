@@ -12,8 +12,9 @@ ghost use Rattle.varisat_solver.specs.inside.Accepting.{AreBounded};
 ghost use Rattle.varisat_solver.specs.inside.Searches.{CanSearch, DetachesFixed};
 ghost use Rattle.varisat_tracer.specs.inside.Tracing.{tracer_state, open_parts, BreaksProof};
 ghost use Rattle.varisat_search.specs.StepErrors.{step_faults};
-ghost use Rattle.varisat_solver.specs.promises.Summaries.{IsValidSolver};
-ghost use Rattle.varisat_solver.specs.promises.Detaching.{leads_to_unassumed, unassumed_among, AreOverAssumed, FlagsVariables, LosesSolverVar, AreDetachedAlone, leads_to_hidden, ListsUnneeded, AreDetached, HasOnlyNeeded, DetachesFromTables, Detaches};
+ghost use Rattle.varisat_solver.specs.inside.Representations.{IsValidSolver};
+ghost use Rattle.varisat_solver.specs.promises.Detaching.{leads_to_unassumed, AreOverAssumed};
+ghost use Rattle.varisat_solver.specs.inside.Detached.{unassumed_among, FlagsVariables, LosesSolverVar, AreDetachedAlone, leads_to_hidden, ListsUnneeded, AreDetached, HasOnlyNeeded, DetachesFromTables, Detaches};
 
 use std::alloc::{AllocError, Allocator};
 use varisat_formula::io::ProofTarget;

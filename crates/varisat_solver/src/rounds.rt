@@ -1,7 +1,8 @@
 //! A search in rounds, behind each of which it is reported how far it is.
 ghost use Rattle.std.specs.Prelude.{◌≡◌, ◌↔◌, ◌<◌, ◌≤◌, IsTrue, Err};
 ghost use Rattle.varisat_solver.specs.promises.States.{State};
-ghost use Rattle.varisat_solver.specs.promises.Summaries.{Represents, LeadsRepresented};
+ghost use Rattle.varisat_solver.specs.inside.Representations.{Represents};
+ghost use Rattle.varisat_solver.specs.promises.Represented.{LeadsRepresented};
 ghost use Rattle.varisat_solver.specs.promises.Calls.{SearchesWithin, Solves, by_state};
 
 use crate::progress::{write_head, write_row, write_summary};

@@ -2,7 +2,7 @@
 ghost use Rattle.std.specs.Prelude.{◌≡◌, ◌<◌, length, IfOk};
 ghost use Rattle.varisat_solver.specs.inside.Accepting.{AreBounded};
 ghost use Rattle.varisat_solver.specs.inside.Changes.{RefusesInvalid, invalidated, EndsChange};
-ghost use Rattle.varisat_solver.specs.promises.Summaries.{model_value, list_tables};
+ghost use Rattle.varisat_solver.specs.inside.Representations.{model_value, list_tables};
 
 use crate::accept::{accept_user_clause, assume_list};
 use crate::name_checks::check_names;
@@ -232,7 +232,8 @@ impl<W: ProofTarget, A: Allocator + Copy> Model for Solver<W, A> {
     ghost use Rattle.std.specs.Prelude.{◌≡◌, ◌-◌, not, false, length};
     ghost use Rattle.varisat_search.specs.Contexts as contexts;
     ghost use Rattle.varisat_proof.specs.promises.Proving.{is_there};
-    ghost use Rattle.varisat_solver.specs.promises.Summaries.{Summary, IsValidSince};
+    ghost use Rattle.varisat_solver.specs.promises.Summaries.{Summary};
+    ghost use Rattle.varisat_solver.specs.inside.Representations.{IsValidSince};
 
     ghost Value = { Summary };
 
@@ -269,7 +270,10 @@ impl<W: ProofTarget, A: Allocator + Copy> Solver<W, A> {
     ghost use Rattle.varisat_solver.specs.promises.ClauseCalls.{AddsFormula, AddsDimacs};
     ghost use Rattle.varisat_solver.specs.promises.Additions.{AddsAll, ReturnsFault};
     ghost use Rattle.varisat_solver.specs.promises.ReturnedLists.{returned_list, lent_list};
-    ghost use Rattle.varisat_solver.specs.promises.Summaries.{Represents, LeadsRepresented, EndsSearch, HasFullStore};
+    ghost use Rattle.varisat_solver.specs.promises.Summaries.{HasFullStore};
+    ghost use Rattle.varisat_solver.specs.inside.Representations.{Represents};
+    ghost use Rattle.varisat_solver.specs.promises.Represented.{LeadsRepresented};
+    ghost use Rattle.varisat_solver.specs.inside.Changes.{EndsSearch};
     ghost use Rattle.varisat_solver.specs.promises.Targets.{WritesOn, WritesAll};
     ghost use Rattle.varisat_proof.specs.promises.Proving.{marked_searched};
     ghost use Rattle.varisat_solver.specs.promises.Journals.{IsJournal};
@@ -818,7 +822,7 @@ impl<W: ProofTarget, A: Allocator + Copy> Solver<W, A> {
 
 impl<W: ProofTarget, A: Allocator + Copy> ExtendFormula for Solver<W, A> {
     ghost use Rattle.varisat_solver.specs.promises.Calls.{AddsClause, MakesVar};
-    ghost use Rattle.varisat_solver.specs.promises.Summaries.{LeadsRepresented};
+    ghost use Rattle.varisat_solver.specs.promises.Represented.{LeadsRepresented};
 
     type Error = SolverError;
 

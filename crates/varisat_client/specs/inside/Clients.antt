@@ -6,7 +6,8 @@ use Rattle.varisat_literals.specs.promises.Numbers.{variable_limit}
 use Rattle.varisat_solver.specs.promises.States.{State, Unsat}
 use Rattle.varisat_solver.specs.promises.Names.{through_names, AreInOrder}
 use Rattle.varisat_solver.specs.promises.Models.{IsCompletable, AreNamesInUse}
-use Rattle.varisat_solver.specs.promises.Summaries.{Summary, Represents, HasFullStore}
+use Rattle.varisat_solver.specs.promises.Summaries.{Summary, HasFullStore}
+use Rattle.varisat_solver.specs.inside.Representations.{Represents}
 use Rattle.varisat_client.specs.inside.LiteralSets.{IsSetOf}
 use Rattle.varisat_client.specs.promises.Pasts.{Past}
 use Rattle.varisat_client.specs.declared.client.SearchEnd.{SearchEnd}

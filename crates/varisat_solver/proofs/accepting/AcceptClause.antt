@@ -38,7 +38,8 @@ use Rattle.varisat_proof.specs.promises.Proving.{IsCheckedIf}
 use Rattle.varisat_tracer.specs.inside.Tracing.{global_literal}
 use Rattle.varisat_solver.specs.promises.OpenProofs.{OpenProof}
 use Rattle.varisat_solver.specs.promises.Journals.{with_entries, LogsStaying}
-use Rattle.varisat_solver.specs.promises.Summaries.{Summary, spaces, spaces_of, Represents}
+use Rattle.varisat_solver.specs.promises.Summaries.{Summary}
+use Rattle.varisat_solver.specs.inside.Representations.{spaces, spaces_of, Represents}
 use Rattle.varisat_solver.specs.inside.Accepting.{HasSolver, AreJoined}
 use Rattle.varisat_solver.proofs.calls.SpacesAgree.{give, take_solver, count, solver_literal, accept}
 use Rattle.varisat_solver.proofs.modes.VariableMoves.{given-near}

@@ -20,7 +20,8 @@ use Rattle.varisat_tracer.specs.promises.Carried.{carry}
 use Rattle.varisat_theory.specs.promises.Journals.{Assumes}
 use Rattle.varisat_solver.specs.promises.Journals.{with_entries}
 use Rattle.varisat_solver.specs.inside.Spaces.{Carrying, MarksFit, Links, SpacesFit}
-use Rattle.varisat_solver.specs.promises.Summaries.{Summary, spaces, spaces_of}
+use Rattle.varisat_solver.specs.promises.Summaries.{Summary}
+use Rattle.varisat_solver.specs.inside.Representations.{spaces, spaces_of}
 use Rattle.varisat_solver.specs.inside.Accepting.{HasSolver, AreMarked}
 use Rattle.varisat_solver.proofs.calls.SpacesAgree.{IsMarkedFor, count, solver_literal}
 use Rattle.varisat_solver.proofs.accepting.AcceptLoad.{list-carried, assumed}

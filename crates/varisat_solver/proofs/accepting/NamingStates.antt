@@ -9,7 +9,8 @@ use Rattle.varisat_solver.specs.promises.States.{State}
 use Rattle.varisat_solver.specs.promises.Names.{Mode, Sample, Witness, name_all, IsWitness, NameNoWitness, IsFirstWitness}
 use Rattle.varisat_solver.specs.promises.Calls.{IsCrowded, IsPastLimit, MayConstrain, MayAccept, AddsClause, Assumes, by_state}
 use Rattle.varisat_solver.specs.inside.Spaces.{Carrying, ModeFits, Links}
-use Rattle.varisat_solver.specs.promises.Summaries.{Summary, spaces, Represents}
+use Rattle.varisat_solver.specs.promises.Summaries.{Summary}
+use Rattle.varisat_solver.specs.inside.Representations.{spaces, Represents}
 use Rattle.varisat_solver.specs.inside.Accepting.{mode_of, naming_of, CanBeNamed, ChecksNames}
 use Rattle.varisat_solver.proofs.accepting.NamesComing.{AreAlike, all-alike, alike-crowded}
 use Rattle.varisat_solver.specs.declared.solver.SolverError.{SolverError}

@@ -33,7 +33,8 @@ use Rattle.varisat_solver.specs.promises.Names.{Naming, name_one, name_all, thro
 use Rattle.varisat_solver.specs.promises.Calls.{IsPastLimit, with_naming}
 use Rattle.varisat_tracer.specs.promises.Carried.{carry}
 use Rattle.varisat_solver.specs.inside.Spaces.{Spaces, SpacesFit, FitWithNew}
-use Rattle.varisat_solver.specs.promises.Summaries.{Summary, spaces, spaces_of, IsValidSolver}
+use Rattle.varisat_solver.specs.promises.Summaries.{Summary}
+use Rattle.varisat_solver.specs.inside.Representations.{spaces, spaces_of, IsValidSolver}
 use Rattle.varisat_solver.specs.inside.Accepting.{naming_of, CanBeNamed, HasNames}
 use Rattle.varisat_solver.proofs.calls.SpacesAgree.{count}
 use Rattle.varisat_solver.proofs.calls.Counted.{join-has}

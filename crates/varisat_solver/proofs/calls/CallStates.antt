@@ -15,7 +15,8 @@ use Rattle.varisat_solver.proofs.entries.OpenProofs.{goes-on-none, goes-on-unfai
 use Rattle.varisat_proof.specs.promises.Assumed.{lists_of}
 use Rattle.varisat_solver.proofs.entries.LoggedEntries.{stays-nothing}
 use Rattle.varisat_solver.specs.inside.Spaces.{SpacesFit}
-use Rattle.varisat_solver.specs.promises.Summaries.{Summary, spaces, Represents}
+use Rattle.varisat_solver.specs.promises.Summaries.{Summary}
+use Rattle.varisat_solver.specs.inside.Representations.{spaces, Represents}
 use Rattle.varisat_search.specs.declared.error.StepError.TheVariants as step
 
 -- What stays where what is known is alike.

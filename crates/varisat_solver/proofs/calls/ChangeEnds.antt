@@ -10,7 +10,8 @@ use Rattle.varisat_solver.specs.inside.Accepting.{AreBounded}
 use Rattle.varisat_solver.specs.promises.OpenProofs.{OpenProof, ProofFits, opened_state}
 use Rattle.varisat_solver.specs.inside.Spaces.{SpacesFit}
 use Rattle.varisat_solver.specs.promises.States.{State, Ledger, FlagsFit}
-use Rattle.varisat_solver.specs.promises.Summaries.{Summary, IsValidSolver, IsValidSince, Represents, RepresentsSome, spaces_with}
+use Rattle.varisat_solver.specs.promises.Summaries.{Summary}
+use Rattle.varisat_solver.specs.inside.Representations.{IsValidSolver, IsValidSince, Represents, RepresentsSome, spaces_with}
 use Rattle.varisat_solver.specs.declared.solver.SolverError.{SolverError}
 use Rattle.varisat_solver.specs.declared.solver.SolverError.TheVariants.{Invalid}
 use Rattle.varisat_solver.proofs.accepting.Additions.{logged-error}

@@ -17,7 +17,8 @@ use Rattle.varisat_solver.specs.promises.States.{State, Ledger}
 use Rattle.varisat_solver.specs.inside.SinceChange.{CountsSince}
 use Rattle.varisat_solver.specs.inside.Spaces.{SpacesFit, Links}
 use Rattle.varisat_solver.specs.promises.Calls.{with_update, with_max_steps, count_anew}
-use Rattle.varisat_solver.specs.promises.Summaries.{Summary, IsValidSolver, Represents, spaces_of, spaces_with, RepresentsSome}
+use Rattle.varisat_solver.specs.promises.Summaries.{Summary}
+use Rattle.varisat_solver.specs.inside.Representations.{IsValidSolver, Represents, spaces_of, spaces_with, RepresentsSome}
 use Rattle.varisat_proof.specs.promises.Calls.{CheckerState}
 use Rattle.varisat_proof.specs.promises.Proving.{ProofParts, is_there}
 use Rattle.varisat_solver.specs.promises.OpenProofs.{OpenProof, opened_state, BarsAssumptions, IsWrittenWhereOpen}

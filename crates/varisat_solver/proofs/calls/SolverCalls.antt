@@ -51,7 +51,8 @@ use Rattle.varisat_proof.specs.promises.Passing.{LogsConflict}
 use Rattle.varisat_solver.specs.promises.Journals.{with_entries, LogsMore}
 use Rattle.varisat_solver.proofs.entries.LoggedEntries.{logs-nothing}
 use Rattle.varisat_solver.specs.inside.Spaces.{Carrying, Translation, HeldFits, translation, without_core, CoreFits, VerdictFits, Links, SpacesFit, FitWithNew, list_globals}
-use Rattle.varisat_solver.specs.promises.Summaries.{Summary, IsValidSolver, Represents, spaces, spaces_of, list_tables}
+use Rattle.varisat_solver.specs.promises.Summaries.{Summary}
+use Rattle.varisat_solver.specs.inside.Representations.{IsValidSolver, Represents, spaces, spaces_of, list_tables}
 use Rattle.varisat_solver.proofs.calls.SpacesAgree.{map-map, AreInUse}
 use Rattle.varisat_solver.proofs.calls.CallStates.{like-still}
 use Rattle.varisat_solver.proofs.steps.SearchVerdicts.{right-false, right-core}

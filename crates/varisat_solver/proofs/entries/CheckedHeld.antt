@@ -31,7 +31,7 @@ use Rattle.varisat_tracer.specs.inside.Tracing.{Relies, CanLog}
 use Rattle.varisat_solver.specs.inside.Searches.{ComesOn, Turn}
 use Rattle.varisat_solver.specs.inside.Spaces.{Spaces, Carrying, translation, without_core, AreLive, SharesHeld, CheckerFits, Links, FitSome}
 use Rattle.varisat_solver.specs.promises.States.{State}
-use Rattle.varisat_solver.specs.promises.Summaries.{spaces_of}
+use Rattle.varisat_solver.specs.inside.Representations.{spaces_of}
 use Rattle.varisat_solver.proofs.calls.Carried.{carry-at, carry-sign}
 use Rattle.varisat_solver.proofs.entries.ReachedHeld.{left-apart, logged-live}
 use Rattle.varisat_solver.proofs.calls.SpacesAgree.{map-map, carry-same, rename-same}

@@ -38,7 +38,8 @@ use Rattle.varisat_solver.specs.promises.ProofCalls.{IsProofIfOpen}
 use Rattle.varisat_solver.specs.promises.Calls.{IsRefuted, by_state}
 use Rattle.varisat_tracer.specs.promises.Carried.{carry, variable_or_first}
 use Rattle.varisat_solver.specs.inside.Spaces.{Spaces, Carrying, Links, Translation, IsCounted, AllSpeakOf, HeldFits, VerdictFits, without_core}
-use Rattle.varisat_solver.specs.promises.Summaries.{Summary, spaces, Represents}
+use Rattle.varisat_solver.specs.promises.Summaries.{Summary}
+use Rattle.varisat_solver.specs.inside.Representations.{spaces, Represents}
 use Rattle.varisat_solver.proofs.entries.LoggedEntries.{all-wider, lines-speak, OnlyLeave, unspoken, only-leave}
 use Rattle.varisat_solver.proofs.steps.SearchLinks.{relinked}
 use Rattle.varisat_solver.proofs.calls.SolverCalls.{logged-refuted}

@@ -15,7 +15,8 @@ use Rattle.varisat_search.specs.declared.error.StepError.TheVariants as step
 use Rattle.varisat_solver.specs.inside.Accepting.{ChecksNames}
 use Rattle.varisat_solver.specs.promises.Refusals.{step_refusal, returned_faults}
 use Rattle.varisat_solver.specs.inside.Searches.{LogsSome}
-use Rattle.varisat_solver.specs.promises.Summaries.{Summary, EndsSearch, HasFullStore}
+use Rattle.varisat_solver.specs.promises.Summaries.{Summary, HasFullStore}
+use Rattle.varisat_solver.specs.inside.Changes.{EndsSearch}
 use Rattle.varisat_solver.specs.promises.Targets.{WritesAll, WritesUpTo, WritesOn}
 use Rattle.varisat_solver.specs.declared.solver.SolverError.{SolverError}
 use Rattle.varisat_solver.specs.declared.solver.SolverError.TheVariants.{ProofIoError, ClauseStoreFull, VariableLimit, WitnessVar}

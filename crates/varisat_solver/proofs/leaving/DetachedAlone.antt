@@ -19,7 +19,7 @@ use Rattle.varisat_theory.specs.promises.Journals.{Entry}
 use Rattle.varisat_proof.specs.promises.Proving.{IsLogged}
 use Rattle.varisat_tracer.specs.inside.Logged.{logged-none, logged-more}
 use Rattle.varisat_tracer.specs.inside.Tracing.{TracerState, retires_if_deleted}
-use Rattle.varisat_solver.specs.promises.Detaching.{fixed_to, IsDetachedAlone, FlagsVariables, AreDetachedAlone, DetachesFromTables}
+use Rattle.varisat_solver.specs.inside.Detached.{fixed_to, IsDetachedAlone, FlagsVariables, AreDetachedAlone, DetachesFromTables}
 use Rattle.varisat_solver.proofs.leaving.DetachedTables.{IsLeft, AreLeft, kept-twice}
 
 -- nothing was dropped

@@ -19,8 +19,9 @@ use Rattle.varisat_names.specs.promises.VarData.{data_at}
 use Rattle.varisat_names.specs.promises.Variables.{Tables, AreLinked}
 use Rattle.varisat_names.specs.declared.variables.data.VarData.{VarData}
 use Rattle.varisat_solver.specs.inside.Accepting.{DecidesInUse, HasUser, IsAssumedSolver}
-use Rattle.varisat_solver.specs.promises.Summaries.{IsValidSolver, spaces_of}
-use Rattle.varisat_solver.specs.promises.Detaching.{leads_to_unassumed, AreOverAssumed, FlagsVariables, DetachesFromTables, unassumed_among, AreDetachedAlone, leads_to_hidden, ListsUnneeded, LosesSolverVar, AreDetached, HasOnlyNeeded, Detaches}
+use Rattle.varisat_solver.specs.inside.Representations.{IsValidSolver, spaces_of}
+use Rattle.varisat_solver.specs.promises.Detaching.{leads_to_unassumed, AreOverAssumed}
+use Rattle.varisat_solver.specs.inside.Detached.{FlagsVariables, DetachesFromTables, unassumed_among, AreDetachedAlone, leads_to_hidden, ListsUnneeded, LosesSolverVar, AreDetached, HasOnlyNeeded, Detaches}
 use Rattle.varisat_solver.proofs.modes.TableMarks.{there-is}
 use Rattle.varisat_theory.specs.promises.Held.{mentions}
 use Rattle.varisat_theory.specs.promises.Searches.{Search}

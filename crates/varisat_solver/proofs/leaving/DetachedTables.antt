@@ -15,7 +15,7 @@ use Rattle.varisat_names.proofs.Maps.{updated-at, updated-other, updated-all, ch
 use Rattle.varisat_solver.specs.promises.States.{State}
 use Rattle.varisat_solver.specs.promises.Names.{identity_of}
 use Rattle.varisat_solver.specs.inside.Spaces.{Spaces, Carrying, SearchHolds, without_core, translation, Links, SpacesFit, Translation}
-use Rattle.varisat_solver.specs.promises.Detaching.{fixed_to, LosesSolverVar}
+use Rattle.varisat_solver.specs.inside.Detached.{fixed_to, LosesSolverVar}
 use Rattle.varisat_solver.proofs.calls.Carried.{true-value}
 use Rattle.varisat_solver.proofs.steps.SearchLinks.{agrees-through, relinked}
 use Rattle.varisat_solver.proofs.steps.SolveVerdict.{maps-alike, maps-same, recount}
@@ -40,7 +40,7 @@ use Rattle.varisat_tracer.specs.inside.Tracing.{TracerState, retires_if_deleted}
 use Rattle.varisat_tracer.specs.promises.Carried.{carry}
 use Rattle.varisat_solver.specs.inside.Carried.{is_forced}
 use Rattle.varisat_solver.proofs.entries.LoggedProofs.{leaving-none, leaving-nothing, leaving-one, leaving-through}
-use Rattle.varisat_solver.specs.promises.Summaries.{spaces_of}
+use Rattle.varisat_solver.specs.inside.Representations.{spaces_of}
 use Rattle.varisat_solver.proofs.calls.SpacesAgree.{with_search}
 use Rattle.varisat_solver.proofs.entries.ReachedHeld.{shares-more}
 use Rattle.varisat_theory.specs.inside.Outcomes as outcome

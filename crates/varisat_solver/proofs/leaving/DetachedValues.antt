@@ -39,7 +39,8 @@ use Rattle.varisat_names.specs.promises.VarMap.{at}
 use Rattle.varisat_names.specs.promises.VarData.{data_at}
 use Rattle.varisat_names.specs.promises.Variables.{Tables, IsTaken}
 use Rattle.varisat_solver.specs.promises.Calls.{VerdictAfter, Refuted, Reopened, reopened_verdict, assumed_verdict, with_verdict}
-use Rattle.varisat_solver.specs.promises.Summaries.{Summary, spaces, spaces_of, IsValidSolver}
+use Rattle.varisat_solver.specs.promises.Summaries.{Summary}
+use Rattle.varisat_solver.specs.inside.Representations.{spaces, spaces_of, IsValidSolver}
 use Rattle.varisat_solver.proofs.accepting.AcceptClause.{outcome-alike}
 use Rattle.varisat_solver.proofs.accepting.NewNames.{linked}
 use Rattle.varisat_search.proofs.variables.TakenSolvers.{taken-full}

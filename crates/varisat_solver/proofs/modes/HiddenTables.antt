@@ -30,7 +30,8 @@ use Rattle.varisat_search.specs.Seen.{outcome_of}
 use Rattle.varisat_search.specs.declared.state.SatState.{SatState}
 use Rattle.varisat_solver.specs.promises.Journals.{with_entries, LogsRetired}
 use Rattle.varisat_solver.proofs.entries.LoggedProofs.{leaving-none, leaving-one}
-use Rattle.varisat_solver.specs.promises.Summaries.{Summary, spaces}
+use Rattle.varisat_solver.specs.promises.Summaries.{Summary}
+use Rattle.varisat_solver.specs.inside.Representations.{spaces}
 use Rattle.varisat_solver.proofs.calls.Carried.{carry-at}
 use Rattle.varisat_solver.proofs.steps.SolveVerdict.{maps-same}
 use Rattle.varisat_solver.proofs.accepting.AcceptClause.{with_tables}

@@ -15,7 +15,8 @@ use Rattle.varisat_solver.specs.promises.Journals.{with_entries, LogsRetired}
 use Rattle.varisat_solver.specs.promises.OpenProofs.{OpenProof, lines_over, GoesOnWriting}
 use Rattle.varisat_solver.specs.inside.Spaces.{KeepVariables, ModeFits, SpacesFit}
 use Rattle.varisat_solver.specs.promises.States.{State, with_variables}
-use Rattle.varisat_solver.specs.promises.Summaries.{Summary, spaces}
+use Rattle.varisat_solver.specs.promises.Summaries.{Summary}
+use Rattle.varisat_solver.specs.inside.Representations.{spaces}
 use Rattle.varisat_solver.specs.promises.Usage.{name_var, with_mode, hide_name, IsAssumed, ChangesMode}
 use Rattle.varisat_solver.specs.inside.VariableChanges.{ChecksChange, StaysValid, SetsNamedMode, ChangesNamed}
 use Rattle.varisat_solver.specs.declared.solver.SolverError.{SolverError}

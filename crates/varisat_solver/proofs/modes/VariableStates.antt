@@ -10,7 +10,8 @@ use Rattle.varisat_solver.specs.promises.Names.{Naming, AreShown, Mode, name_one
 use Rattle.varisat_solver.specs.promises.Calls.{with_naming, IsCrowded}
 use Rattle.varisat_solver.specs.promises.Usage.{AreAllShown, ChangesVar, SetsMode, name_var, IsAssumed, with_mode, hide_name}
 use Rattle.varisat_solver.specs.inside.Spaces.{SpacesFit, Carrying, ModeFits, Links, KeepVariables, FitWithNew}
-use Rattle.varisat_solver.specs.promises.Summaries.{Summary, spaces, IsValidSolver}
+use Rattle.varisat_solver.specs.promises.Summaries.{Summary}
+use Rattle.varisat_solver.specs.inside.Representations.{spaces, IsValidSolver}
 use Rattle.varisat_solver.proofs.modes.ShownStates.{may-stay}
 use Rattle.varisat_theory.specs.promises.Literals.{variable_of, literal_of}
 use Rattle.varisat_search.proofs.stepping.StepOutcome.{variable-literal}

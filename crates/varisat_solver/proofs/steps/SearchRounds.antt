@@ -8,7 +8,9 @@ use Rattle.varisat_proof.specs.promises.Proving.{marked_searched}
 use Rattle.varisat_solver.specs.promises.OpenProofs.{OpenProof, opened_state, IsOpen, GoesOnWriting, GoesOnFailing, searched_under, lines_over}
 use Rattle.varisat_solver.specs.promises.States.{State, Ledger, Unknown, Unsat}
 use Rattle.varisat_solver.specs.promises.ProofCalls.{with_proof}
-use Rattle.varisat_solver.specs.promises.Summaries.{Summary, Represents, EndsSearch, spaces}
+use Rattle.varisat_solver.specs.promises.Summaries.{Summary}
+use Rattle.varisat_solver.specs.inside.Representations.{Represents, spaces}
+use Rattle.varisat_solver.specs.inside.Changes.{EndsSearch}
 use Rattle.varisat_solver.specs.promises.Calls.{IsLike, IsValid, is_valid, Invalidates, CountsCall, CountsIf, Decided, Searched, HasVerdict, Searches, Solves, with_steps, once_searched, by_state, ReturnsVerdict, IsSpent, FailsStep, IsStoreFull, with_max_steps, with_verdict}
 use Rattle.varisat_solver.specs.declared.solver.SolverError.{SolverError}
 use Rattle.varisat_solver.specs.declared.solver.SolverError.TheVariants.{Interrupted, ProofIoError, OutOfMemory, Invalid, ClauseStoreFull, WitnessVar, VariableLimit, AssumedVar, ClauseAfterSolve, ProofOpen, ProofTooLate, ConfigOutOfRange, Dimacs}

@@ -27,7 +27,7 @@ use Rattle.varisat_search.specs.RootSimplified.{FixesByLearning, LearnsAlone}
 use Rattle.varisat_search.proofs.stepping.ReadyAfter.{ready-with}
 use Rattle.varisat_tracer.specs.promises.Carried.{carry}
 use Rattle.varisat_solver.specs.inside.Searches.{MakesNamedStep}
-use Rattle.varisat_solver.specs.promises.Summaries.{IsValidSolver}
+use Rattle.varisat_solver.specs.inside.Representations.{IsValidSolver}
 use Rattle.varisat_solver.proofs.modes.VariableMoves.{same-in-use}
 use Rattle.varisat_search.specs.declared.state.SatState.TheVariants as verdict
 

@@ -13,7 +13,8 @@ use Rattle.varisat_search.specs.RootSimplified.{FixesByLearning, GoesOnByLines, 
 use Rattle.varisat_search.proofs.stepping.DueReductions.{as-inprocessed}
 use Rattle.varisat_search.proofs.stepping.FixedLiterals.{begun-fixed}
 use Rattle.varisat_search.proofs.stepping.RestartSteps.{begun-view}
-use Rattle.varisat_solver.specs.promises.Detaching.{AreOverAssumed, DetachesInTime, HasDetached}
+use Rattle.varisat_solver.specs.promises.Detaching.{AreOverAssumed, DetachesInTime}
+use Rattle.varisat_solver.specs.inside.Detached.{HasDetached}
 use Rattle.varisat_theory.specs.promises.Membership.{◌∈◌, IsDistinct}
 use Rattle.varisat_theory.specs.promises.Literals.{Literal, variable_of}
 use Rattle.varisat_theory.proofs.clauses.Members.{∈-append_cases, distinct_append}

@@ -39,13 +39,13 @@ use Rattle.varisat_proof.specs.promises.Passing.{LogsConflict}
 use Rattle.varisat_solver.specs.promises.Journals.{with_entries, LogsMore, LogsRetired, BeginsInSteps}
 use Rattle.varisat_solver.specs.promises.OpenProofs.{OpenProof, GoesOnWriting}
 use Rattle.varisat_solver.specs.inside.Searches.{answer_at, LogsSome, Turn, turn_of, ComesTo, ComesOn, MakesNamedStep}
-use Rattle.varisat_solver.specs.promises.Detaching.{IsCalm}
+use Rattle.varisat_solver.specs.inside.Detached.{IsCalm}
 use Rattle.varisat_solver.specs.promises.StepEntries.{GoesOnInSteps, GoesOnKeeping, LogsInSteps, HasStayed, SpeakOfAdded}
 use Rattle.varisat_solver.proofs.entries.StepEntries.{keeping-nothing, keeping-through, keeping-leaving, no-steps, one-more-step, added-append, added-wider, leaving-added, leaving-derived}
 use Rattle.varisat_solver.proofs.steps.SolveVerdict.{LinesInSteps}
 use Rattle.varisat_solver.specs.inside.Spaces.{Spaces, translation, VerdictFits, SpacesFit}
 use Rattle.varisat_solver.specs.promises.States.{State, Verdict, Unknown, Unsat, HasRightVerdict, IsRight, FlagsFit}
-use Rattle.varisat_solver.specs.promises.Summaries.{IsValidSolver, spaces_of, spaces_with, undecided_spaces}
+use Rattle.varisat_solver.specs.inside.Representations.{IsValidSolver, spaces_of, spaces_with, undecided_spaces}
 use Rattle.varisat_solver.proofs.calls.CallStates.{same-by, like-grown, like-still}
 use Rattle.varisat_solver.proofs.accepting.AcceptClause.{ledger-free, proof-free, words-free}
 use Rattle.varisat_solver.proofs.calls.ModelsFit.{is-sat, is-unknown}

@@ -15,7 +15,7 @@ use Rattle.varisat_solver.specs.promises.Calls.{with_naming, VerdictAfter, appen
 use Rattle.varisat_solver.specs.promises.Journals.{with_entries, LogsStaying, LogsToProof}
 use Rattle.varisat_solver.specs.inside.Searches.{LogsSome}
 use Rattle.varisat_solver.specs.inside.Spaces.{SpacesFit, FitSome, KeepVariables}
-use Rattle.varisat_solver.specs.promises.Summaries.{spaces_with, IsValidSolver}
+use Rattle.varisat_solver.specs.inside.Representations.{spaces_with, IsValidSolver}
 
 -- the literals over identities, once their names are named
 abbrev pub identity_literals : State → List Literal → List Literal

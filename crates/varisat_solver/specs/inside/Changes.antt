@@ -3,7 +3,10 @@ use Rattle.std.specs.Prelude.{◌≡◌, ℕ, Bool, true, false, Result, Ok, Err
 use Rattle.varisat_schedule.specs.Plans.{IsPlan}
 use Rattle.varisat_search.specs.declared.context.Context.{Context}
 use Rattle.varisat_solver.specs.declared.solver.SolverError.{SolverError}
-use Rattle.varisat_solver.specs.declared.solver.SolverError.TheVariants.{Invalid}
+use Rattle.varisat_solver.specs.declared.solver.SolverError.TheVariants.{Invalid, ProofIoError}
+use Rattle.std.specs.declared.io.Error.{Error}
+use Rattle.varisat_proof.specs.promises.Proving.{marked_searched, Flushes}
+use Rattle.varisat_solver.specs.promises.Summaries.{Summary}
 
 -- A call is refused just where the solver is invalid.
 abbrev pub RefusesInvalid : Bool → Result (Unit {0}) SolverError → Type 0
@@ -26,3 +29,11 @@ abbrev pub EndsChange : {A T E : Type 0} → (E → SolverError → Type 0) → 
 EndsChange logs outcome x before (Ok value) y changed_at = (outcome ≡ Ok value) × CountsAnew x y changed_at
 EndsChange {E = E} logs outcome x before (Err refusal) y changed_at =
     (error : E) × (outcome ≡ Err error) × logs error refusal × (y ≡ invalidated x) × (changed_at ≡ before)
+
+-- A search ends in a valid solver: an open proof is one under which `solve` was called. Where it can't be flushed the solver is invalid.
+abbrev pub EndsSearch : Summary → Result (Unit {0}) SolverError → Summary → Type 0
+EndsSearch g (Ok _) h = h ≡ record g { opened = marked_searched g.opened }
+EndsSearch g (Err (ProofIoError cause)) h =
+    Flushes {E = Error} (marked_searched g.opened) (Err cause) h.opened
+    × (h ≡ record g { opened = h.opened; ledger = record g.ledger { valid = false } })
+EndsSearch g (Err _) h = ⊥

@@ -23,13 +23,14 @@ use Rattle.varisat_search.specs.RootSimplified.{FixesByLearning, LearnsAlone}
 use Rattle.varisat_search.specs.StepErrors.{step_faults, HasNoRoom}
 use Rattle.varisat_solver.specs.promises.Calls.{with_verdict}
 use Rattle.varisat_solver.specs.inside.Carried.{named_literals}
-use Rattle.varisat_solver.specs.promises.Detaching.{DetachesWhereNews, DetachesInTime, HasDetached, IsCalm}
+use Rattle.varisat_solver.specs.promises.Detaching.{DetachesInTime}
+use Rattle.varisat_solver.specs.inside.Detached.{DetachesWhereNews, HasDetached, IsCalm}
 use Rattle.varisat_solver.specs.promises.Journals.{with_entries, LogsMore, BeginsInSteps, EndBy, LogsToProof}
 use Rattle.varisat_solver.specs.promises.StepEntries.{LogsInSteps, SpeakOfAdded, HasStayed}
 use Rattle.varisat_solver.specs.inside.SinceChange.{GoesOnSince, BeginsWithin, GoesOnWithin}
 use Rattle.varisat_solver.specs.inside.Spaces.{Spaces, SpacesFit, FitSome}
 use Rattle.varisat_solver.specs.promises.States.{State, Verdict, Unknown}
-use Rattle.varisat_solver.specs.promises.Summaries.{undecided_spaces, spaces_with, IsValidSolver}
+use Rattle.varisat_solver.specs.inside.Representations.{undecided_spaces, spaces_with, IsValidSolver}
 
 -- what is returned at the verdict, if it is known
 abbrev pub answer_at : SatState → Option Bool

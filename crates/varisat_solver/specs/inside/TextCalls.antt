@@ -3,7 +3,8 @@ use Rattle.std.specs.Prelude.{◌≡◌, List, Result, Err}
 use Rattle.varisat_theory.specs.promises.Literals.{Clause}
 use Rattle.varisat_solver.specs.promises.Calls.{by_state}
 use Rattle.varisat_solver.specs.promises.Additions.{AddsAll}
-use Rattle.varisat_solver.specs.promises.Summaries.{Summary, LeadsRepresented, HasFullStore}
+use Rattle.varisat_solver.specs.promises.Summaries.{Summary, HasFullStore}
+use Rattle.varisat_solver.specs.promises.Represented.{LeadsRepresented}
 use Rattle.varisat_solver.specs.promises.Targets.{WritesOn}
 use Rattle.varisat_solver.specs.declared.solver.SolverError.{SolverError}
 use Rattle.varisat_solver.specs.declared.solver.SolverError.TheVariants.{ClauseStoreFull}

@@ -1,7 +1,7 @@
 -- The calls of a new solver, each from the state that the one before leads to.
 use Rattle.std.proofs.Common.{sym, ap, ◌∙◌, subst}
 use Rattle.varisat_solver.specs.promises.States.{Ledger}
-use Rattle.varisat_solver.specs.promises.Summaries.{Represents}
+use Rattle.varisat_solver.specs.inside.Representations.{Represents}
 use Rattle.varisat.specs.promises.Decided.{concluded}
 use Rattle.varisat.specs.promises.Proven.{prepared, Fails, AsRead, AsClosed}
 use Rattle.varisat_steps.proofs.Broken.{passed-on}

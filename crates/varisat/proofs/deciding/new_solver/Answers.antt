@@ -1,7 +1,7 @@
 -- A new solver switches self checking on.
 use Rattle.std.proofs.Common.{◌∙◌, sym, ap, subst}
 use Rattle.varisat_solver.specs.promises.States.{State, empty_state, new_state}
-use Rattle.varisat_solver.specs.promises.Summaries.{Represents}
+use Rattle.varisat_solver.specs.inside.Representations.{Represents}
 use Rattle.varisat.proofs.ProgramDecides.{enables-new}
 use Rattle.varisat.proofs.deciding.new_solver.Goals as goal
 

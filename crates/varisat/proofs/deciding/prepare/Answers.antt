@@ -1,7 +1,7 @@
 -- A new solver refuses neither call.
 use Rattle.std.proofs.Common.{sym, ap, ◌∙◌, subst}
 use Rattle.varisat_solver.specs.promises.States.{State, new_state}
-use Rattle.varisat_solver.specs.promises.Summaries.{Represents}
+use Rattle.varisat_solver.specs.inside.Representations.{Represents}
 use Rattle.varisat.specs.promises.Proven.{prepared}
 use Rattle.varisat.proofs.ProgramDecides.{no-target, configures-new, opens-configured}
 use Rattle.varisat.proofs.deciding.prepare.Goals as goal

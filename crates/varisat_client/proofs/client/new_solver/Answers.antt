@@ -3,7 +3,7 @@ use Rattle.std.proofs.Common.{◌≡◌, Some, None, false, refl, subst}
 use Rattle.varisat_names.specs.promises.Settings.{no_update}
 use Rattle.varisat_names.specs.declared.config.SolverConfigUpdate.{SolverConfigUpdate}
 use Rattle.varisat_solver.specs.promises.States.{State, empty_state}
-use Rattle.varisat_solver.specs.promises.Summaries.{Represents}
+use Rattle.varisat_solver.specs.inside.Representations.{Represents}
 use Rattle.varisat_solver.specs.promises.Calls.{Configures}
 use Rattle.varisat.proofs.ProgramDecides.{configures-new}
 use Rattle.varisat_client.proofs.client.new_solver.Goals as goal

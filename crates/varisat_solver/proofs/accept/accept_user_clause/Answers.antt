@@ -35,7 +35,7 @@ use Rattle.varisat_solver.specs.promises.States.{State, with_variables}
 use Rattle.varisat_solver.specs.inside.Accepted.{FailsClause, RepresentsOnceAccepted}
 use Rattle.varisat_solver.specs.inside.Searches.{LogsSome}
 use Rattle.varisat_solver.specs.inside.Spaces.{SpacesFit, FitWithNew}
-use Rattle.varisat_solver.specs.promises.Summaries.{spaces_of, spaces_with, IsValidSolver}
+use Rattle.varisat_solver.specs.inside.Representations.{spaces_of, spaces_with, IsValidSolver}
 use Rattle.varisat_solver.proofs.calls.SettingsCalls.{summary_in}
 use Rattle.varisat_solver.proofs.leaving.DetachedValues.{reopened-not, no-model-reopened, reopened-spaces, verdict-after}
 use Rattle.varisat_solver.proofs.accepting.SolversInTurn.{with_names, HaveSolvers, have-solvers-then, has-variables, can-have-room, over-leads, over-carried, all-named, literals-within, literals-decidable}

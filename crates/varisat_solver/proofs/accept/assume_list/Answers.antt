@@ -26,7 +26,7 @@ use Rattle.varisat_theory.specs.promises.Journals.{Assumes}
 use Rattle.varisat_solver.specs.promises.Journals.{with_entries}
 use Rattle.varisat_solver.specs.inside.Spaces.{SpacesFit}
 use Rattle.varisat_solver.specs.promises.States.{with_variables}
-use Rattle.varisat_solver.specs.promises.Summaries.{spaces_of, IsValidSolver}
+use Rattle.varisat_solver.specs.inside.Representations.{spaces_of, IsValidSolver}
 use Rattle.varisat_solver.proofs.accepting.AssumeList.{Assuming, forgets, list-logged, list-assumed}
 use Rattle.varisat_solver.proofs.calls.SettingsCalls.{summary_in}
 use Rattle.varisat_solver.proofs.leaving.DetachedValues.{no-model-assumed, assumed-again}

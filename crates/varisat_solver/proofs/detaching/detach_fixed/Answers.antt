@@ -17,7 +17,7 @@ use Rattle.varisat_tracer.proofs.Logging.{logs-logged, breaks-proof, open-unbrok
 use Rattle.varisat_solver.specs.inside.Searches.{LogsSome, Turn, ComesOn}
 use Rattle.varisat_solver.specs.inside.SinceChange.{GoesOnWithin}
 use Rattle.varisat_solver.proofs.steps.RootSimplifiedParts.{settled-parts}
-use Rattle.varisat_solver.specs.promises.Summaries.{undecided_spaces, IsValidSolver}
+use Rattle.varisat_solver.specs.inside.Representations.{undecided_spaces, IsValidSolver}
 use Rattle.varisat_solver.proofs.steps.SearchVerdicts.{kept-on}
 use Rattle.varisat_solver.proofs.detaching.detach_fixed.Given.{Over}
 use Rattle.varisat_solver.proofs.detaching.detach_fixed.Goals.{In-Ok, In_ok-detach_unneeded}

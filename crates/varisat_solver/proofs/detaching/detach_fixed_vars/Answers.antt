@@ -10,7 +10,7 @@ use Rattle.varisat_names.proofs.Maps.{updated-at}
 use Rattle.varisat_literals.specs.promises.Numbers.{polarity_of}
 use Rattle.varisat_prop.proofs.views.ReadElements.{item-∈}
 use Rattle.varisat_tracer.specs.inside.Tracing.{tracer_state, open_parts}
-use Rattle.varisat_solver.specs.promises.Detaching.{fixed_to, LosesSolverVar, IsDetachedAlone, AreDetachedAlone, DetachesFromTables}
+use Rattle.varisat_solver.specs.inside.Detached.{fixed_to, LosesSolverVar, IsDetachedAlone, AreDetachedAlone, DetachesFromTables}
 use Rattle.varisat_solver.proofs.calls.ReadPlaces.{take-item, split-item}
 use Rattle.varisat_solver.proofs.modes.TableMarks.{is-there, there-is}
 use Rattle.varisat_solver.proofs.leaving.DetachedAlone.{sign-same, changed-twice, leaves-none, leaves-one, leaves-then, dropped-push, distinct-after}

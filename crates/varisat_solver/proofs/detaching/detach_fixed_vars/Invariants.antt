@@ -1,6 +1,6 @@
 use Rattle.std.proofs.Common.{◌≡◌, take}
 use Rattle.varisat_tracer.specs.inside.Tracing.{tracer_state, open_parts}
-use Rattle.varisat_solver.specs.promises.Detaching.{AreDetachedAlone, DetachesFromTables}
+use Rattle.varisat_solver.specs.inside.Detached.{AreDetachedAlone, DetachesFromTables}
 use Rattle.varisat_solver.proofs.detaching.detach_fixed_vars.Given as goal
 
 abbrev pub invariant-loop-lit : goal.invariant-loop-lit

@@ -9,7 +9,8 @@ use Rattle.varisat_search.specs.Forgotten.{search_without}
 use Rattle.varisat_search.specs.Seen.{search_of}
 use Rattle.varisat_search.specs.Contexts.{view}
 use Rattle.varisat_tracer.specs.inside.Tracing.{tracer_state}
-use Rattle.varisat_solver.specs.promises.Detaching.{leads_to_unassumed, unassumed_among, FlagsVariables, AreDetachedAlone, DetachesFromTables}
+use Rattle.varisat_solver.specs.promises.Detaching.{leads_to_unassumed}
+use Rattle.varisat_solver.specs.inside.Detached.{unassumed_among, FlagsVariables, AreDetachedAlone, DetachesFromTables}
 use Rattle.varisat_solver.proofs.leaving.DetachedAlone.{dropped-logged}
 use Rattle.varisat_solver.proofs.leaving.DetachedLists.{HaveLeft, have-left, values-left, on-inside, unmentioned, assumed-stay, unassumed-distinct, unassumed-taken, kept-dropped, none-left, stands-dropped}
 use Rattle.varisat_solver.proofs.steps.SinceSteps.{come-dropped}

@@ -1,7 +1,7 @@
 use Rattle.std.proofs.Common.{sym, subst, arith}
 use Rattle.varisat_names.specs.promises.Variables.{Tables}
 use Rattle.varisat_tracer.specs.inside.Tracing.{tracer_state}
-use Rattle.varisat_solver.specs.promises.Detaching.{LosesSolverVar}
+use Rattle.varisat_solver.specs.inside.Detached.{LosesSolverVar}
 use Rattle.varisat_solver.proofs.leaving.DetachedAlone.{taken-live}
 use Rattle.varisat_solver.proofs.detaching.detach_solver_var.Goals as goal
 

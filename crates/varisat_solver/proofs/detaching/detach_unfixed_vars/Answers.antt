@@ -4,7 +4,7 @@ use Rattle.varisat_theory.specs.promises.Literals.{variable_of}
 use Rattle.varisat_names.specs.promises.VarMap.{at}
 use Rattle.varisat_tracer.specs.inside.Tracing.{tracer_state, open_parts}
 use Rattle.varisat_prop.proofs.views.ReadElements.{item-∈}
-use Rattle.varisat_solver.specs.promises.Detaching.{LosesSolverVar, AreDetached, DetachesFromTables}
+use Rattle.varisat_solver.specs.inside.Detached.{LosesSolverVar, AreDetached, DetachesFromTables}
 use Rattle.varisat_solver.proofs.calls.ReadPlaces.{take-item, split-item}
 use Rattle.varisat_solver.proofs.modes.TableMarks.{is-there, there-is}
 use Rattle.varisat_solver.proofs.leaving.DetachedAlone.{leaves-none, leaves-dropped, leaves-then, taken-live, distinct-after}

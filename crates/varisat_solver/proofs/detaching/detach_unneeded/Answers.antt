@@ -7,7 +7,7 @@ use Rattle.varisat_search.specs.Forgotten.{search_without}
 use Rattle.varisat_search.specs.Seen.{search_of}
 use Rattle.varisat_search.specs.Contexts.{view}
 use Rattle.varisat_tracer.specs.inside.Tracing.{tracer_state}
-use Rattle.varisat_solver.specs.promises.Detaching.{FlagsVariables, ListsUnneeded, AreDetached, DetachesFromTables}
+use Rattle.varisat_solver.specs.inside.Detached.{FlagsVariables, ListsUnneeded, AreDetached, DetachesFromTables}
 use Rattle.varisat_solver.proofs.leaving.DetachedLists.{HaveLeft, have-left, values-left, needed-shown, none-leaves, released-logged, unneeded-inside, unneeded-taken, unneeded-unmentioned, named-stay, kept-released, needed-left, stands-released}
 use Rattle.varisat_solver.proofs.steps.SinceSteps.{come-dropped}
 use Rattle.varisat_solver.proofs.detaching.detach_unneeded.Given.{Over}

@@ -1,6 +1,6 @@
 use Rattle.std.proofs.Common.{take, set, sym, subst, arith, true}
 use Rattle.varisat_prop.proofs.views.ReadElements.{item-∈}
-use Rattle.varisat_solver.specs.promises.Detaching.{FlagsVariables}
+use Rattle.varisat_solver.specs.inside.Detached.{FlagsVariables}
 use Rattle.varisat_solver.proofs.calls.ReadPlaces.{take-item}
 use Rattle.varisat_solver.proofs.leaving.DetachedAlone.{flags-push}
 use Rattle.varisat_solver.proofs.detaching.flag_variables.Goals as goal

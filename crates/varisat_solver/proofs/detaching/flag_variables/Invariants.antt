@@ -1,5 +1,5 @@
 use Rattle.std.proofs.Common.{take}
-use Rattle.varisat_solver.specs.promises.Detaching.{FlagsVariables}
+use Rattle.varisat_solver.specs.inside.Detached.{FlagsVariables}
 use Rattle.varisat_solver.proofs.detaching.flag_variables.Given as goal
 
 abbrev pub invariant-loop-lit : goal.invariant-loop-lit

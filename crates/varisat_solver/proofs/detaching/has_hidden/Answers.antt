@@ -3,7 +3,7 @@ use Rattle.std.proofs.lemmas.Bool.{cases_lt}
 use Rattle.varisat_names.specs.promises.VarMap.{at}
 use Rattle.varisat_names.proofs.VarMap.{at-past}
 use Rattle.varisat_theory.proofs.clauses.Members.{equal_or_not}
-use Rattle.varisat_solver.specs.promises.Detaching.{leads_to_hidden}
+use Rattle.varisat_solver.specs.inside.Detached.{leads_to_hidden}
 use Rattle.varisat_solver.proofs.detaching.has_hidden.Goals as goal
 
 pub loop-index-preserved : goal.loop-index-preserved

@@ -1,5 +1,5 @@
 use Rattle.std.proofs.Common.{◌≡◌, take}
-use Rattle.varisat_solver.specs.promises.Detaching.{unassumed_among}
+use Rattle.varisat_solver.specs.inside.Detached.{unassumed_among}
 use Rattle.varisat_solver.proofs.detaching.list_unassumed.Given as goal
 
 abbrev pub invariant-loop-lit : goal.invariant-loop-lit

@@ -1,7 +1,7 @@
 use Rattle.std.proofs.Common.{◌≡◌, ◌+◌, true, false, sym, ap, ◌∙◌, subst, arith}
 use Rattle.varisat_theory.specs.promises.Literals.{variable_of}
 use Rattle.varisat_names.specs.promises.VarMap.{at}
-use Rattle.varisat_solver.specs.promises.Detaching.{leads_to_hidden}
+use Rattle.varisat_solver.specs.inside.Detached.{leads_to_hidden}
 use Rattle.varisat_solver.proofs.leaving.DetachedLists.{ListsBelow, lists-none, lists-pass, lists-one, lists-all}
 use Rattle.varisat_solver.proofs.detaching.list_unneeded.Goals as goal
 

@@ -1,7 +1,8 @@
 -- The limit of steps is put back, and the search ends as that of `solve` does.
 use Rattle.std.proofs.Common.{◌≡◌, ◌∙◌, ℕ, Bool, Result, sym, ap, subst}
 use Rattle.varisat_solver.specs.promises.States.{State, Ledger}
-use Rattle.varisat_solver.specs.promises.Summaries.{Summary, Represents}
+use Rattle.varisat_solver.specs.promises.Summaries.{Summary}
+use Rattle.varisat_solver.specs.inside.Representations.{Represents}
 use Rattle.varisat_solver.specs.promises.Calls.{Searches, Solves, with_max_steps, by_state}
 use Rattle.varisat_solver.specs.declared.solver.SolverError.{SolverError}
 use Rattle.varisat_solver.proofs.accepting.Additions.{logged-error}

@@ -1,6 +1,6 @@
 use Rattle.std.proofs.Common.{◌-◌, ◌≤◌}
 use Rattle.varisat_solver.specs.promises.States.{State}
-use Rattle.varisat_solver.specs.promises.Summaries.{Represents}
+use Rattle.varisat_solver.specs.inside.Representations.{Represents}
 use Rattle.varisat_solver.proofs.steps.SearchRounds.{WentOn}
 use Rattle.varisat_solver.proofs.rounds.seek_in_rounds.Given as goal
 

@@ -4,7 +4,7 @@ use Rattle.varisat_theory.specs.promises.Literals.{Assignment, literal_of}
 use Rattle.varisat_names.specs.promises.VarMap.{at}
 use Rattle.varisat_names.proofs.Tables.{named-inside}
 use Rattle.varisat_solver.specs.promises.Models.{put_name}
-use Rattle.varisat_solver.specs.promises.Summaries.{model_value, list_tables}
+use Rattle.varisat_solver.specs.inside.Representations.{model_value, list_tables}
 use Rattle.varisat_solver.proofs.calls.SolverCalls.{tables-push}
 use Rattle.varisat_solver.proofs.solver.list_model.Goals.{in-Some+in_ok-push, in_default}
 use Rattle.varisat_solver.proofs.solver.list_model.Goals as goal

@@ -1,5 +1,5 @@
 use Rattle.std.proofs.Common.{◌≡◌}
-use Rattle.varisat_solver.specs.promises.Summaries.{list_tables}
+use Rattle.varisat_solver.specs.inside.Representations.{list_tables}
 use Rattle.varisat_solver.proofs.solver.list_model.Given as goal
 
 abbrev pub invariant-loop-index : goal.invariant-loop-index

@@ -11,7 +11,7 @@ use Rattle.varisat_steps.proofs.Broken.{passed-on}
 use Rattle.varisat_tracer.specs.inside.Tracing.{tracer_state, TakesGlobally, BreaksProof}
 use Rattle.varisat_tracer.proofs.Logging.{breaks-proof, proof-breaks-on}
 use Rattle.varisat_solver.specs.inside.Searches.{turn_of}
-use Rattle.varisat_solver.specs.promises.Summaries.{undecided_spaces, IsValidSolver}
+use Rattle.varisat_solver.specs.inside.Representations.{undecided_spaces, IsValidSolver}
 use Rattle.varisat_solver.proofs.steps.SinceSteps.{leaves-begun, come-begun, steps-begun}
 use Rattle.varisat_solver.proofs.entries.CheckedHeld.{relied, some-on}
 use Rattle.varisat_solver.proofs.steps.SolverSteps.{comes-through, unknown-undecided, some-through, begins-any, begin-count, begin-kept, begin-logged, begin-tables, begin-logs, begin-comes}

@@ -8,7 +8,7 @@ use Rattle.varisat_tracer.specs.inside.Tracing.{tracer_state}
 use Rattle.varisat_tracer.proofs.Logging.{proof-breaks-on}
 use Rattle.varisat_solver.specs.promises.Budgets.{CountsSteps}
 use Rattle.varisat_solver.specs.inside.Searches.{answer_at, Turn, turn_of, ComesOn, FailsStep, MakesSolverStep, FindsVerdict}
-use Rattle.varisat_solver.specs.promises.Summaries.{undecided_spaces, spaces_with}
+use Rattle.varisat_solver.specs.inside.Representations.{undecided_spaces, spaces_with}
 use Rattle.varisat_solver.proofs.entries.CheckedHeld.{some-on}
 use Rattle.varisat_solver.proofs.steps.FindVerdictSteps.{searching-at, not-less, so-far, Stepping, one-more, stepping-moved, stepping-goes-on, stepping-counts, stepping-since, stepping-shortens, none-made, counts-spent, counts-refused, since-stopped, logged-refused, not-spent, room}
 use Rattle.varisat_solver.proofs.steps.SolverSteps.{later, later-turn, comes-nowhere, comes-one-more, comes-undecided, comes-decided, unknown-undecided, some-none, some-through}

@@ -4,7 +4,7 @@ use Rattle.varisat_tracer.specs.inside.Tracing.{tracer_state, CanLog}
 use Rattle.varisat_search.specs.Contexts.{view}
 use Rattle.varisat_solver.specs.promises.Detaching.{DetachesInTime}
 use Rattle.varisat_solver.specs.inside.Searches.{LogsSome, turn_of, ComesOn}
-use Rattle.varisat_solver.specs.promises.Summaries.{undecided_spaces, IsValidSolver}
+use Rattle.varisat_solver.specs.inside.Representations.{undecided_spaces, IsValidSolver}
 use Rattle.varisat_solver.proofs.steps.FindVerdictSteps.{HasMade}
 use Rattle.varisat_solver.proofs.solving.find_verdict.Given as goal
 

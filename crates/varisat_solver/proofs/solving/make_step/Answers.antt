@@ -7,7 +7,7 @@ use Rattle.varisat_steps.proofs.Broken.{passed-on, on-error}
 use Rattle.varisat_tracer.specs.inside.Tracing.{tracer_state}
 use Rattle.varisat_tracer.proofs.Logging.{proof-breaks-on, logs-on}
 use Rattle.varisat_solver.specs.inside.Searches.{turn_of, FailsStep, BeginsSolverStep, MakesNamedStep}
-use Rattle.varisat_solver.specs.promises.Summaries.{undecided_spaces, spaces_with}
+use Rattle.varisat_solver.specs.inside.Representations.{undecided_spaces, spaces_with}
 use Rattle.varisat_solver.proofs.steps.SinceSteps.{leaves-stepped, come-ended, steps-begun, step-ended}
 use Rattle.varisat_solver.proofs.entries.CheckedHeld.{some-on}
 use Rattle.varisat_solver.proofs.steps.SearchVerdicts.{ready-counted, named-counted, kept-named, kept-counted}

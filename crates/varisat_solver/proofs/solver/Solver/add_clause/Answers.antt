@@ -9,7 +9,8 @@ use Rattle.varisat_solver.proofs.accepting.AcceptClause.{not-refuted}
 use Rattle.varisat_tracer.specs.inside.Tracing.{tracer_state, BreaksProof}
 use Rattle.varisat_search.specs.StepErrors.{step_faults}
 use Rattle.varisat_solver.specs.promises.Refusals.{returned_faults}
-use Rattle.varisat_solver.specs.promises.Summaries.{Summary, Represents, spaces_with}
+use Rattle.varisat_solver.specs.promises.Summaries.{Summary}
+use Rattle.varisat_solver.specs.inside.Representations.{Represents, spaces_with}
 use Rattle.varisat_solver.specs.promises.Targets.{WritesAll, WritesUpTo}
 use Rattle.varisat_solver.specs.declared.solver.SolverError.TheVariants.{ClauseStoreFull, Invalid, ClauseAfterSolve}
 use Rattle.varisat_solver.proofs.entries.Targets.{writes-nothing, refused-unwritten, logs-writes, breaks-writes, names-unwritten, names-not-full, refused-full, same-error}

@@ -3,7 +3,7 @@ use Rattle.std.proofs.Common.{◌≡◌, ◌++◌, map, Ok}
 use Rattle.varisat_solver.specs.promises.States.{State}
 use Rattle.varisat_solver.specs.promises.Calls.{by_state}
 use Rattle.varisat_solver.specs.promises.Additions.{AddsAll}
-use Rattle.varisat_solver.specs.promises.Summaries.{Represents}
+use Rattle.varisat_solver.specs.inside.Representations.{Represents}
 use Rattle.varisat_solver.specs.promises.Targets.{WritesAll}
 use Rattle.varisat_solver.proofs.solver.Solver.add_clauses.Given as goal
 

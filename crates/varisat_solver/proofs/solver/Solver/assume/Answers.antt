@@ -7,7 +7,7 @@ use Rattle.varisat_search.specs.StepErrors.{step_faults}
 use Rattle.varisat_solver.specs.promises.Targets.{WritesUpTo}
 use Rattle.varisat_tracer.specs.inside.Tracing.{tracer_state, BreaksProof}
 use Rattle.varisat_solver.specs.promises.OpenProofs.{BarsAssumptions}
-use Rattle.varisat_solver.specs.promises.Summaries.{Represents, spaces_with}
+use Rattle.varisat_solver.specs.inside.Representations.{Represents, spaces_with}
 use Rattle.varisat_solver.proofs.calls.ChangeEnds.{kept-changed, stands-changed, stands-broken, stands-invalid, invalid-logged}
 use Rattle.varisat_solver.proofs.calls.SettingsCalls.{summary_of}
 use Rattle.varisat_solver.proofs.accepting.Joins.{ListJoins, list-joins}

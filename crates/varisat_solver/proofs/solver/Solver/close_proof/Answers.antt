@@ -6,7 +6,8 @@ use Rattle.varisat_solver.specs.promises.OpenProofs.{opened_state}
 use Rattle.varisat_solver.specs.declared.solver.SolverError.{SolverError}
 use Rattle.varisat_solver.specs.declared.solver.SolverError.TheVariants.{ProofIoError}
 use Rattle.varisat_solver.specs.promises.States.{Ledger}
-use Rattle.varisat_solver.specs.promises.Summaries.{Summary, spaces_with, RepresentsSome}
+use Rattle.varisat_solver.specs.promises.Summaries.{Summary}
+use Rattle.varisat_solver.specs.inside.Representations.{spaces_with, RepresentsSome}
 use Rattle.varisat_solver.specs.promises.Calls.{count_anew}
 use Rattle.varisat_solver.specs.promises.ProofCalls.{with_proof, ClosesProof}
 use Rattle.varisat_solver.proofs.calls.CallStates.{stands-valid, broken, broken-invalid}

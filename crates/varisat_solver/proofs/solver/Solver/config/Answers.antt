@@ -1,6 +1,6 @@
 use Rattle.std.proofs.Common.{not, refl, ap, sym, subst}
 use Rattle.varisat_search.specs.declared.context.Context.{Context}
-use Rattle.varisat_solver.specs.promises.Summaries.{spaces_with, RepresentsSome}
+use Rattle.varisat_solver.specs.inside.Representations.{spaces_with, RepresentsSome}
 use Rattle.varisat_tracer.specs.inside.Tracing.{tracer_state}
 use Rattle.varisat_solver.specs.promises.Calls.{with_update, Configures}
 use Rattle.varisat_solver.proofs.calls.CallStates.{stands-valid}

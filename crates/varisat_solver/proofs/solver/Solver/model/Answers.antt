@@ -1,7 +1,7 @@
 use Rattle.std.proofs.Common.{◌≡◌, ◌∙◌, length, not, refl, sym, ap, subst, inl, Some}
 use Rattle.varisat_solver.specs.promises.Calls.{by_state}
 use Rattle.varisat_solver.specs.promises.Models.{IsCompletable}
-use Rattle.varisat_solver.specs.promises.Summaries.{list_tables}
+use Rattle.varisat_solver.specs.inside.Representations.{list_tables}
 use Rattle.varisat_solver.proofs.calls.CallStates.{stands-valid}
 use Rattle.varisat_solver.proofs.calls.SolverCalls.{sat-model, logs-error}
 use Rattle.varisat_solver.proofs.solver.Solver.model.Goals as goal

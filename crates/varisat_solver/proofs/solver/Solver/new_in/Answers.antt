@@ -11,7 +11,7 @@ use Rattle.varisat_clause.specs.Stores.{Store}
 use Rattle.varisat_tracer.specs.inside.Tracing.{CanLog}
 use Rattle.varisat_solver.specs.promises.States.{empty_state}
 use Rattle.varisat_solver.specs.inside.Spaces.{SpacesFit}
-use Rattle.varisat_solver.specs.promises.Summaries.{spaces_of, spaces_with, RepresentsSome}
+use Rattle.varisat_solver.specs.inside.Representations.{spaces_of, spaces_with, RepresentsSome}
 use Rattle.varisat_proof.specs.promises.Proving.{ProofParts, is_there}
 use Rattle.varisat_solver.proofs.calls.CallStates.{ledger-is}
 use Rattle.varisat_solver.proofs.calls.SolverCalls.{first-spaces, first-kept}

@@ -4,7 +4,7 @@ use Rattle.varisat_names.specs.promises.VarMap.{at}
 use Rattle.varisat_search.specs.Contexts.{view}
 use Rattle.varisat_names.proofs.NamedVariables.{unmapped-near, unmapped-same}
 use Rattle.varisat_tracer.specs.inside.Tracing.{tracer_state}
-use Rattle.varisat_solver.specs.promises.Summaries.{spaces}
+use Rattle.varisat_solver.specs.inside.Representations.{spaces}
 use Rattle.varisat_solver.specs.promises.States.{Ledger, with_variables}
 use Rattle.varisat_solver.specs.promises.Names.{Naming, name_one}
 use Rattle.varisat_solver.specs.promises.Calls.{with_naming, start, MakesVar}

@@ -18,7 +18,7 @@ use Rattle.varisat_names.specs.promises.Variables.{Tables}
 use Rattle.varisat_proof.specs.promises.Calls.{CheckerState}
 use Rattle.varisat_proof.specs.promises.Proving.{ProofParts}
 use Rattle.varisat_solver.specs.inside.Spaces.{Spaces, SpacesFit}
-use Rattle.varisat_solver.specs.promises.Summaries.{Represents, RepresentsSome, spaces_of, spaces_with, undecided_spaces}
+use Rattle.varisat_solver.specs.inside.Representations.{Represents, RepresentsSome, spaces_of, spaces_with, undecided_spaces}
 use Rattle.varisat_solver.specs.promises.Calls.{by_state, with_steps, Searches, IsSpent, ReturnsVerdict}
 use Rattle.varisat_solver.specs.declared.solver.SolverError.{SolverError}
 use Rattle.varisat_solver.specs.declared.solver.SolverError.TheVariants.{Interrupted, ClauseStoreFull, Invalid}

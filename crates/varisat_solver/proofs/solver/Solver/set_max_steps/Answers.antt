@@ -3,7 +3,7 @@ use Rattle.std.proofs.Common.{Some, ap, sym, ◌∙◌, subst}
 use Rattle.varisat_names.specs.promises.Settings.{no_update}
 use Rattle.varisat_search.specs.declared.context.Context.{Context}
 use Rattle.varisat_tracer.specs.inside.Tracing.{tracer_state}
-use Rattle.varisat_solver.specs.promises.Summaries.{spaces_with, RepresentsSome}
+use Rattle.varisat_solver.specs.inside.Representations.{spaces_with, RepresentsSome}
 use Rattle.varisat_solver.proofs.calls.SettingsCalls.{limits-steps, stands-limited, counts-limited, kept-updated}
 use Rattle.varisat_solver.proofs.solver.Solver.set_max_steps.Goals as goal
 

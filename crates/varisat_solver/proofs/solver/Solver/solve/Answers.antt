@@ -5,7 +5,8 @@ use Rattle.varisat_solver.specs.declared.solver.SolverError.TheVariants.{ClauseS
 use Rattle.varisat_solver.proofs.entries.Targets.{writes-marked, ends-writing, fails-writing, ends-not-full, still-full, same-error, ends-badly-invalid}
 use Rattle.varisat_solver.specs.promises.Calls.{Solves, by_state}
 use Rattle.varisat_solver.specs.promises.ProofCalls.{with_proof}
-use Rattle.varisat_solver.specs.promises.Summaries.{Summary, Represents}
+use Rattle.varisat_solver.specs.promises.Summaries.{Summary}
+use Rattle.varisat_solver.specs.inside.Representations.{Represents}
 use Rattle.varisat_solver.proofs.accepting.Additions.{logged-error}
 use Rattle.varisat_solver.proofs.steps.SearchRounds.{solve-ends, solve-fails, stood-before}
 use Rattle.varisat_solver.proofs.solver.Solver.solve.Goals as goal

@@ -3,7 +3,7 @@ use Rattle.varisat_proof.specs.promises.Proving.{ProofParts}
 use Rattle.varisat_tracer.specs.inside.Tracing.{CanLog}
 use Rattle.varisat_solver.specs.promises.OpenProofs.{first_proof}
 use Rattle.varisat_solver.specs.promises.States.{Ledger}
-use Rattle.varisat_solver.specs.promises.Summaries.{spaces_with, RepresentsSome}
+use Rattle.varisat_solver.specs.inside.Representations.{spaces_with, RepresentsSome}
 use Rattle.varisat_solver.specs.promises.Calls.{count_anew}
 use Rattle.varisat_solver.specs.promises.ProofCalls.{with_proof, OpensProof}
 use Rattle.varisat_solver.proofs.calls.ChangeEnds.{stands-invalid}

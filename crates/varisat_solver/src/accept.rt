@@ -108,7 +108,8 @@ pub fn accept_user_clause<W: ProofTarget, A: Allocator + Copy>(
     ensures fails { IfErr result
         (FailsClause clause.now (tracer_state tracer.old) ctx.old (tracer_state tracer.new) ctx.new) }
 {
-    // A model that was found may not satisfy the clause.
+    // A model that was found may not satisfy the clause. `load_clause` reopens too, but names take variables first, for
+    // which the model has no values.
     ctx.solver_state.reopen();
     tracer.tables.prove_linked();
     solver_from_user_lits(ctx, &mut tracer.tables, literals, clause)?;
@@ -140,7 +141,8 @@ pub fn assume_list<W: ProofTarget, A: Allocator + Copy>(
     // The target is asked last: where it fails the list is assumed already, so that there was memory for it.
     ensures last { IfErr result (λ error. error ≢ StepError.Memory → ctx.new.assumptions.user ≡ list.now) }
 {
-    // What was found under the assumptions before says nothing of these.
+    // What was found under the assumptions before says nothing of these. `set_assumptions` forgets it too, but names take
+    // variables first.
     ctx.solver_state.assume();
     tracer.tables.prove_linked();
     solver_from_user_lits(ctx, &mut tracer.tables, literals, list)?;

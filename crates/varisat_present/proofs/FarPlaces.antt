@@ -7,7 +7,7 @@ use Rattle.std.proofs.Common.{◌≡◌, ℕ, zero, suc, ◌+◌, ◌<◌, ◌�
 use Rattle.std.proofs.lemmas.List.{get_or_append_left, get_or_at, get_or-take}
 use Rattle.varisat_theory.specs.promises.Membership.{◌∈◌}
 use Rattle.varisat_theory.proofs.clauses.Places.{∈-get_or, place_in}
-use Rattle.varisat_present.specs.inside.Places.{AreFarPlaced, place_limit}
+use Rattle.varisat_present.specs.Places.{AreFarPlaced, place_limit}
 
 take_short : (n : ℕ) (xs : List ℕ) (k : ℕ) → k < length (take n xs) → (k < n) × (k < length xs)
 take_short zero xs k h = absurd (omega arith)

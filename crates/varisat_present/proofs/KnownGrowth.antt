@@ -10,7 +10,7 @@ use Rattle.varisat_theory.proofs.clauses.Values.{opposite_twice}
 use Rattle.varisat_theory.proofs.clauses.ConflictForms.{never_its_own}
 use Rattle.varisat_theory.proofs.clauses.Places.{∈-take_more, ∈-take_all}
 use Rattle.varisat_plain.proofs.PropagationRounds.{IsQuiet, quiet_known, quiet_open, unknown, unknown_fewer, unknown_less}
-use Rattle.varisat_present.specs.inside.Knowing.{AreImplied, GrowsKnown, Finds, Saturates, TakesBase, IsPassed, Joins, Passes}
+use Rattle.varisat_present.specs.Knowing.{AreImplied, GrowsKnown, Finds, Saturates, TakesBase, IsPassed, Joins, Passes}
 
 -- 1. One literal.
 no_clash_joined : (known : List Literal) (l : Literal) → (HasClash known → ⊥) → (opposite l ∈ known → ⊥) → HasClash (known ++ (l ∷ [])) → ⊥

@@ -3,7 +3,7 @@ use Rattle.std.proofs.Common.{◌≡◌, ℕ, zero, suc, ◌+◌, ◌-◌, ◌<�
 use Rattle.std.proofs.lemmas.List.{get_or-set_same, get_or-set_other, get_or_past, get_or_read, length-set, take_more, take-append-drop, length-drop}
 use Rattle.varisat_theory.specs.promises.Membership.{◌∈◌, IsDistinct}
 use Rattle.varisat_theory.proofs.clauses.Members.{∈-append_left, ∈-append_right, ∈-append_cases, ∈-or_not, distinct_append, equal_or_not}
-use Rattle.varisat_present.specs.inside.Places.{MarksKnown, LosesMarks, place_limit}
+use Rattle.varisat_present.specs.Places.{MarksKnown, LosesMarks, place_limit}
 
 -- 1. One more literal.
 before : (xs : List ℕ) (l m : ℕ) → (m ≡ l → ⊥) → m ∈ (xs ++ (l ∷ [])) → m ∈ xs

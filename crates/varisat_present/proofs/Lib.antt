@@ -5,7 +5,4 @@ pub mod KnownMarks
 pub mod FarPlaces
 pub mod PlacedClauses
 pub mod KnownGrowth
-pub mod KeptLiterals
-pub mod RatPlaces
-pub mod FirstPlaces
 pub mod QuietPairs

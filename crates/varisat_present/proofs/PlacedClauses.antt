@@ -7,7 +7,7 @@ use Rattle.varisat_theory.specs.promises.Derivations.{TakesOut}
 use Rattle.varisat_theory.specs.promises.Held.{mentions, unless, without}
 use Rattle.varisat_plain.specs.promises.Checking.{IsAbsent}
 use Rattle.varisat_theory.proofs.clauses.Members.{∈-append_cases}
-use Rattle.varisat_present.specs.inside.Places.{present, present_at, literals_there}
+use Rattle.varisat_present.specs.Places.{present, present_at, literals_there}
 
 -- 1. A place.
 pub at_read : {A : Type 0} (cs : List (Option (Vec ℕ A))) (i : ℕ) (o : Option (Vec ℕ A)) → i < length cs → o ≡ get_or cs i o →

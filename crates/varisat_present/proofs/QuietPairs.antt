@@ -4,8 +4,8 @@ use Rattle.std.proofs.lemmas.List.{length-set, get_or_read}
 use Rattle.varisat_theory.specs.promises.Membership.{◌∈◌}
 use Rattle.varisat_theory.specs.promises.Literals.{Literal, Clause}
 use Rattle.varisat_theory.specs.promises.Propagation.{HasClash, IsComplete}
-use Rattle.varisat_present.specs.inside.Places.{present, present_at}
-use Rattle.varisat_present.specs.inside.Pairs.{IsLiteralAt, HaveLiterals, IsQuietPair, IsQuietAt}
+use Rattle.varisat_present.specs.Places.{present, present_at}
+use Rattle.varisat_present.specs.Pairs.{IsLiteralAt, HaveLiterals, IsQuietPair, IsQuietAt}
 use Rattle.varisat_present.proofs.KnownGrowth.{Round, round_same, complete_open, complete_both}
 use Rattle.varisat_present.proofs.PlacedClauses.{present_more, present_same, still_there}
 

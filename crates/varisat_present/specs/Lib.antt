@@ -1,2 +1,3 @@
-pub mod inside
-pub mod promises
+pub mod Knowing
+pub mod Pairs
+pub mod Places

@@ -2,7 +2,7 @@
 ghost use Rattle.std.specs.Prelude.{◌≡◌, ℕ, ◌≤◌, ◌↔◌, ◌++◌, ◌∷◌, ◌<◌, [], length, take, false, IsTrue, OnOk, slice_get, slice_index_or};
 ghost use Rattle.varisat_theory.specs.promises.Membership.{◌∈◌};
 ghost use Rattle.varisat_theory.specs.promises.Literals.{opposite};
-ghost use Rattle.varisat_present.specs.inside.Places.{place_limit, LosesMarks};
+ghost use Rattle.varisat_present.specs.Places.{place_limit, LosesMarks};
 
 use std::alloc::{AllocError, Allocator};
 use std::collections::BTreeMap;
@@ -21,7 +21,7 @@ pub struct Known<A: Allocator + Copy> {
 
 impl<A: Allocator + Copy> Model for Known<A> {
     ghost use Rattle.std.specs.Prelude.{ℕ, List};
-    ghost use Rattle.varisat_present.specs.inside.Places.{MarksKnown, AreFarPlaced};
+    ghost use Rattle.varisat_present.specs.Places.{MarksKnown, AreFarPlaced};
 
     ghost Value = { List ℕ };
 

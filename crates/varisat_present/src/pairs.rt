@@ -3,7 +3,7 @@
 ghost use Rattle.std.specs.Prelude.{◌≡◌, ◌≢◌, true, MatchOption};
 ghost use Rattle.varisat_theory.specs.promises.Literals.{opposite};
 ghost use Rattle.varisat_theory.specs.promises.Membership.{◌∈◌};
-ghost use Rattle.varisat_present.specs.inside.Pairs.{IsLiteralAt, HaveLiterals, IsQuietPair, IsQuietAt};
+ghost use Rattle.varisat_present.specs.Pairs.{IsLiteralAt, HaveLiterals, IsQuietPair, IsQuietAt};
 
 use crate::clause::find_other;
 use crate::known::Known;

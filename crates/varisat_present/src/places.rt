@@ -4,7 +4,7 @@ ghost use Rattle.varisat_plain.specs.promises.Checking.{IsAbsent};
 ghost use Rattle.varisat_theory.specs.promises.Held.{mentions, without};
 ghost use Rattle.varisat_theory.specs.promises.Literals.{Clause};
 ghost use Rattle.varisat_theory.specs.promises.Membership.{SameSet};
-ghost use Rattle.varisat_present.specs.inside.Places.{present, present_at};
+ghost use Rattle.varisat_present.specs.Places.{present, present_at};
 
 use crate::clause::mentions;
 use crate::sets::is_equal_set;

@@ -4,9 +4,9 @@ ghost use Rattle.std.specs.Prelude.{◌≡◌, ◌<◌, ℕ, length, IfOk, false
 ghost use Rattle.varisat_theory.specs.promises.Membership.{◌∈◌};
 ghost use Rattle.varisat_theory.specs.promises.Literals.{opposite};
 ghost use Rattle.varisat_theory.specs.promises.Propagation.{HasClash};
-ghost use Rattle.varisat_present.specs.inside.Places.{present};
-ghost use Rattle.varisat_present.specs.inside.Pairs.{HaveLiterals};
-ghost use Rattle.varisat_present.specs.inside.Knowing.{Finds, Saturates, Passes, TakesBase, IsPassed};
+ghost use Rattle.varisat_present.specs.Places.{present};
+ghost use Rattle.varisat_present.specs.Pairs.{HaveLiterals};
+ghost use Rattle.varisat_present.specs.Knowing.{Finds, Saturates, Passes, TakesBase, IsPassed};
 
 use crate::clause::status_of;
 use crate::guide::Guide;

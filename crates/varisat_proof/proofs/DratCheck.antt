@@ -4,9 +4,9 @@ use Rattle.varisat_theory.specs.promises.Literals.{Clause, IsSatisfiable}
 use Rattle.varisat_theory.specs.promises.Derivations.{Add, Delete}
 use Rattle.varisat_theory.proofs.clauses.RatLines.{rat_sound, drat_line_sound, drat_refutes}
 use Rattle.varisat_formula.specs.promises.Streams.{Input}
-use Rattle.varisat_present.specs.declared.present.Deletion.{Deletion}
-use Rattle.varisat_present.specs.declared.present.Deletion.TheVariants as deletion
-use Rattle.varisat_present.specs.promises.Resolving.{IsDeletionOf}
+use Rattle.varisat_rat.specs.declared.present.Deletion.{Deletion}
+use Rattle.varisat_rat.specs.declared.present.Deletion.TheVariants as deletion
+use Rattle.varisat_rat.specs.promises.Resolving.{IsDeletionOf}
 use Rattle.varisat_proof.specs.declared.proof.format.Encoding.{Encoding}
 use Rattle.varisat_proof.specs.declared.proof.format.LineKind.{LineKind}
 use Rattle.varisat_proof.specs.declared.proof.format.LineKind.TheVariants.{Adds, Deletes, Accepts, Assumes, Fails}

@@ -10,7 +10,7 @@ use Rattle.varisat_theory.proofs.clauses.Members.{equal_or_not, ∈-append_cases
 use Rattle.varisat_theory.proofs.clauses.RatLines.{but_for-∈}
 use Rattle.varisat_theory.proofs.clauses.Held.{same_set-self, same_set-through, takes_from, same_clauses_find, same_clauses-back, follows_same, same_add, takes_out_unique}
 use Rattle.varisat_plain.specs.promises.Checking.{IsAbsent}
-use Rattle.varisat_present.specs.promises.Resolving.{IsForced, IsRatOnSome}
+use Rattle.varisat_rat.specs.promises.Resolving.{IsForced, IsRatOnSome}
 use Rattle.varisat_proof.specs.declared.proof.format.Encoding.{Encoding}
 use Rattle.varisat_proof.specs.declared.proof.format.LineKind.{LineKind}
 use Rattle.varisat_proof.specs.declared.proof.format.LineKind.TheVariants.{Adds, Deletes, Accepts, Assumes, Fails}

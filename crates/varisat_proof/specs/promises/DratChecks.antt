@@ -4,7 +4,7 @@ use Rattle.varisat_theory.specs.promises.Literals.{Clause}
 use Rattle.varisat_theory.specs.promises.Propagation.{Follows}
 use Rattle.varisat_theory.specs.promises.Derivations.{TakesOut}
 use Rattle.varisat_plain.specs.promises.Checking.{IsAbsent}
-use Rattle.varisat_present.specs.promises.Resolving.{IsForced, IsRatOnSome}
+use Rattle.varisat_rat.specs.promises.Resolving.{IsForced, IsRatOnSome}
 use Rattle.varisat_proof.specs.declared.proof.format.LineKind.{LineKind}
 use Rattle.varisat_proof.specs.declared.proof.format.LineKind.TheVariants.{Adds, Deletes}
 use Rattle.varisat_proof.specs.declared.proof.format.ProofFormat.{ProofFormat}

@@ -32,7 +32,7 @@ use varisat_formula::dimacs::{ClauseSink, DimacsError, DimacsErrorKind, read_cla
 use varisat_formula::formula::CnfFormula;
 use varisat_formula::io::{ByteSource, PIECE};
 use varisat_literals::{Lit, Var};
-use varisat_present::PresentClauses;
+use varisat_rat::PresentClauses;
 
 /// How many lines were looked at, and whether the present clauses conflicted.
 #[derive(Clone, Copy)]

@@ -9,7 +9,7 @@ use crate::checker::line::LineStatus;
 use crate::proof::format::LineKind;
 use std::alloc::{AllocError, Allocator};
 use varisat_literals::Lit;
-use varisat_present::{Deletion, PresentClauses};
+use varisat_rat::{Deletion, PresentClauses};
 
 /// How many lines of a DRAT proof were of a kind that a check of plain lines refuses, and where the line is that was
 /// looked at last. All numbers stay at 2^64-1 once they are there.

@@ -1,5 +1,5 @@
 use Rattle.std.proofs.Common.{take}
-use Rattle.varisat_present.specs.inside.Places.{LosesMarks}
+use Rattle.varisat_present.specs.Places.{LosesMarks}
 use Rattle.varisat_present.proofs.known.unmark.Given as goal
 
 abbrev pub invariant-loop-l : goal.invariant-loop-l

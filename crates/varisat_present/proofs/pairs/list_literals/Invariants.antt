@@ -1,5 +1,5 @@
 use Rattle.std.proofs.Common.{◌≡◌, length}
-use Rattle.varisat_present.specs.inside.Pairs.{HaveLiterals}
+use Rattle.varisat_present.specs.Pairs.{HaveLiterals}
 use Rattle.varisat_present.proofs.pairs.list_literals.Given as goal
 
 abbrev pub invariant-loop-place : goal.invariant-loop-place

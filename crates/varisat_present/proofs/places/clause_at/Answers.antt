@@ -1,5 +1,5 @@
 use Rattle.std.proofs.Common.{◌<◌, length, Some, sym, ap, ◌∙◌, arith}
-use Rattle.varisat_present.specs.inside.Places.{literals_there}
+use Rattle.varisat_present.specs.Places.{literals_there}
 use Rattle.varisat_present.proofs.PlacedClauses.{at_read, at_past}
 use Rattle.varisat_present.proofs.places.clause_at.Goals as goal
 

@@ -1,6 +1,6 @@
 use Rattle.std.proofs.Common.{Bool, subst}
-use Rattle.varisat_present.specs.inside.Places.{present}
-use Rattle.varisat_present.specs.inside.Knowing.{Finds}
+use Rattle.varisat_present.specs.Places.{present}
+use Rattle.varisat_present.specs.Knowing.{Finds}
 use Rattle.varisat_present.proofs.PlacedClauses.{at_in}
 use Rattle.varisat_present.proofs.KnownGrowth.{grows_none, grows_on, finds_no_more, finds_on, passed_finds}
 use Rattle.varisat_present.proofs.propagation.follow.Given.{Over}

@@ -1,5 +1,5 @@
-use Rattle.varisat_present.specs.inside.Places.{present}
-use Rattle.varisat_present.specs.inside.Knowing.{GrowsKnown}
+use Rattle.varisat_present.specs.Places.{present}
+use Rattle.varisat_present.specs.Knowing.{GrowsKnown}
 use Rattle.varisat_present.proofs.propagation.follow.Given as goal
 
 abbrev pub invariant-loop-place : goal.invariant-loop-place

@@ -1,6 +1,6 @@
 use Rattle.std.proofs.Common.{Bool, subst, take, arith}
-use Rattle.varisat_present.specs.inside.Places.{present}
-use Rattle.varisat_present.specs.inside.Knowing.{IsPassed}
+use Rattle.varisat_present.specs.Places.{present}
+use Rattle.varisat_present.specs.Knowing.{IsPassed}
 use Rattle.varisat_present.proofs.PlacedClauses.{at_in, present_more, present_same, present_all}
 use Rattle.varisat_present.proofs.KnownGrowth.{round_start, round_same, round_on, round_false, round_end}
 use Rattle.varisat_present.proofs.QuietPairs.{round_quiet}

@@ -1,5 +1,5 @@
 use Rattle.std.proofs.Common.{take}
-use Rattle.varisat_present.specs.inside.Places.{present}
+use Rattle.varisat_present.specs.Places.{present}
 use Rattle.varisat_present.proofs.KnownGrowth.{Round}
 use Rattle.varisat_present.proofs.propagation.pass.Given as goal
 

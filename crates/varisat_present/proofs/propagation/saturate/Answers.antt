@@ -1,5 +1,5 @@
 use Rattle.std.proofs.Common.{arith}
-use Rattle.varisat_present.specs.inside.Places.{present}
+use Rattle.varisat_present.specs.Places.{present}
 use Rattle.varisat_present.proofs.KnownGrowth.{grows_on, saturates_early, saturates_found, saturates_end, less_left}
 use Rattle.varisat_present.proofs.propagation.saturate.Goals as goal
 

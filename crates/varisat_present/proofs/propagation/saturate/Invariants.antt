@@ -1,6 +1,6 @@
 use Rattle.varisat_plain.proofs.PropagationRounds.{unknown}
-use Rattle.varisat_present.specs.inside.Places.{present}
-use Rattle.varisat_present.specs.inside.Knowing.{GrowsKnown}
+use Rattle.varisat_present.specs.Places.{present}
+use Rattle.varisat_present.specs.Knowing.{GrowsKnown}
 use Rattle.varisat_present.proofs.propagation.saturate.Given as goal
 
 abbrev pub invariant-rounds : goal.invariant-rounds

@@ -1,5 +1,5 @@
 use Rattle.std.proofs.Common.{ℕ, List, ◌-◌, length, take, drop, sym, subst}
-use Rattle.varisat_present.specs.inside.Places.{LosesMarks, MarksKnown, AreFarPlaced}
+use Rattle.varisat_present.specs.Places.{LosesMarks, MarksKnown, AreFarPlaced}
 use Rattle.varisat_present.proofs.KnownMarks.{marked_cut}
 use Rattle.varisat_present.proofs.FarPlaces.{far_cut}
 use Rattle.varisat_present.proofs.known.Known.cut.Goals as goal

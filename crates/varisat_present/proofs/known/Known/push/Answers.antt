@@ -2,7 +2,7 @@ use Rattle.std.specs.BTreeMap.{Updates}
 use Rattle.std.specs.Ordering.{nat_cmp}
 use Rattle.std.proofs.Common.{Some, ℕ, List, subst, sym, arith}
 use Rattle.varisat_theory.specs.promises.Membership.{◌∈◌}
-use Rattle.varisat_present.specs.inside.Places.{MarksKnown, AreFarPlaced}
+use Rattle.varisat_present.specs.Places.{MarksKnown, AreFarPlaced}
 use Rattle.varisat_present.proofs.KnownMarks.{marked_same, marked_at, marked_far}
 use Rattle.varisat_present.proofs.FarPlaces.{far_near, far_other, far_pushed}
 use Rattle.varisat_present.proofs.known.Known.push.Given.{Over}

@@ -1,6 +1,0 @@
-use Rattle.std.proofs.Common.{◌≡◌, ◌≤◌, length, take}
-use Rattle.varisat_present.specs.inside.Places.{present}
-use Rattle.varisat_present.proofs.present.PresentClauses.clause.Given as goal
-
-abbrev pub invariant-loop-place : goal.invariant-loop-place
-invariant-loop-place g l = (l.before ≡ length (present (take l.place l.self-inside.places.items))) × (l.before ≤ l.i)

@@ -1,0 +1,3 @@
+pub mod KeptLiterals
+pub mod RatPlaces
+pub mod FirstPlaces

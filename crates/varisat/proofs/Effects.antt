@@ -5,7 +5,7 @@ use Rattle.varisat_theory.specs.promises.Literals.{Literal, Clause}
 use Rattle.varisat_formula.specs.declared.dimacs.error.DimacsError.{DimacsError}
 use Rattle.varisat_formula.specs.promises.Dimacs.{Reading}
 use Rattle.varisat_formula.specs.promises.Streams.{Input, Taken}
-use Rattle.varisat_proof.specs.declared.proof.format.ProofFormat.{ProofFormat}
+use Rattle.varisat_lines.specs.declared.format.ProofFormat.{ProofFormat}
 use Rattle.varisat_names.specs.declared.config.SolverConfigUpdate.{SolverConfigUpdate}
 use Rattle.varisat_solver.specs.promises.OpenProofs.{OpenProof, BarsAssumptions}
 use Rattle.varisat_solver.specs.promises.ProofCalls.{OpensProof, EnablesChecking, IsProofIfOpen, Closes}

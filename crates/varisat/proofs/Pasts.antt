@@ -5,7 +5,7 @@ use Rattle.std.proofs.lemmas.List.{append-nil}
 use Rattle.varisat_theory.specs.promises.Membership.{◌⊆◌}
 use Rattle.varisat_theory.specs.promises.Literals.{Literal, Clause, Assignment, IsSatisfiable}
 use Rattle.varisat_theory.specs.promises.Journals.{Accepts, Assumes}
-use Rattle.varisat_proof.specs.declared.proof.format.ProofFormat.{ProofFormat}
+use Rattle.varisat_lines.specs.declared.format.ProofFormat.{ProofFormat}
 use Rattle.varisat_proof.specs.promises.Assumed.{lists_of}
 use Rattle.varisat_solver.specs.promises.OpenProofs.{OpenProof}
 use Rattle.varisat_solver.specs.promises.States.{State, Ledger, Verdict, Unknown, Sat, Unsat, UnsatUnderAssumptions, new_state, IsRight, HasRightVerdict}

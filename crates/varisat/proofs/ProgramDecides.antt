@@ -16,7 +16,7 @@ use Rattle.varisat_formula.specs.promises.Streams.{Input, Taken, Reads, HasEnded
 use Rattle.varisat_formula.proofs.ParsedSources.{gives_whole}
 use Rattle.varisat_names.specs.declared.config.SolverConfigUpdate.{SolverConfigUpdate}
 use Rattle.varisat_names.specs.promises.Settings.{Settings, no_update}
-use Rattle.varisat_proof.specs.declared.proof.format.ProofFormat.{ProofFormat}
+use Rattle.varisat_lines.specs.declared.format.ProofFormat.{ProofFormat}
 use Rattle.varisat_solver.specs.promises.ProofCalls.{OpensProof, EnablesChecking}
 use Rattle.varisat.specs.promises.Proven.{file_update, configured, prepared, Concludes}
 use Rattle.varisat_solver.specs.promises.States.{State, Ledger, join_counted, empty_state, new_state}

@@ -18,8 +18,8 @@ use Rattle.varisat.proofs.NameLaws.{stay-in-order, none-in-order}
 use Rattle.varisat.proofs.ProgramDecides.{done, Carries, prepared-begun, unsearched, found}
 use Rattle.varisat_theory.specs.promises.Membership.{◌⊆◌}
 use Rattle.varisat_theory.specs.promises.Journals.{lines_of}
-use Rattle.varisat_proof.specs.promises.Logging.{logged_bytes}
-use Rattle.varisat_proof.specs.declared.proof.format.ProofFormat.{ProofFormat}
+use Rattle.varisat_lines.specs.promises.Logging.{logged_bytes}
+use Rattle.varisat_lines.specs.declared.format.ProofFormat.{ProofFormat}
 use Rattle.varisat_proof.specs.promises.Proving.{OpenState, IsClosed}
 use Rattle.varisat_solver.specs.promises.OpenProofs.{OpenProof, opened_state, GoesOnWriting, searched_under, first_proof}
 use Rattle.varisat_solver.specs.promises.ProofCalls.{IsProofIfOpen}

@@ -6,10 +6,10 @@ use Rattle.varisat_theory.specs.promises.Propagation.{Conflicts}
 use Rattle.varisat_theory.specs.promises.Journals.{Fails, Leads, Entry, rename_entry, Accepts, Writes, Assumes, Retires, lines_of}
 use Rattle.varisat_theory.proofs.journals.Journals.{leads_cut, by_leads}
 use Rattle.varisat_solver.specs.promises.Calls.{ReturnsVerdict, by_state, IsRefuted}
-use Rattle.varisat_proof.specs.declared.proof.format.ProofFormat.TheVariants.{Marked, Drat, BinaryDrat}
-use Rattle.varisat_proof.specs.promises.Lines.{line_of_kind, ProofLine, encoding_of, plain_lines, plain_encoding, has_marks}
-use Rattle.varisat_proof.specs.promises.Written.{line_text, Written, AreInRange}
-use Rattle.varisat_proof.specs.promises.Logging.{logged_bytes, logged_lines}
+use Rattle.varisat_lines.specs.declared.format.ProofFormat.TheVariants.{Marked, Drat, BinaryDrat}
+use Rattle.varisat_lines.specs.promises.Lines.{line_of_kind, ProofLine, encoding_of, plain_lines, plain_encoding, has_marks}
+use Rattle.varisat_lines.specs.promises.Written.{line_text, Written, AreInRange}
+use Rattle.varisat_lines.specs.promises.Logging.{logged_bytes, logged_lines}
 use Rattle.varisat_tracer.specs.promises.Carried.{carry}
 use Rattle.varisat_solver.specs.promises.OpenProofs.{entries_over, lines_over}
 use Rattle.varisat_solver.specs.promises.Journals.{LogsMore, EndWithCore, EndBy}
@@ -17,19 +17,19 @@ use Rattle.varisat_solver.proofs.entries.OpenProofs.{bytes-more, lines-renamed}
 use Rattle.varisat_solver.specs.promises.States.{State, Unknown, UnsatUnderAssumptions}
 use Rattle.varisat_theory.specs.promises.Membership.{◌∈◌}
 use Rattle.varisat_theory.specs.promises.Derivations.{IsDerivation}
-use Rattle.varisat_proof.specs.declared.proof.format.Encoding.TheVariants.{Text}
-use Rattle.varisat_proof.specs.declared.proof.format.ProofFormat.{ProofFormat}
+use Rattle.varisat_lines.specs.declared.format.Encoding.TheVariants.{Text}
+use Rattle.varisat_lines.specs.declared.format.ProofFormat.{ProofFormat}
 use Rattle.varisat_proof.specs.declared.checker.error.CheckVerdict.{CheckVerdict}
 use Rattle.varisat_proof.specs.declared.checker.error.CheckerError.{CheckerError}
 use Rattle.varisat_proof.specs.promises.Results.{IsResult, IsAccepted}
-use Rattle.varisat_proof.specs.promises.Steps.{lines_written}
+use Rattle.varisat_lines.specs.promises.Steps.{lines_written}
 use Rattle.varisat_proof.proofs.RightResults.{derivation_accepted}
 use Rattle.varisat.specs.inside.Laws.{BytesAreAccepted, MarkedProofsPass}
 use Rattle.varisat_proof.specs.promises.Marked.{nothing_logged, state_of, IsCheckOf}
 use Rattle.varisat_proof.proofs.MarkedOnce.{check_through}
 use Rattle.varisat_proof.proofs.PassingJournals.{marked_accepted, journals_pass}
 use Rattle.varisat.specs.promises.Pasts.{by_answers}
-use Rattle.varisat_proof.specs.declared.proof.format.LineKind.TheVariants as kind
+use Rattle.varisat_lines.specs.declared.format.LineKind.TheVariants as kind
 
 -- A core that a call of `solve` finds is logged and written, and conflicts with what is held then.
 

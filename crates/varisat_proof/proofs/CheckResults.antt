@@ -2,14 +2,14 @@
 use Rattle.std.proofs.Common.{◌≡◌, ℕ, List, true, sym, ap, subst, ◌∙◌, Some, Result, Ok, Err}
 use Rattle.varisat_theory.specs.promises.Literals.{Clause, IsSatisfiable}
 use Rattle.varisat_formula.specs.promises.Streams.{Input}
-use Rattle.varisat_proof.specs.declared.proof.format.ProofFormat.{ProofFormat}
-use Rattle.varisat_proof.specs.declared.proof.format.Encoding.{Encoding}
-use Rattle.varisat_proof.specs.declared.proof.format.Encoding.TheVariants.{Text}
+use Rattle.varisat_lines.specs.declared.format.ProofFormat.{ProofFormat}
+use Rattle.varisat_lines.specs.declared.format.Encoding.{Encoding}
+use Rattle.varisat_lines.specs.declared.format.Encoding.TheVariants.{Text}
 use Rattle.varisat_proof.specs.declared.checker.error.CheckVerdict.{CheckVerdict}
 use Rattle.varisat_proof.specs.declared.checker.error.CheckVerdict.TheVariants.{Refutation}
 use Rattle.varisat_proof.specs.declared.checker.error.CheckerError.{CheckerError}
 use Rattle.varisat_proof.specs.declared.checker.marked.MarkedReport.{MarkedReport}
-use Rattle.varisat_proof.specs.promises.Lines.{plain_encoding}
+use Rattle.varisat_lines.specs.promises.Lines.{plain_encoding}
 use Rattle.varisat_proof.specs.promises.Marked.{MarkedLog, ProofState, nothing_logged, IsCheckOf, state_of}
 use Rattle.varisat_proof.specs.promises.Results.{IsResult}
 use Rattle.varisat_proof.specs.promises.Calls.{ChecksBytes, is_of_bytes, IsMarkedResult, IsTrueReport, core_lists}

@@ -4,28 +4,28 @@ use Rattle.std.proofs.lemmas.List.{take-append-drop, take_more}
 use Rattle.varisat_theory.specs.promises.Literals.{Clause}
 use Rattle.varisat_theory.specs.promises.Propagation.{Conflicts}
 use Rattle.varisat_plain.specs.promises.Checking.{IsAbsent}
-use Rattle.varisat_proof.specs.declared.proof.format.Encoding.{Encoding}
-use Rattle.varisat_proof.specs.declared.proof.format.Encoding.TheVariants.{Text, Binary}
-use Rattle.varisat_proof.specs.declared.proof.format.LineKind.{LineKind}
-use Rattle.varisat_proof.specs.declared.proof.format.LineKind.TheVariants.{Adds, Deletes}
+use Rattle.varisat_lines.specs.declared.format.Encoding.{Encoding}
+use Rattle.varisat_lines.specs.declared.format.Encoding.TheVariants.{Text, Binary}
+use Rattle.varisat_lines.specs.declared.format.LineKind.{LineKind}
+use Rattle.varisat_lines.specs.declared.format.LineKind.TheVariants.{Adds, Deletes}
 use Rattle.varisat_proof.specs.declared.checker.line.LineStatus.{LineStatus}
 use Rattle.varisat_proof.specs.declared.checker.line.LineStatus.TheVariants.{Taken, Unproved, Absent, Unassumed}
-use Rattle.varisat_proof.specs.declared.checker.token.Symbol.{Symbol}
-use Rattle.varisat_proof.specs.declared.checker.token.Symbol.TheVariants.{Mark, Number, Cut, Bad}
-use Rattle.varisat_proof.specs.declared.checker.token.Event.{Event}
-use Rattle.varisat_proof.specs.declared.checker.token.Event.TheVariants.{More, Ended, Fault}
+use Rattle.varisat_lines.specs.declared.token.Symbol.{Symbol}
+use Rattle.varisat_lines.specs.declared.token.Symbol.TheVariants.{Mark, Number, Cut, Bad}
+use Rattle.varisat_lines.specs.declared.token.Event.{Event}
+use Rattle.varisat_lines.specs.declared.token.Event.TheVariants.{More, Ended, Fault}
 use Rattle.varisat_proof.specs.declared.checker.error.CheckVerdict.{CheckVerdict}
 use Rattle.varisat_proof.specs.declared.checker.error.CheckVerdict.TheVariants.{Refutation, Derivation}
 use Rattle.varisat_proof.specs.declared.checker.error.CheckerError.{CheckerError}
 use Rattle.varisat_proof.specs.declared.checker.error.CheckerError.TheVariants.{CheckFailed, NoSuchClause, CoreNotAssumed, Parse, OutOfMemory}
 use Rattle.varisat_proof.specs.declared.checker.check.Count.{Count}
-use Rattle.varisat_proof.specs.promises.Lines.{ProofLine, line_of_kind, letter_kind, step_number}
-use Rattle.varisat_proof.specs.promises.Grammar.{Accepted, Faulty, tag_kind}
-use Rattle.varisat_proof.specs.inside.Machine.{ParserState, Parsed, ReaderState, line_at, number_event, begin_event, event, begin_line, after_number, moved, last_symbol, put, at_end, happens, after, parsed, parsed_from, begin, last_event, last_place, last_offset}
-use Rattle.varisat_proof.specs.promises.Means.{BytesMean, Means}
+use Rattle.varisat_lines.specs.promises.Lines.{ProofLine, line_of_kind, letter_kind, step_number}
+use Rattle.varisat_lines.specs.promises.Grammar.{Accepted, Faulty, tag_kind}
+use Rattle.varisat_lines.specs.inside.Machine.{ParserState, Parsed, ReaderState, line_at, number_event, begin_event, event, begin_line, after_number, moved, last_symbol, put, at_end, happens, after, parsed, parsed_from, begin, last_event, last_place, last_offset}
+use Rattle.varisat_lines.specs.promises.Means.{BytesMean, Means}
 use Rattle.varisat_proof.specs.promises.Marked.{MarkedLog, ProofState, Rules, strict_rules, GoesBy, IsCheckBy, state_of}
 use Rattle.varisat_proof.specs.inside.Checks.{IsLineStatus, StopsBehind, IsAfterLines, LastIsWrong, IsWrongLast, with_lines, HasRead, CheckBreaksOff, EndsWith, result_at_end}
-use Rattle.varisat_proof.proofs.TokenLines.{parsed_means}
+use Rattle.varisat_lines.proofs.TokenLines.{parsed_means}
 
 -- 1. Lines.
 pub absent_status : (s t : ProofState) (kind : LineKind) (c : Clause) → kind ≡ Deletes → IsAbsent s.present c → t ≡ s →

@@ -5,13 +5,13 @@ use Rattle.varisat_theory.specs.promises.Propagation.{Conflicts}
 use Rattle.varisat_formula.specs.promises.Streams as streams
 use Rattle.varisat_formula.specs.promises.Streams.{Input, HasEnded}
 use Rattle.varisat_formula.proofs.ParsedSources.{reads_none, reads_more}
-use Rattle.varisat_proof.specs.declared.proof.format.Encoding.{Encoding}
+use Rattle.varisat_lines.specs.declared.format.Encoding.{Encoding}
 use Rattle.varisat_proof.specs.declared.checker.error.CheckVerdict.{CheckVerdict}
 use Rattle.varisat_proof.specs.declared.checker.error.CheckerError.{CheckerError}
 use Rattle.varisat_proof.specs.declared.checker.error.CheckerError.TheVariants.{CheckFailed, NoSuchClause, CoreNotAssumed, Parse, Io, OutOfMemory, Dimacs, Spent}
 use Rattle.varisat_proof.specs.declared.checker.check.Count.{Count}
-use Rattle.varisat_proof.specs.promises.Lines.{ProofLine}
-use Rattle.varisat_proof.specs.inside.Machine.{ReaderState, begin}
+use Rattle.varisat_lines.specs.promises.Lines.{ProofLine}
+use Rattle.varisat_lines.specs.inside.Machine.{ReaderState, begin}
 use Rattle.varisat_proof.specs.promises.Marked.{ProofState, Rules, IsCheckBy}
 use Rattle.varisat_proof.specs.inside.Checks.{StopsBehind, IsAfterLines, HasRead, CheckBreaksOff, EndsWith}
 use Rattle.varisat_proof.specs.promises.Calls.{ChecksBytes, AtEnd, InText, SourceFailed, RanOut, IsOfBytes, is_of_bytes, is_io}

@@ -7,10 +7,10 @@ use Rattle.varisat_formula.specs.promises.Streams.{Input}
 use Rattle.varisat_rat.specs.declared.present.Deletion.{Deletion}
 use Rattle.varisat_rat.specs.declared.present.Deletion.TheVariants as deletion
 use Rattle.varisat_rat.specs.promises.Resolving.{IsDeletionOf}
-use Rattle.varisat_proof.specs.declared.proof.format.Encoding.{Encoding}
-use Rattle.varisat_proof.specs.declared.proof.format.LineKind.{LineKind}
-use Rattle.varisat_proof.specs.declared.proof.format.LineKind.TheVariants.{Adds, Deletes, Accepts, Assumes, Fails}
-use Rattle.varisat_proof.specs.declared.proof.format.ProofFormat.{ProofFormat}
+use Rattle.varisat_lines.specs.declared.format.Encoding.{Encoding}
+use Rattle.varisat_lines.specs.declared.format.LineKind.{LineKind}
+use Rattle.varisat_lines.specs.declared.format.LineKind.TheVariants.{Adds, Deletes, Accepts, Assumes, Fails}
+use Rattle.varisat_lines.specs.declared.format.ProofFormat.{ProofFormat}
 use Rattle.varisat_proof.specs.declared.checker.drat.Redundancy.{Redundancy}
 use Rattle.varisat_proof.specs.declared.checker.drat.Redundancy.TheVariants as why
 use Rattle.varisat_proof.specs.declared.checker.line.LineStatus.{LineStatus}
@@ -18,7 +18,7 @@ use Rattle.varisat_proof.specs.declared.checker.line.LineStatus.TheVariants.{Tak
 use Rattle.varisat_proof.specs.declared.checker.error.CheckVerdict.{CheckVerdict}
 use Rattle.varisat_proof.specs.declared.checker.error.CheckVerdict.TheVariants.{Refutation}
 use Rattle.varisat_proof.specs.declared.checker.error.CheckerError.{CheckerError}
-use Rattle.varisat_proof.specs.promises.Lines.{ProofLine, line_of_kind, plain_encoding}
+use Rattle.varisat_lines.specs.promises.Lines.{ProofLine, line_of_kind, plain_encoding}
 use Rattle.varisat_proof.specs.promises.Marked.{MarkedLog, ProofState, nothing_logged, state_of, GoesBy, IsCheckBy}
 use Rattle.varisat_proof.specs.inside.Checks.{IsLineStatus}
 use Rattle.varisat_proof.specs.promises.Calls.{ChecksBytes}

@@ -11,9 +11,9 @@ use Rattle.varisat_theory.proofs.clauses.RatLines.{but_for-∈}
 use Rattle.varisat_theory.proofs.clauses.Held.{same_set-self, same_set-through, takes_from, same_clauses_find, same_clauses-back, follows_same, same_add, takes_out_unique}
 use Rattle.varisat_plain.specs.promises.Checking.{IsAbsent}
 use Rattle.varisat_rat.specs.promises.Resolving.{IsForced, IsRatOnSome}
-use Rattle.varisat_proof.specs.declared.proof.format.Encoding.{Encoding}
-use Rattle.varisat_proof.specs.declared.proof.format.LineKind.{LineKind}
-use Rattle.varisat_proof.specs.declared.proof.format.LineKind.TheVariants.{Adds, Deletes, Accepts, Assumes, Fails}
+use Rattle.varisat_lines.specs.declared.format.Encoding.{Encoding}
+use Rattle.varisat_lines.specs.declared.format.LineKind.{LineKind}
+use Rattle.varisat_lines.specs.declared.format.LineKind.TheVariants.{Adds, Deletes, Accepts, Assumes, Fails}
 use Rattle.varisat_proof.specs.declared.checker.line.LineStatus.{LineStatus}
 use Rattle.varisat_proof.specs.declared.checker.line.LineStatus.TheVariants.{Unproved}
 use Rattle.varisat_proof.specs.promises.Marked.{CheckOnceBy}

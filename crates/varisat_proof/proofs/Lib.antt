@@ -1,10 +1,3 @@
-pub mod Elements
-pub mod TokenSymbols
-pub mod MachineTokens
-pub mod TokenLines
-pub mod WrittenLines
-pub mod GrammarLaws
-pub mod LineBytes
 pub mod CheckedLines
 pub mod CheckedSources
 pub mod PlainResults
@@ -17,9 +10,7 @@ pub mod CheckResults
 pub mod DratCheck
 pub mod RightResults
 pub mod CheckedSteps
-pub mod MappedSteps
 pub mod AddedTexts
 pub mod VerifiedTexts
 pub mod PrintedTexts
-pub mod StepLines
 pub mod LoggedSteps

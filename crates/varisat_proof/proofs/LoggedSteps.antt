@@ -14,11 +14,11 @@ use Rattle.varisat_steps.specs.declared.step.ProofStep.{ProofStep}
 use Rattle.varisat_steps.specs.declared.step.ProofStep.TheVariants.{AtClause, UnitClauses, DeleteClause, DeleteVar, FailedAssumptions}
 use Rattle.varisat_steps.specs.declared.tracer.TraceError.{TraceError}
 use Rattle.varisat_steps.specs.declared.tracer.TraceError.TheVariants.{Memory}
-use Rattle.varisat_proof.specs.declared.proof.format.Encoding.{Encoding}
+use Rattle.varisat_lines.specs.declared.format.Encoding.{Encoding}
 use Rattle.varisat_proof.specs.declared.checker.error.CheckerError.{CheckerError}
 use Rattle.varisat_proof.specs.declared.checker.error.CheckerError.TheVariants.{CheckFailed, NoSuchClause, CoreNotAssumed, Parse, Io, OutOfMemory, Dimacs, Spent}
-use Rattle.varisat_proof.specs.promises.Lines.{ProofLine, encoding_of}
-use Rattle.varisat_proof.specs.promises.Steps.{step_lines}
+use Rattle.varisat_lines.specs.promises.Lines.{ProofLine, encoding_of}
+use Rattle.varisat_lines.specs.promises.Steps.{step_lines}
 use Rattle.varisat_proof.specs.promises.Calls.{CheckerState, IsStepTaken, FailsAt, DoesNotFollow, IsStep}
 use Rattle.varisat_proof.specs.inside.Present.{IsLeftAfter}
 use Rattle.varisat_proof.specs.promises.Proving.{OpenState, ProofParts, IsWritten, IsWrittenIf, IsCheckedIf, IsLogged, Logs, logged, MayBePresent, IsUsable, IsSpent, RunsOutLogging}

@@ -6,10 +6,10 @@ use Rattle.varisat_theory.specs.promises.Literals.{Clause}
 use Rattle.varisat_theory.specs.promises.Derivations.{Add, Delete}
 use Rattle.varisat_theory.specs.promises.Journals.{Entry, Accepts, Writes, Assumes, Fails, Retires, Leads, NoneRetires, accepted_of}
 use Rattle.varisat_formula.specs.promises.Formulas.{with_one_more}
-use Rattle.varisat_proof.specs.declared.proof.format.Encoding.TheVariants.{Text}
+use Rattle.varisat_lines.specs.declared.format.Encoding.TheVariants.{Text}
 use Rattle.varisat_proof.specs.promises.Assumed.{assumed_behind, CoresAreAssumed, cores_of}
 use Rattle.varisat_proof.specs.promises.Marked.{MarkedLog, state_of, TakesAll}
-use Rattle.varisat_proof.specs.promises.Logging.{logged_lines}
+use Rattle.varisat_lines.specs.promises.Logging.{logged_lines}
 use Rattle.std.specs.Prelude.{length}
 
 -- what the lines lead to

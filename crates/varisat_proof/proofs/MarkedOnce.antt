@@ -7,20 +7,20 @@ use Rattle.varisat_theory.specs.promises.Propagation.{Conflicts}
 use Rattle.varisat_theory.specs.promises.Held.{SameClauses}
 use Rattle.varisat_theory.proofs.clauses.Held.{same_set-self, same_set-through, takes_from, same_clauses_find, same_clauses-self, same_clauses-back, conflicts_same, follows_same, same_add, takes_out_unique}
 use Rattle.varisat_formula.specs.promises.Formulas.{with_one_more}
-use Rattle.varisat_proof.specs.declared.proof.format.Encoding.{Encoding}
-use Rattle.varisat_proof.specs.declared.proof.format.LineKind.{LineKind}
-use Rattle.varisat_proof.specs.declared.proof.format.LineKind.TheVariants.{Adds, Deletes, Accepts, Assumes, Fails}
+use Rattle.varisat_lines.specs.declared.format.Encoding.{Encoding}
+use Rattle.varisat_lines.specs.declared.format.LineKind.{LineKind}
+use Rattle.varisat_lines.specs.declared.format.LineKind.TheVariants.{Adds, Deletes, Accepts, Assumes, Fails}
 use Rattle.varisat_proof.specs.declared.checker.line.LineStatus.{LineStatus}
 use Rattle.varisat_proof.specs.declared.checker.line.LineStatus.TheVariants.{Unproved, Absent, Unassumed}
 use Rattle.varisat_proof.specs.declared.checker.error.CheckVerdict.{CheckVerdict}
 use Rattle.varisat_proof.specs.declared.checker.error.CheckVerdict.TheVariants.{Refutation, Derivation}
 use Rattle.varisat_proof.specs.declared.checker.error.CheckerError.{CheckerError}
 use Rattle.varisat_proof.specs.declared.checker.error.CheckerError.TheVariants.{CheckFailed, NoSuchClause, CoreNotAssumed, Parse}
-use Rattle.varisat_proof.specs.promises.Lines.{ProofLine, step_number}
-use Rattle.varisat_proof.specs.inside.Machine.{Parsed, parsed}
+use Rattle.varisat_lines.specs.promises.Lines.{ProofLine, step_number}
+use Rattle.varisat_lines.specs.inside.Machine.{Parsed, parsed}
 use Rattle.varisat_proof.specs.promises.Marked.{MarkedLog, ProofState, Rules, strict_rules, TakesKind, IsWrongKind, GoesBy, Goes, TakesAll, GoesThrough, StopsBeforeBy, StopsCheckBy, StopsCheck, CheckOnceBy, CheckOnce, CheckGoesThrough}
 use Rattle.varisat_proof.proofs.CheckedLines.{error_of}
-use Rattle.varisat_proof.proofs.TokenLines.{only_parsed}
+use Rattle.varisat_lines.proofs.TokenLines.{only_parsed}
 
 -- 1. The same but for the order of clauses and of their literals.
 pub record Same (s t : ProofState) : Type 0 where

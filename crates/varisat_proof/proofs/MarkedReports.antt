@@ -5,13 +5,13 @@ use Rattle.varisat_theory.specs.promises.Literals.{Literal, Clause, Assignment, 
 use Rattle.varisat_theory.proofs.clauses.Members.{∈-append_cases, ∈-append_left, ∈-append_right}
 use Rattle.varisat_theory.proofs.clauses.Assigned.{satisfies_more}
 use Rattle.varisat_theory.proofs.clauses.Sound.{conflicts_sound, follows_entails, takes_less}
-use Rattle.varisat_proof.specs.declared.proof.format.LineKind.{LineKind}
-use Rattle.varisat_proof.specs.declared.proof.format.LineKind.TheVariants.{Adds, Deletes, Accepts, Assumes, Fails}
-use Rattle.varisat_proof.specs.declared.proof.format.Encoding.TheVariants.{Text}
+use Rattle.varisat_lines.specs.declared.format.LineKind.{LineKind}
+use Rattle.varisat_lines.specs.declared.format.LineKind.TheVariants.{Adds, Deletes, Accepts, Assumes, Fails}
+use Rattle.varisat_lines.specs.declared.format.Encoding.TheVariants.{Text}
 use Rattle.varisat_proof.specs.declared.checker.error.CheckVerdict.{CheckVerdict}
 use Rattle.varisat_proof.specs.declared.checker.error.CheckVerdict.TheVariants.{Refutation}
 use Rattle.varisat_proof.specs.declared.checker.marked.MarkedReport.{MarkedReport}
-use Rattle.varisat_proof.specs.promises.Lines.{ProofLine}
+use Rattle.varisat_lines.specs.promises.Lines.{ProofLine}
 use Rattle.varisat_proof.specs.promises.Marked.{MarkedLog, ProofState, nothing_logged, TakesKind, Goes, StopsCheck, IsCheckOf, state_of}
 use Rattle.varisat_proof.specs.promises.Calls.{core_lists, IsMarkedResult, IsTrueReport}
 

@@ -8,23 +8,23 @@ use Rattle.varisat_theory.specs.promises.Journals.{Entry, Accepts, Writes, Assum
 use Rattle.varisat_theory.proofs.clauses.Held.{conflicts_same}
 use Rattle.varisat_theory.proofs.journals.Journals.{leads_unique}
 use Rattle.varisat_formula.specs.promises.Formulas.{with_one_more}
-use Rattle.varisat_proof.specs.declared.proof.format.Encoding.TheVariants.{Text}
-use Rattle.varisat_proof.specs.declared.proof.format.LineKind.{LineKind}
-use Rattle.varisat_proof.specs.declared.proof.format.LineKind.TheVariants as kind
+use Rattle.varisat_lines.specs.declared.format.Encoding.TheVariants.{Text}
+use Rattle.varisat_lines.specs.declared.format.LineKind.{LineKind}
+use Rattle.varisat_lines.specs.declared.format.LineKind.TheVariants as kind
 use Rattle.varisat_proof.specs.declared.checker.error.CheckVerdict.{CheckVerdict}
 use Rattle.varisat_proof.specs.declared.checker.error.CheckVerdict.TheVariants.{Refutation, Derivation}
 use Rattle.varisat_proof.specs.declared.checker.error.CheckerError.{CheckerError}
 use Rattle.varisat_proof.specs.promises.Assumed.{cores_of}
-use Rattle.varisat_proof.specs.promises.Lines.{ProofLine, line_of_kind, plain_line, has_kind, HasKinds}
+use Rattle.varisat_lines.specs.promises.Lines.{ProofLine, line_of_kind, plain_line, has_kind, HasKinds}
 use Rattle.varisat_proof.specs.promises.Marked.{MarkedLog, nothing_logged, ProofState, state_of, Goes, GoesThrough}
-use Rattle.varisat_proof.specs.declared.proof.format.ProofFormat.TheVariants.{Marked}
-use Rattle.varisat_proof.specs.promises.Grammar.{Accepted}
-use Rattle.varisat_proof.specs.promises.Logging.{logged_lines, logged_bytes}
-use Rattle.varisat_proof.specs.promises.Written.{AreInRange}
+use Rattle.varisat_lines.specs.declared.format.ProofFormat.TheVariants.{Marked}
+use Rattle.varisat_lines.specs.promises.Grammar.{Accepted}
+use Rattle.varisat_lines.specs.promises.Logging.{logged_lines, logged_bytes}
+use Rattle.varisat_lines.specs.promises.Written.{AreInRange}
 use Rattle.varisat_proof.specs.promises.Passing.{LogsConflict, LogsAllOf, PassesWith, JournalsPass}
 use Rattle.varisat_proof.proofs.MarkedJournals.{journal_taken, one_longer}
 use Rattle.varisat_proof.proofs.MarkedOnce.{check_through}
-use Rattle.varisat_proof.proofs.WrittenLines.{written_accepted}
+use Rattle.varisat_lines.proofs.WrittenLines.{written_accepted}
 
 -- 1. Lines and entries.
 -- marked text has lines of each kind

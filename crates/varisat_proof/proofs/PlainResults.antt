@@ -8,18 +8,18 @@ use Rattle.varisat_plain.specs.declared.checker.PlainVerdict.{PlainVerdict}
 use Rattle.varisat_plain.specs.declared.checker.PlainVerdict.TheVariants as plain
 use Rattle.varisat_plain.proofs.Checking.{Checked, checked_start, checked_more, refutation_found, derivation_found, wrong_found}
 use Rattle.varisat_theory.proofs.clauses.Lines.{refutes_sound}
-use Rattle.varisat_proof.specs.declared.proof.format.ProofFormat.{ProofFormat}
-use Rattle.varisat_proof.specs.declared.proof.format.ProofFormat.TheVariants.{Drat, BinaryDrat, Marked}
-use Rattle.varisat_proof.specs.declared.proof.format.Encoding.{Encoding}
-use Rattle.varisat_proof.specs.declared.proof.format.LineKind.{LineKind}
-use Rattle.varisat_proof.specs.declared.proof.format.LineKind.TheVariants.{Adds, Deletes, Accepts, Assumes, Fails}
+use Rattle.varisat_lines.specs.declared.format.ProofFormat.{ProofFormat}
+use Rattle.varisat_lines.specs.declared.format.ProofFormat.TheVariants.{Drat, BinaryDrat, Marked}
+use Rattle.varisat_lines.specs.declared.format.Encoding.{Encoding}
+use Rattle.varisat_lines.specs.declared.format.LineKind.{LineKind}
+use Rattle.varisat_lines.specs.declared.format.LineKind.TheVariants.{Adds, Deletes, Accepts, Assumes, Fails}
 use Rattle.varisat_proof.specs.declared.checker.line.LineStatus.TheVariants.{Unproved, Absent, Unassumed}
 use Rattle.varisat_proof.specs.declared.checker.error.CheckVerdict.{CheckVerdict}
 use Rattle.varisat_proof.specs.declared.checker.error.CheckVerdict.TheVariants.{Refutation, Derivation}
 use Rattle.varisat_proof.specs.declared.checker.error.CheckerError.{CheckerError}
 use Rattle.varisat_proof.specs.declared.checker.error.CheckerError.TheVariants.{CheckFailed, NoSuchClause, CoreNotAssumed, Parse}
-use Rattle.varisat_proof.specs.promises.Lines.{ProofLine, line_of_kind, plain_line, plain_lines, plain_encoding, has_kind, HasKinds, step_number}
-use Rattle.varisat_proof.specs.promises.Means.{BytesMean}
+use Rattle.varisat_lines.specs.promises.Lines.{ProofLine, line_of_kind, plain_line, plain_lines, plain_encoding, has_kind, HasKinds, step_number}
+use Rattle.varisat_lines.specs.promises.Means.{BytesMean}
 use Rattle.varisat_proof.specs.promises.Marked.{MarkedLog, ProofState, Takes, Goes, StopsBefore, StopsCheck, IsCheckOf, state_of}
 use Rattle.varisat_proof.specs.promises.Results.{result_of, StopsAt, IsResult}
 

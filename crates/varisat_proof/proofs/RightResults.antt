@@ -8,13 +8,13 @@ use Rattle.varisat_plain.specs.declared.checker.PlainVerdict.TheVariants as plai
 use Rattle.varisat_plain.proofs.Checking.{exact, wrong_no_derivation}
 use Rattle.varisat_proof.specs.declared.checker.error.CheckVerdict.{CheckVerdict}
 use Rattle.varisat_proof.specs.declared.checker.error.CheckerError.{CheckerError}
-use Rattle.varisat_proof.specs.declared.proof.format.Encoding.{Encoding}
-use Rattle.varisat_proof.specs.declared.proof.format.ProofFormat.{ProofFormat}
-use Rattle.varisat_proof.specs.promises.Lines.{ProofLine, plain_line, plain_lines, plain_encoding, HasKinds}
-use Rattle.varisat_proof.specs.inside.Machine.{Parsed, parsed}
+use Rattle.varisat_lines.specs.declared.format.Encoding.{Encoding}
+use Rattle.varisat_lines.specs.declared.format.ProofFormat.{ProofFormat}
+use Rattle.varisat_lines.specs.promises.Lines.{ProofLine, plain_line, plain_lines, plain_encoding, HasKinds}
+use Rattle.varisat_lines.specs.inside.Machine.{Parsed, parsed}
 use Rattle.varisat_proof.specs.promises.Results.{result_of, IsAccepted, DerivationIsAccepted, ResultOnce}
-use Rattle.varisat_proof.proofs.TokenLines.{only_parsed}
-use Rattle.varisat_proof.proofs.WrittenLines.{written_accepted}
+use Rattle.varisat_lines.proofs.TokenLines.{only_parsed}
+use Rattle.varisat_lines.proofs.WrittenLines.{written_accepted}
 
 -- plain lines are those of one list
 line_same : (l m : Line) → plain_line l ≡ plain_line m → l ≡ m

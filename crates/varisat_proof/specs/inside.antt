@@ -1,6 +1,3 @@
 -- What contracts inside of the program cite. No promise to users rests on these definitions.
-pub mod Machine
-pub mod Laws
 pub mod Checks
-pub mod Mapping
 pub mod Present

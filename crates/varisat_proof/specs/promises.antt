@@ -1,15 +1,9 @@
 -- What a promise to users rests on. Who wants to know what is proved reads these files, in the order that docs/GUARANTEES.md gives.
-pub mod Lines
-pub mod Written
-pub mod Grammar
-pub mod Means
-pub mod Steps
 pub mod Marked
 pub mod Results
 pub mod Calls
 pub mod DratChecks
 pub mod Verified
-pub mod Logging
 pub mod Assumed
 pub mod Passing
 pub mod Proving

@@ -5,8 +5,6 @@ pub mod drat;
 pub mod error;
 pub mod line;
 pub mod marked;
-pub mod reader;
-pub mod token;
 
 pub use check::Checker;
 pub use drat::DratCounts;

@@ -1,22 +1,11 @@
-//! What the formats promise: each is the contract of a function with an empty body.
-ghost use Rattle.varisat_proof.specs.inside.Laws.{WrittenIsAccepted, AcceptedOnce, AcceptedOrFaulty, NotBoth, FaultyOnce};
+//! What a check promises: each is the contract of a function with an empty body.
 ghost use Rattle.varisat_proof.specs.promises.DratChecks.{drat_rules};
-ghost use Rattle.varisat_proof.specs.promises.Lines.{encoding_of, plain_encoding};
+ghost use Rattle.varisat_lines.specs.promises.Lines.{encoding_of, plain_encoding};
 ghost use Rattle.varisat_proof.specs.promises.Marked.{CheckOnce, CheckOnceBy, CheckGoesThrough};
 ghost use Rattle.varisat_proof.specs.promises.Passing.{JournalsPass};
 ghost use Rattle.varisat_proof.specs.promises.Results.{DerivationIsAccepted, ResultOnce};
 
-use crate::proof::format::ProofFormat;
-
-/// Each byte string means one thing: it is accepted for one list of lines, or has its first fault at one offset, behind
-/// one list of lines. What is written for lines whose variables have numbers up to 2^28 is accepted for just these.
-pub fn bytes_mean_one_thing(_format: ProofFormat)
-    ensures written { WrittenIsAccepted (encoding_of _format) }
-    ensures once { AcceptedOnce (encoding_of _format) }
-    ensures one { AcceptedOrFaulty (encoding_of _format) }
-    ensures not_both { NotBoth (encoding_of _format) }
-    ensures fault_once { FaultyOnce (encoding_of _format) }
-{}
+use varisat_lines::format::ProofFormat;
 
 /// Over all bytes of a proof just one result of a check is right.
 pub fn one_result_is_right(_format: ProofFormat)

@@ -1,4 +1,4 @@
-//! Proofs of unsatisfiability: their lines, written and read as bytes, and a checker by unit propagation.
+//! Proofs of unsatisfiability: what a solver logs, and a checker by unit propagation.
 #![tactic(auto)]
 
 pub mod checker;

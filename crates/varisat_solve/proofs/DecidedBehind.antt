@@ -11,8 +11,8 @@ use Rattle.varisat_formula.specs.promises.Streams.{Input, Taken}
 use Rattle.varisat_formula.specs.promises.Written.{formula_text}
 use Rattle.varisat_formula.proofs.ParsedSources.{gives_whole}
 use Rattle.varisat_formula.proofs.WrittenTexts.{reads_back}
-use Rattle.varisat_proof.specs.declared.proof.format.ProofFormat.{ProofFormat}
-use Rattle.varisat_proof.specs.promises.Lines.{has_marks}
+use Rattle.varisat_lines.specs.declared.format.ProofFormat.{ProofFormat}
+use Rattle.varisat_lines.specs.promises.Lines.{has_marks}
 use Rattle.varisat_proof.specs.promises.Proving.{OpenState, IsClosed}
 use Rattle.varisat_simplify.specs.promises.Simplified.{IsMadeOf}
 use Rattle.varisat_solver.specs.promises.States.{State}

@@ -16,16 +16,16 @@ use Rattle.varisat_theory.proofs.journals.Journals.{leads_derives, written_lines
 use Rattle.varisat_theory.proofs.journals.Spoken.{spoken_wider}
 use Rattle.varisat_formula.specs.promises.Formulas.{Formula, with_one_more}
 use Rattle.varisat_formula.specs.promises.Streams.{Taken}
-use Rattle.varisat_proof.specs.declared.proof.format.ProofFormat.{ProofFormat}
-use Rattle.varisat_proof.specs.declared.proof.format.ProofFormat.TheVariants.{Drat, BinaryDrat, Marked}
-use Rattle.varisat_proof.specs.declared.proof.format.Encoding.{Encoding}
-use Rattle.varisat_proof.specs.declared.proof.format.Encoding.TheVariants.{Text}
+use Rattle.varisat_lines.specs.declared.format.ProofFormat.{ProofFormat}
+use Rattle.varisat_lines.specs.declared.format.ProofFormat.TheVariants.{Drat, BinaryDrat, Marked}
+use Rattle.varisat_lines.specs.declared.format.Encoding.{Encoding}
+use Rattle.varisat_lines.specs.declared.format.Encoding.TheVariants.{Text}
 use Rattle.varisat_proof.specs.promises.Assumed.{CoresAreAssumed, assumed_behind}
-use Rattle.varisat_proof.specs.promises.Lines.{ProofLine, encoding_of, plain_line, plain_lines, has_marks}
+use Rattle.varisat_lines.specs.promises.Lines.{ProofLine, encoding_of, plain_line, plain_lines, has_marks}
 use Rattle.varisat_proof.specs.promises.Marked.{MarkedLog, ProofState, state_of, nothing_logged, TakesAll}
-use Rattle.varisat_proof.specs.promises.Steps.{lines_written}
-use Rattle.varisat_proof.specs.promises.Logging.{logged_lines, logged_bytes}
-use Rattle.varisat_proof.specs.promises.Written.{AreInRange, line_written}
+use Rattle.varisat_lines.specs.promises.Steps.{lines_written}
+use Rattle.varisat_lines.specs.promises.Logging.{logged_lines, logged_bytes}
+use Rattle.varisat_lines.specs.promises.Written.{AreInRange, line_written}
 use Rattle.varisat_proof.proofs.MarkedJournals.{journal_taken}
 use Rattle.varisat_simplify.specs.promises.Leading.{LeadsTo, IsNamedBy}
 use Rattle.varisat_simplify.specs.promises.Simplified.{IsMadeOf}

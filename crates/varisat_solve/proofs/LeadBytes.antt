@@ -3,12 +3,12 @@ use Rattle.std.proofs.Common.{◌≡◌, ℕ, zero, suc, ◌+◌, ◌<◌, ◌�
 use Rattle.varisat_theory.specs.promises.Derivations.{Line, Add}
 use Rattle.varisat_formula.specs.promises.Streams.{Taken}
 use Rattle.varisat_formula.proofs.TargetParts.{begun_part}
-use Rattle.varisat_proof.specs.declared.proof.format.Encoding.{Encoding}
-use Rattle.varisat_proof.specs.declared.proof.writer.WriteError.{WriteError}
-use Rattle.varisat_proof.specs.declared.proof.writer.WriteError.TheVariants.{Memory, Target}
-use Rattle.varisat_proof.specs.promises.Lines.{plain_line, plain_lines}
-use Rattle.varisat_proof.specs.promises.Steps.{lines_written, PutsLines}
-use Rattle.varisat_proof.specs.promises.Written.{line_written}
+use Rattle.varisat_lines.specs.declared.format.Encoding.{Encoding}
+use Rattle.varisat_lines.specs.declared.writer.WriteError.{WriteError}
+use Rattle.varisat_lines.specs.declared.writer.WriteError.TheVariants.{Memory, Target}
+use Rattle.varisat_lines.specs.promises.Lines.{plain_line, plain_lines}
+use Rattle.varisat_lines.specs.promises.Steps.{lines_written, PutsLines}
+use Rattle.varisat_lines.specs.promises.Written.{line_written}
 
 split-lines : (e : Encoding) (ls : List Line) (i : ℕ) (l : Line) → i < length ls → l ≡ get_or ls i (Add []) →
     lines_written e (plain_lines (take i ls)) ++ (lines_written e (plain_line l ∷ []) ++ lines_written e (plain_lines (drop (suc i) ls)))

@@ -5,7 +5,7 @@ use Rattle.varisat_theory.specs.promises.Derivations.{Line}
 use Rattle.varisat_formula.specs.promises.Formulas.{Formula}
 use Rattle.varisat_formula.specs.promises.Parsed.{Parses}
 use Rattle.varisat_formula.specs.promises.Streams.{Input, Taken}
-use Rattle.varisat_proof.specs.promises.Lines.{has_marks}
+use Rattle.varisat_lines.specs.promises.Lines.{has_marks}
 use Rattle.varisat_simplify.specs.promises.Simplified.{IsMadeOf}
 use Rattle.varisat.specs.promises.Decided.{Conclusion, Decided, IsConclusion, allowed_steps}
 use Rattle.varisat.specs.promises.Proven.{DecidesBy}

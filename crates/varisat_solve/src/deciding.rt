@@ -1,6 +1,6 @@
 //! How a text is decided whose formula is simplified first.
 ghost use Rattle.std.specs.Prelude.{◌≡◌, ◌-◌, ◌^◌, ◌<◌, ◌≤◌, ℕ, List, length, true, false, Some, Ok, Err, IfOk, IfErr, IsSome};
-ghost use Rattle.varisat_proof.specs.promises.Lines.{has_marks};
+ghost use Rattle.varisat_lines.specs.promises.Lines.{has_marks};
 ghost use Rattle.varisat_simplify.specs.promises.Simplified.{IsMadeOf};
 ghost use Rattle.varisat_solver.specs.promises.States.{new_state};
 ghost use Rattle.varisat_solver.specs.inside.Representations.{Represents};

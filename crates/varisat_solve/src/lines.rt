@@ -1,8 +1,8 @@
 //! The lines of a simplification, as a proof has them.
 ghost use Rattle.std.specs.Prelude.{◌≡◌, ◌-◌, ◌^◌, ◌<◌, [], ◌∷◌, false, length, slice_index_or};
 ghost use Rattle.varisat_theory.specs.promises.Derivations.{Add};
-ghost use Rattle.varisat_proof.specs.promises.Lines.{encoding_of, has_marks, plain_line, plain_lines};
-ghost use Rattle.varisat_proof.specs.promises.Steps.{PutsLines, step_lines};
+ghost use Rattle.varisat_lines.specs.promises.Lines.{encoding_of, has_marks, plain_line, plain_lines};
+ghost use Rattle.varisat_lines.specs.promises.Steps.{PutsLines, step_lines};
 
 use std::alloc::Allocator;
 use varisat::io::ProofTarget;

@@ -11,10 +11,10 @@ use Rattle.varisat_steps.specs.Traces.{CanTake, CanFail, faults_of}
 use Rattle.varisat_steps.proofs.Traced.{lines-lead}
 use Rattle.varisat_steps.specs.declared.tracer.TraceError.{TraceError}
 use Rattle.varisat_steps.specs.declared.tracer.TraceError.TheVariants.{Memory, Target}
-use Rattle.varisat_proof.specs.declared.proof.format.Encoding.{Encoding}
+use Rattle.varisat_lines.specs.declared.format.Encoding.{Encoding}
 use Rattle.varisat_proof.specs.promises.Calls.{CheckerState}
-use Rattle.varisat_proof.specs.promises.Lines.{ProofLine, encoding_of}
-use Rattle.varisat_proof.specs.promises.Steps.{lines_written}
+use Rattle.varisat_lines.specs.promises.Lines.{ProofLine, encoding_of}
+use Rattle.varisat_lines.specs.promises.Steps.{lines_written}
 use Rattle.varisat_proof.specs.promises.Proving.{OpenState, ProofParts, is_there, IsSpent, IsLogged, IsWrittenIf, IsBegunIf, Logs, MayBePresent, logged}
 use Rattle.varisat_tracer.specs.promises.Carried.{logged_as}
 use Rattle.varisat_tracer.specs.inside.Tracing.{TracerState, global_literal, Relies, TakesGlobally, BreaksGlobally, LogsGlobally}

@@ -8,17 +8,17 @@ use Rattle.varisat_theory.specs.promises.Derivations.{Add, Delete}
 use Rattle.varisat_theory.specs.promises.Journals.{Entry, Writes, Leads, lines_of}
 use Rattle.varisat_literals.specs.promises.Numbers.{variable_limit}
 use Rattle.varisat_formula.specs.promises.Streams.{Taken}
-use Rattle.varisat_proof.specs.declared.proof.format.Encoding.TheVariants.{Text}
-use Rattle.varisat_proof.specs.declared.proof.format.LineKind.TheVariants.{Fails}
-use Rattle.varisat_proof.specs.declared.proof.format.ProofFormat.{ProofFormat}
-use Rattle.varisat_proof.specs.declared.proof.format.ProofFormat.TheVariants.{Marked}
+use Rattle.varisat_lines.specs.declared.format.Encoding.TheVariants.{Text}
+use Rattle.varisat_lines.specs.declared.format.LineKind.TheVariants.{Fails}
+use Rattle.varisat_lines.specs.declared.format.ProofFormat.{ProofFormat}
+use Rattle.varisat_lines.specs.declared.format.ProofFormat.TheVariants.{Marked}
 use Rattle.varisat_proof.specs.declared.checker.error.CheckVerdict.{CheckVerdict}
 use Rattle.varisat_proof.specs.declared.checker.error.CheckVerdict.TheVariants.{Refutation}
 use Rattle.varisat_proof.specs.declared.checker.error.CheckerError.{CheckerError}
-use Rattle.varisat_proof.specs.promises.Lines.{line_of_kind, has_marks}
+use Rattle.varisat_lines.specs.promises.Lines.{line_of_kind, has_marks}
 use Rattle.varisat_proof.specs.promises.Results.{IsResult, IsAccepted}
-use Rattle.varisat_proof.specs.promises.Written.{line_text}
-use Rattle.varisat_proof.specs.promises.Logging.{logged_bytes}
+use Rattle.varisat_lines.specs.promises.Written.{line_text}
+use Rattle.varisat_lines.specs.promises.Logging.{logged_bytes}
 use Rattle.varisat_proof.specs.promises.Marked.{nothing_logged, ProofState, state_of, IsCheckOf}
 use Rattle.varisat_proof.specs.promises.Passing.{PassesWith}
 use Rattle.varisat_tracer.specs.promises.Carried.{carry}

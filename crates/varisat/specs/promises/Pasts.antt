@@ -4,11 +4,11 @@ use Rattle.varisat_theory.specs.promises.Membership.{◌⊆◌}
 use Rattle.varisat_theory.specs.promises.Literals.{Literal, IsSatisfiable, IsSatisfiableWith, IsFailedCore}
 use Rattle.varisat_theory.specs.promises.Counted.{added}
 use Rattle.varisat_theory.specs.promises.Journals.{Entry, NoneRetires, accepted_of, lines_of}
-use Rattle.varisat_proof.specs.declared.proof.format.Encoding.TheVariants.{Text}
+use Rattle.varisat_lines.specs.declared.format.Encoding.TheVariants.{Text}
 use Rattle.varisat_proof.specs.promises.Assumed.{lists_of, assumed_behind, CoresAreAssumed}
 use Rattle.varisat_proof.specs.promises.Passing.{LogsConflict}
-use Rattle.varisat_proof.specs.promises.Logging.{logged_lines}
-use Rattle.varisat_proof.specs.promises.Written.{AreInRange}
+use Rattle.varisat_lines.specs.promises.Logging.{logged_lines}
+use Rattle.varisat_lines.specs.promises.Written.{AreInRange}
 use Rattle.varisat_solver.specs.promises.Names.{through_names}
 use Rattle.varisat_solver.specs.promises.OpenProofs.{entries_over}
 use Rattle.varisat_solver.specs.promises.States.{Known, first_known}

@@ -7,12 +7,12 @@ use Rattle.varisat_formula.specs.promises.Dimacs.{dimacs}
 use Rattle.varisat_formula.specs.promises.Streams.{Input, Taken, Output}
 use Rattle.varisat_names.specs.declared.config.SolverConfigUpdate.{SolverConfigUpdate}
 use Rattle.varisat_names.specs.promises.Settings.{no_update}
-use Rattle.varisat_proof.specs.declared.proof.format.Encoding.TheVariants.{Text}
-use Rattle.varisat_proof.specs.declared.proof.format.ProofFormat.{ProofFormat}
-use Rattle.varisat_proof.specs.promises.Lines.{encoding_of, plain_lines, has_marks}
-use Rattle.varisat_proof.specs.promises.Logging.{logged_lines, logged_bytes}
-use Rattle.varisat_proof.specs.promises.Steps.{lines_written}
-use Rattle.varisat_proof.specs.promises.Written.{AreInRange}
+use Rattle.varisat_lines.specs.declared.format.Encoding.TheVariants.{Text}
+use Rattle.varisat_lines.specs.declared.format.ProofFormat.{ProofFormat}
+use Rattle.varisat_lines.specs.promises.Lines.{encoding_of, plain_lines, has_marks}
+use Rattle.varisat_lines.specs.promises.Logging.{logged_lines, logged_bytes}
+use Rattle.varisat_lines.specs.promises.Steps.{lines_written}
+use Rattle.varisat_lines.specs.promises.Written.{AreInRange}
 use Rattle.varisat_proof.specs.promises.Verified.{fault_status, EndsPrinting}
 use Rattle.varisat_solver.specs.promises.OpenProofs.{first_proof}
 use Rattle.varisat_solver.specs.promises.ProofBytes.{IsMarkedDerivation}

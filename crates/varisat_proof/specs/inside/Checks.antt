@@ -6,8 +6,8 @@ use Rattle.varisat_plain.specs.promises.Checking.{IsWrong}
 use Rattle.varisat_theory.specs.promises.Propagation.{Conflicts}
 use Rattle.varisat_formula.specs.declared.dimacs.error.DimacsError.{DimacsError}
 use Rattle.varisat_formula.specs.declared.dimacs.error.DimacsErrorKind.TheVariants as kind
-use Rattle.varisat_proof.specs.declared.proof.format.Encoding.{Encoding}
-use Rattle.varisat_proof.specs.declared.proof.format.LineKind.{LineKind}
+use Rattle.varisat_lines.specs.declared.format.Encoding.{Encoding}
+use Rattle.varisat_lines.specs.declared.format.LineKind.{LineKind}
 use Rattle.varisat_proof.specs.declared.checker.line.LineStatus.{LineStatus}
 use Rattle.varisat_proof.specs.declared.checker.line.LineStatus.TheVariants.{Taken, Unproved, Absent, Unassumed}
 use Rattle.varisat_proof.specs.declared.checker.error.CheckVerdict.{CheckVerdict}
@@ -15,8 +15,8 @@ use Rattle.varisat_proof.specs.declared.checker.error.CheckVerdict.TheVariants.{
 use Rattle.varisat_proof.specs.declared.checker.error.CheckerError.{CheckerError}
 use Rattle.varisat_proof.specs.declared.checker.error.CheckerError.TheVariants.{CheckFailed, NoSuchClause, CoreNotAssumed, Parse, OutOfMemory, Dimacs}
 use Rattle.varisat_proof.specs.declared.checker.check.Count.{Count}
-use Rattle.varisat_proof.specs.promises.Lines.{ProofLine, line_of_kind, step_number}
-use Rattle.varisat_proof.specs.inside.Machine.{Parsed, ReaderState, parsed, parsed_from}
+use Rattle.varisat_lines.specs.promises.Lines.{ProofLine, line_of_kind, step_number}
+use Rattle.varisat_lines.specs.inside.Machine.{Parsed, ReaderState, parsed, parsed_from}
 use Rattle.varisat_proof.specs.promises.Marked.{ProofState, MarkedLog, Rules, state_of, GoesBy, IsCheckBy}
 use Rattle.varisat_theory.specs.inside.StepLaws.{unit_lines}
 use Rattle.varisat_proof.specs.promises.Calls.{CheckerState, CheckerAtInput, ChecksBytes, FailsAt}

@@ -11,16 +11,16 @@ use Rattle.varisat_formula.specs.promises.Dimacs.{Reading}
 use Rattle.varisat_formula.specs.promises.Streams as streams
 use Rattle.varisat_formula.specs.promises.Streams.{Input, HasEnded}
 use Rattle.varisat_formula.specs.promises.Parsed.{GivesReading}
-use Rattle.varisat_proof.specs.declared.proof.format.ProofFormat.{ProofFormat}
+use Rattle.varisat_lines.specs.declared.format.ProofFormat.{ProofFormat}
 use Rattle.varisat_steps.specs.declared.step.ProofStep.{ProofStep}
 use Rattle.varisat_steps.specs.declared.step.ProofStep.TheVariants.{AtClause, UnitClauses, DeleteClause, DeleteVar, FailedAssumptions}
-use Rattle.varisat_proof.specs.declared.proof.format.Encoding.TheVariants.{Text}
+use Rattle.varisat_lines.specs.declared.format.Encoding.TheVariants.{Text}
 use Rattle.varisat_proof.specs.declared.checker.error.CheckVerdict.{CheckVerdict}
 use Rattle.varisat_proof.specs.declared.checker.error.CheckVerdict.TheVariants.{Refutation}
 use Rattle.varisat_proof.specs.declared.checker.marked.MarkedReport.{MarkedReport}
 use Rattle.varisat_proof.specs.declared.checker.error.CheckerError.{CheckerError}
 use Rattle.varisat_proof.specs.declared.checker.error.CheckerError.TheVariants.{CheckFailed, NoSuchClause, CoreNotAssumed, Parse, Io, OutOfMemory, Dimacs, Spent}
-use Rattle.varisat_proof.specs.promises.Steps.{step_lines}
+use Rattle.varisat_lines.specs.promises.Steps.{step_lines}
 use Rattle.varisat_proof.specs.promises.Results.{IsResult}
 use Rattle.varisat_proof.specs.promises.Marked.{MarkedLog, nothing_logged, state_of, IsCheckOf}
 

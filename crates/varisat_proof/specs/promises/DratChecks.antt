@@ -5,9 +5,9 @@ use Rattle.varisat_theory.specs.promises.Propagation.{Follows}
 use Rattle.varisat_theory.specs.promises.Derivations.{TakesOut}
 use Rattle.varisat_plain.specs.promises.Checking.{IsAbsent}
 use Rattle.varisat_rat.specs.promises.Resolving.{IsForced, IsRatOnSome}
-use Rattle.varisat_proof.specs.declared.proof.format.LineKind.{LineKind}
-use Rattle.varisat_proof.specs.declared.proof.format.LineKind.TheVariants.{Adds, Deletes}
-use Rattle.varisat_proof.specs.declared.proof.format.ProofFormat.{ProofFormat}
+use Rattle.varisat_lines.specs.declared.format.LineKind.{LineKind}
+use Rattle.varisat_lines.specs.declared.format.LineKind.TheVariants.{Adds, Deletes}
+use Rattle.varisat_lines.specs.declared.format.ProofFormat.{ProofFormat}
 use Rattle.varisat_proof.specs.declared.checker.drat.Redundancy.{Redundancy}
 use Rattle.varisat_proof.specs.declared.checker.drat.Redundancy.TheVariants as why
 use Rattle.varisat_proof.specs.declared.checker.line.LineRules.{LineRules}
@@ -16,7 +16,7 @@ use Rattle.varisat_proof.specs.declared.checker.line.LineStatus.{LineStatus}
 use Rattle.varisat_proof.specs.declared.checker.line.LineStatus.TheVariants.{Taken, Unproved}
 use Rattle.varisat_proof.specs.declared.checker.error.CheckVerdict.{CheckVerdict}
 use Rattle.varisat_proof.specs.declared.checker.error.CheckerError.{CheckerError}
-use Rattle.varisat_proof.specs.promises.Lines.{plain_encoding}
+use Rattle.varisat_lines.specs.promises.Lines.{plain_encoding}
 use Rattle.varisat_proof.specs.promises.Marked.{Rules, strict_rules, state_of, nothing_logged, IsCheckBy}
 use Rattle.varisat_proof.specs.promises.Calls.{CheckerAtInput, ChecksBytes}
 

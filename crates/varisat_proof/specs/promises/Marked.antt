@@ -6,17 +6,17 @@ use Rattle.varisat_theory.specs.promises.Propagation.{Conflicts, Follows}
 use Rattle.varisat_theory.specs.promises.Derivations.{TakesOut}
 use Rattle.varisat_plain.specs.promises.Checking.{IsAbsent}
 use Rattle.varisat_formula.specs.promises.Formulas.{Formula, no_clauses, with_one_more}
-use Rattle.varisat_proof.specs.declared.proof.format.Encoding.{Encoding}
-use Rattle.varisat_proof.specs.declared.proof.format.LineKind.{LineKind}
-use Rattle.varisat_proof.specs.declared.proof.format.LineKind.TheVariants.{Adds, Deletes, Accepts, Assumes, Fails}
+use Rattle.varisat_lines.specs.declared.format.Encoding.{Encoding}
+use Rattle.varisat_lines.specs.declared.format.LineKind.{LineKind}
+use Rattle.varisat_lines.specs.declared.format.LineKind.TheVariants.{Adds, Deletes, Accepts, Assumes, Fails}
 use Rattle.varisat_proof.specs.declared.checker.line.LineStatus.{LineStatus}
 use Rattle.varisat_proof.specs.declared.checker.line.LineStatus.TheVariants.{Unproved, Absent, Unassumed}
 use Rattle.varisat_proof.specs.declared.checker.error.CheckVerdict.{CheckVerdict}
 use Rattle.varisat_proof.specs.declared.checker.error.CheckVerdict.TheVariants.{Refutation, Derivation}
 use Rattle.varisat_proof.specs.declared.checker.error.CheckerError.{CheckerError}
 use Rattle.varisat_proof.specs.declared.checker.error.CheckerError.TheVariants.{CheckFailed, NoSuchClause, CoreNotAssumed, Parse}
-use Rattle.varisat_proof.specs.promises.Lines.{ProofLine, step_number}
-use Rattle.varisat_proof.specs.promises.Means.{BytesMean}
+use Rattle.varisat_lines.specs.promises.Lines.{ProofLine, step_number}
+use Rattle.varisat_lines.specs.promises.Means.{BytesMean}
 
 -- 1. One line.
 -- What marked lines log: the list that is assumed, the clauses that were given, and the cores, each with the number of clauses before it.

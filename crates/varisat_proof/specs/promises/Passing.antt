@@ -3,15 +3,15 @@ use Rattle.std.specs.Prelude.{◌≡◌, true, List, [], ◌∷◌, ◌++◌, Re
 use Rattle.varisat_theory.specs.promises.Literals.{Clause}
 use Rattle.varisat_theory.specs.promises.Propagation.{Conflicts}
 use Rattle.varisat_theory.specs.promises.Journals.{Entry, Leads, NoneRetires, accepted_of}
-use Rattle.varisat_proof.specs.declared.proof.format.Encoding.TheVariants.{Text}
-use Rattle.varisat_proof.specs.declared.proof.format.ProofFormat.TheVariants.{Marked}
+use Rattle.varisat_lines.specs.declared.format.Encoding.TheVariants.{Text}
+use Rattle.varisat_lines.specs.declared.format.ProofFormat.TheVariants.{Marked}
 use Rattle.varisat_proof.specs.declared.checker.error.CheckVerdict.{CheckVerdict}
 use Rattle.varisat_proof.specs.declared.checker.error.CheckVerdict.TheVariants.{Refutation, Derivation}
 use Rattle.varisat_proof.specs.declared.checker.error.CheckerError.{CheckerError}
 use Rattle.varisat_proof.specs.promises.Assumed.{CoresAreAssumed, cores_of}
 use Rattle.varisat_proof.specs.promises.Marked.{MarkedLog, nothing_logged, ProofState, state_of, IsCheckOf}
-use Rattle.varisat_proof.specs.promises.Logging.{logged_lines, logged_bytes}
-use Rattle.varisat_proof.specs.promises.Written.{AreInRange}
+use Rattle.varisat_lines.specs.promises.Logging.{logged_lines, logged_bytes}
+use Rattle.varisat_lines.specs.promises.Written.{AreInRange}
 
 -- what was logged leads to clauses over which propagation conflicts
 abbrev pub LogsConflict : List Entry → Type 0

@@ -6,14 +6,14 @@ use Rattle.varisat_formula.specs.promises.Streams.{Taken}
 use Rattle.varisat_theory.specs.promises.Journals.{Entry}
 use Rattle.varisat_steps.specs.declared.tracer.TraceError.{TraceError}
 use Rattle.varisat_steps.specs.declared.tracer.TraceError.TheVariants.{Memory, Target}
-use Rattle.varisat_proof.specs.declared.proof.format.ProofFormat.{ProofFormat}
+use Rattle.varisat_lines.specs.declared.format.ProofFormat.{ProofFormat}
 use Rattle.varisat_proof.specs.promises.Calls.{CheckerState}
 use Rattle.varisat_proof.specs.inside.Present.{IsLeftAfter}
-use Rattle.varisat_proof.specs.declared.proof.format.Encoding.{Encoding}
-use Rattle.varisat_proof.specs.promises.Lines.{ProofLine, encoding_of, has_marks}
-use Rattle.varisat_proof.specs.declared.proof.writer.WriteError.{WriteError}
-use Rattle.varisat_proof.specs.promises.Steps.{lines_written, PutsLines}
-use Rattle.varisat_proof.specs.promises.Logging.{logged_lines}
+use Rattle.varisat_lines.specs.declared.format.Encoding.{Encoding}
+use Rattle.varisat_lines.specs.promises.Lines.{ProofLine, encoding_of, has_marks}
+use Rattle.varisat_lines.specs.declared.writer.WriteError.{WriteError}
+use Rattle.varisat_lines.specs.promises.Steps.{lines_written, PutsLines}
+use Rattle.varisat_lines.specs.promises.Logging.{logged_lines}
 
 -- an open proof: its format, what its target took, and whether a search ran under it
 pub record OpenState : Type 0 where

@@ -6,14 +6,14 @@ use Rattle.varisat_theory.specs.promises.Propagation.{Conflicts}
 use Rattle.varisat_plain.specs.promises.Checking.{IsVerdict}
 use Rattle.varisat_plain.specs.declared.checker.PlainVerdict.{PlainVerdict}
 use Rattle.varisat_plain.specs.declared.checker.PlainVerdict.TheVariants as plain
-use Rattle.varisat_proof.specs.declared.proof.format.ProofFormat.{ProofFormat}
+use Rattle.varisat_lines.specs.declared.format.ProofFormat.{ProofFormat}
 use Rattle.varisat_proof.specs.declared.checker.error.CheckVerdict.{CheckVerdict}
 use Rattle.varisat_proof.specs.declared.checker.error.CheckVerdict.TheVariants.{Refutation, Derivation}
 use Rattle.varisat_proof.specs.declared.checker.error.CheckerError.{CheckerError}
 use Rattle.varisat_proof.specs.declared.checker.error.CheckerError.TheVariants.{CheckFailed, NoSuchClause, Parse}
-use Rattle.varisat_proof.specs.promises.Lines.{plain_lines, plain_encoding, step_number}
-use Rattle.varisat_proof.specs.promises.Means.{BytesMean}
-use Rattle.varisat_proof.specs.promises.Written.{Written, AreInRange}
+use Rattle.varisat_lines.specs.promises.Lines.{plain_lines, plain_encoding, step_number}
+use Rattle.varisat_lines.specs.promises.Means.{BytesMean}
+use Rattle.varisat_lines.specs.promises.Written.{Written, AreInRange}
 
 -- A wrong line is returned first, and then a fault of the bytes.
 abbrev pub result_of : Option ℕ → PlainVerdict → Result CheckVerdict CheckerError

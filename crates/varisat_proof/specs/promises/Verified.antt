@@ -5,9 +5,9 @@ use Rattle.varisat_theory.specs.promises.Literals.{Clause, IsSatisfiable}
 use Rattle.varisat_formula.specs.promises.Dimacs.{dimacs}
 use Rattle.varisat_formula.specs.promises.Streams as streams
 use Rattle.varisat_formula.specs.promises.Streams.{Input, HasEnded, Taken}
-use Rattle.varisat_proof.specs.declared.proof.format.ProofFormat.{ProofFormat}
-use Rattle.varisat_proof.specs.declared.proof.format.ProofFormat.TheVariants.{Drat, BinaryDrat, Marked}
-use Rattle.varisat_proof.specs.declared.proof.format.Encoding.TheVariants.{Text}
+use Rattle.varisat_lines.specs.declared.format.ProofFormat.{ProofFormat}
+use Rattle.varisat_lines.specs.declared.format.ProofFormat.TheVariants.{Drat, BinaryDrat, Marked}
+use Rattle.varisat_lines.specs.declared.format.Encoding.TheVariants.{Text}
 use Rattle.varisat_proof.specs.declared.checker.error.CheckVerdict.{CheckVerdict}
 use Rattle.varisat_proof.specs.declared.checker.error.CheckVerdict.TheVariants.{Refutation, Derivation}
 use Rattle.varisat_proof.specs.declared.checker.error.CheckerError.{CheckerError}

@@ -2,12 +2,12 @@
 //! and a deletion that finds no clause, or one that may be why a literal is implied, is passed over.
 ghost use Rattle.std.specs.Prelude.{◌≡◌, [], IfOk};
 ghost use Rattle.varisat_theory.specs.promises.Propagation.{Conflicts};
-ghost use Rattle.varisat_proof.specs.declared.proof.format.LineKind.TheVariants.{Adds, Deletes};
+ghost use Rattle.varisat_lines.specs.declared.format.LineKind.TheVariants.{Adds, Deletes};
 ghost use Rattle.varisat_proof.specs.promises.DratChecks.{IsRedundancyOf, IsDratStatusOf, TakesDratKind};
 
 use crate::checker::line::LineStatus;
-use crate::proof::format::LineKind;
 use std::alloc::{AllocError, Allocator};
+use varisat_lines::format::LineKind;
 use varisat_literals::Lit;
 use varisat_rat::{Deletion, PresentClauses};
 

@@ -4,20 +4,20 @@ ghost use Rattle.varisat_theory.specs.promises.Held.{SameClauses};
 ghost use Rattle.varisat_theory.specs.promises.Journals.{Accepts, Assumes, Retires};
 ghost use Rattle.varisat_steps.specs.Traces.{CanTakeStep, entries_of};
 ghost use Rattle.varisat_proof.specs.declared.checker.error.CheckerError.TheVariants.{OutOfMemory};
-ghost use Rattle.varisat_proof.specs.declared.proof.format.LineKind.TheVariants as kinds;
-ghost use Rattle.varisat_proof.specs.promises.Lines.{line_of_kind};
-ghost use Rattle.varisat_proof.specs.promises.Logging.{marked_line};
+ghost use Rattle.varisat_lines.specs.declared.format.LineKind.TheVariants as kinds;
+ghost use Rattle.varisat_lines.specs.promises.Lines.{line_of_kind};
+ghost use Rattle.varisat_lines.specs.promises.Logging.{marked_line};
 ghost use Rattle.varisat_proof.specs.inside.Present.{IsLeftAfter};
 ghost use Rattle.varisat_proof.specs.promises.Proving.{PutsInto, is_logging, bars_clauses, bars_assumptions, marked_searched, WritesLines, logged, Logs, Flushes, CanCountTargetFault, MayBePresent, IsUsable, IsCheckedIf, IsLogged, IsSpent, IsClosed};
 
 use crate::checker::{Checker, CheckerError};
-use crate::proof::format::{LineKind, ProofFormat};
-use crate::proof::step::ProofStep;
-use crate::proof::writer::{WriteError, write_entries, write_marked};
 use std::alloc::Allocator;
 use std::io;
 use std::marker::Model;
 use varisat_formula::io::ProofTarget;
+use varisat_lines::format::{LineKind, ProofFormat};
+use varisat_lines::step::ProofStep;
+use varisat_lines::writer::{WriteError, write_entries, write_marked};
 use varisat_literals::{Lit, Var};
 use varisat_steps::TraceError;
 

@@ -8,11 +8,11 @@ use Rattle.varisat_formula.specs.declared.dimacs.error.DimacsErrorKind.TheVarian
 use Rattle.varisat_formula.specs.promises.Formulas.{Formula}
 use Rattle.varisat_formula.specs.promises.Parsed.{Parses}
 use Rattle.varisat_formula.specs.promises.Streams.{Input, Taken}
-use Rattle.varisat_proof.specs.declared.proof.format.ProofFormat.{ProofFormat}
-use Rattle.varisat_proof.specs.declared.proof.writer.WriteError.{WriteError}
-use Rattle.varisat_proof.specs.declared.proof.writer.WriteError.TheVariants as write
-use Rattle.varisat_proof.specs.promises.Lines.{encoding_of, has_marks, plain_lines}
-use Rattle.varisat_proof.specs.promises.Steps.{PutsLines}
+use Rattle.varisat_lines.specs.declared.format.ProofFormat.{ProofFormat}
+use Rattle.varisat_lines.specs.declared.writer.WriteError.{WriteError}
+use Rattle.varisat_lines.specs.declared.writer.WriteError.TheVariants as write
+use Rattle.varisat_lines.specs.promises.Lines.{encoding_of, has_marks, plain_lines}
+use Rattle.varisat_lines.specs.promises.Steps.{PutsLines}
 use Rattle.varisat_proof.specs.promises.Verified.{fault_status}
 use Rattle.varisat_simplify.specs.promises.Simplified.{IsMadeOf}
 use Rattle.varisat_solver.specs.promises.States.{State}

@@ -8,10 +8,10 @@ use Rattle.varisat_theory.specs.promises.Derivations.{Add, Delete, IsDerivation,
 use Rattle.varisat_theory.specs.promises.Held.{SameClauses}
 use Rattle.varisat_theory.specs.promises.Renaming.{rename}
 use Rattle.varisat_theory.specs.promises.Journals.{Entry, Accepts, Writes, Assumes, Fails, Retires, Leads, accepted_of, lines_of}
-use Rattle.varisat_proof.specs.declared.proof.format.ProofFormat.{ProofFormat}
-use Rattle.varisat_proof.specs.declared.proof.format.ProofFormat.TheVariants.{Drat, BinaryDrat, Marked}
-use Rattle.varisat_proof.specs.promises.Lines.{encoding_of, plain_lines, has_marks}
-use Rattle.varisat_proof.specs.promises.Steps.{lines_written}
+use Rattle.varisat_lines.specs.declared.format.ProofFormat.{ProofFormat}
+use Rattle.varisat_lines.specs.declared.format.ProofFormat.TheVariants.{Drat, BinaryDrat, Marked}
+use Rattle.varisat_lines.specs.promises.Lines.{encoding_of, plain_lines, has_marks}
+use Rattle.varisat_lines.specs.promises.Steps.{lines_written}
 use Rattle.varisat_proof.specs.promises.Marked.{state_of, nothing_logged}
 use Rattle.varisat_proof.proofs.MarkedJournals.{journal_taken}
 use Rattle.varisat_theory.specs.inside.Outcomes.{Outcome}
@@ -23,11 +23,11 @@ use Rattle.varisat_theory.proofs.journals.Journals.{leads_derives, leads_refutes
 use Rattle.varisat_literals.specs.promises.Numbers.{variable_limit}
 use Rattle.varisat_names.specs.promises.VarData.{dead, data_at}
 use Rattle.varisat_names.specs.declared.variables.data.VarData.{VarData}
-use Rattle.varisat_proof.specs.declared.proof.format.Encoding.TheVariants.{Text}
-use Rattle.varisat_proof.specs.declared.proof.format.LineKind.{LineKind}
-use Rattle.varisat_proof.specs.promises.Lines.{ProofLine, line_of_kind}
-use Rattle.varisat_proof.specs.promises.Logging.{logged_lines}
-use Rattle.varisat_proof.specs.promises.Written.{AreInRange}
+use Rattle.varisat_lines.specs.declared.format.Encoding.TheVariants.{Text}
+use Rattle.varisat_lines.specs.declared.format.LineKind.{LineKind}
+use Rattle.varisat_lines.specs.promises.Lines.{ProofLine, line_of_kind}
+use Rattle.varisat_lines.specs.promises.Logging.{logged_lines}
+use Rattle.varisat_lines.specs.promises.Written.{AreInRange}
 use Rattle.varisat_solver.specs.promises.States.{State, Verdict, Unknown, Sat, Unsat, UnsatUnderAssumptions, IsRight}
 use Rattle.varisat_solver.specs.promises.Calls.{answer_of}
 use Rattle.varisat_solver.specs.promises.Journals.{IsJournal}

@@ -19,13 +19,13 @@ use Rattle.varisat_solver.proofs.entries.LoggedEntries.{none-in, OnlyLeave}
 use Rattle.varisat_theory.specs.promises.Renaming.{rename_line}
 use Rattle.varisat_theory.proofs.journals.Journals.{lines_append}
 use Rattle.varisat_formula.specs.promises.Streams.{Taken}
-use Rattle.varisat_proof.specs.declared.proof.format.ProofFormat.{ProofFormat}
-use Rattle.varisat_proof.specs.declared.proof.format.ProofFormat.TheVariants.{Drat, BinaryDrat, Marked}
-use Rattle.varisat_proof.specs.declared.proof.format.Encoding.{Encoding}
-use Rattle.varisat_proof.specs.promises.Lines.{encoding_of, plain_line, plain_lines, has_marks}
-use Rattle.varisat_proof.specs.promises.Steps.{lines_written}
-use Rattle.varisat_proof.specs.promises.Written.{line_written}
-use Rattle.varisat_proof.specs.promises.Logging.{logged_lines, entry_lines, logged_bytes}
+use Rattle.varisat_lines.specs.declared.format.ProofFormat.{ProofFormat}
+use Rattle.varisat_lines.specs.declared.format.ProofFormat.TheVariants.{Drat, BinaryDrat, Marked}
+use Rattle.varisat_lines.specs.declared.format.Encoding.{Encoding}
+use Rattle.varisat_lines.specs.promises.Lines.{encoding_of, plain_line, plain_lines, has_marks}
+use Rattle.varisat_lines.specs.promises.Steps.{lines_written}
+use Rattle.varisat_lines.specs.promises.Written.{line_written}
+use Rattle.varisat_lines.specs.promises.Logging.{logged_lines, entry_lines, logged_bytes}
 use Rattle.varisat_proof.specs.promises.Proving.{OpenState, ProofParts, logged, marked_searched, Flushes, bars_clauses, bars_assumptions}
 use Rattle.varisat_tracer.specs.inside.Tracing.{BreaksProof}
 use Rattle.varisat_tracer.proofs.Logging.{unopened-unbroken}

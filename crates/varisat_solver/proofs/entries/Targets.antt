@@ -4,8 +4,8 @@ use Rattle.std.proofs.Common.{◌≡◌, ◌≢◌, ◌∙◌, ℕ, true, false,
 use Rattle.std.proofs.lemmas.List.{append-nil}
 use Rattle.std.specs.declared.io.Error.{Error}
 use Rattle.varisat_theory.specs.promises.Journals.{Entry}
-use Rattle.varisat_proof.specs.promises.Lines.{ProofLine}
-use Rattle.varisat_proof.specs.declared.proof.format.Encoding.{Encoding}
+use Rattle.varisat_lines.specs.promises.Lines.{ProofLine}
+use Rattle.varisat_lines.specs.declared.format.Encoding.{Encoding}
 use Rattle.varisat_proof.specs.promises.Proving.{OpenState, ProofParts, IsWrittenIf, IsBegunIf, Flushes, marked_searched, with_fault, logged}
 use Rattle.varisat_tracer.specs.inside.Logged.{logged-none, logged-more, begun-none, begun-behind}
 use Rattle.varisat_tracer.specs.inside.Tracing.{BreaksProof}

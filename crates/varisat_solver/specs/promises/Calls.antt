@@ -12,8 +12,8 @@ use Rattle.varisat_theory.specs.promises.Journals.{Entry}
 use Rattle.varisat_theory.specs.promises.Journals as entry
 use Rattle.varisat_proof.specs.promises.Passing.{LogsConflict}
 use Rattle.varisat_theory.specs.promises.CallBounds.{AreFew}
-use Rattle.varisat_proof.specs.declared.proof.format.ProofFormat.{ProofFormat}
-use Rattle.varisat_proof.specs.promises.Lines.{has_marks}
+use Rattle.varisat_lines.specs.declared.format.ProofFormat.{ProofFormat}
+use Rattle.varisat_lines.specs.promises.Lines.{has_marks}
 use Rattle.varisat_solver.specs.promises.Journals.{with_entries, LogsMore, BeginsInSteps, AreDerived, EndBy, IsJournal}
 use Rattle.varisat_solver.specs.promises.StepEntries.{GoesOnInSteps}
 use Rattle.varisat_solver.specs.promises.OpenProofs.{IsOpen, BarsClauses, BarsAssumptions, searched_under, lines_over, GoesOnWriting, GoesOnFailing}

@@ -3,10 +3,10 @@ use Rattle.std.specs.Prelude.{◌≡◌, ℕ, true, false, Option, List, [], ◌
 use Rattle.varisat_theory.specs.promises.Literals.{Literal, Clause}
 use Rattle.varisat_theory.specs.promises.Journals.{Entry, Writes, Fails, Retires, Leads, LeadsBy, NoneRetires, accepted_of, lines_of, rename_entry, GoesOn}
 use Rattle.varisat_theory.specs.promises.Derivations.{IsDerivation, Refutes}
-use Rattle.varisat_proof.specs.declared.proof.format.Encoding.TheVariants.{Text}
-use Rattle.varisat_proof.specs.promises.Logging.{logged_lines}
+use Rattle.varisat_lines.specs.declared.format.Encoding.TheVariants.{Text}
+use Rattle.varisat_lines.specs.promises.Logging.{logged_lines}
 use Rattle.varisat_proof.specs.promises.Proving.{ProofParts, IsLogged}
-use Rattle.varisat_proof.specs.promises.Written.{AreInRange}
+use Rattle.varisat_lines.specs.promises.Written.{AreInRange}
 use Rattle.varisat_tracer.specs.promises.Carried.{carry}
 use Rattle.varisat_proof.specs.promises.Assumed.{assumed_behind, CoresAreAssumed}
 use Rattle.varisat_solver.specs.promises.OpenProofs.{entries_over, IsWrittenWhereOpen, HaveOwnVariables}

@@ -5,9 +5,9 @@ use Rattle.varisat_theory.specs.promises.Derivations.{Line}
 use Rattle.varisat_theory.specs.promises.Renaming.{rename_line}
 use Rattle.varisat_formula.specs.promises.Streams.{Taken}
 use Rattle.varisat_theory.specs.promises.Journals.{Entry, Retires, lines_of, rename_entry}
-use Rattle.varisat_proof.specs.declared.proof.format.ProofFormat.{ProofFormat}
-use Rattle.varisat_proof.specs.promises.Lines.{has_marks}
-use Rattle.varisat_proof.specs.promises.Logging.{logged_bytes}
+use Rattle.varisat_lines.specs.declared.format.ProofFormat.{ProofFormat}
+use Rattle.varisat_lines.specs.promises.Lines.{has_marks}
+use Rattle.varisat_lines.specs.promises.Logging.{logged_bytes}
 use Rattle.varisat_proof.specs.promises.Proving.{OpenState}
 use Rattle.varisat_tracer.specs.promises.Carried.{carry}
 

@@ -3,11 +3,11 @@ use Rattle.std.specs.Prelude.{◌≡◌, List, []}
 use Rattle.varisat_theory.specs.promises.Literals.{Literal, Clause}
 use Rattle.varisat_theory.specs.promises.Propagation.{Conflicts}
 use Rattle.varisat_theory.specs.promises.Journals.{Entry}
-use Rattle.varisat_proof.specs.declared.proof.format.ProofFormat.TheVariants.{Marked}
+use Rattle.varisat_lines.specs.declared.format.ProofFormat.TheVariants.{Marked}
 use Rattle.varisat_proof.specs.promises.Assumed.{cores_of}
-use Rattle.varisat_proof.specs.promises.Lines.{encoding_of}
+use Rattle.varisat_lines.specs.promises.Lines.{encoding_of}
 use Rattle.varisat_proof.specs.promises.Marked.{ProofState, state_of, nothing_logged, TakesAll}
-use Rattle.varisat_proof.specs.promises.Logging.{logged_lines}
+use Rattle.varisat_lines.specs.promises.Logging.{logged_lines}
 
 -- The lines that a marked proof has of what was logged are right, one after the other, from no clauses and no assumptions on. The
 -- clauses that they give are these, in order, the list that is assumed at the end is this one, and the cores are those that were

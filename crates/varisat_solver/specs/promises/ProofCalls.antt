@@ -3,13 +3,13 @@ use Rattle.std.specs.Prelude.{◌≡◌, true, false, Option, Some, None, Result
 use Rattle.varisat_theory.specs.promises.Derivations.{IsDerivation, Refutes}
 use Rattle.varisat_theory.specs.promises.Journals.{lines_of}
 use Rattle.varisat_formula.specs.promises.Streams.{Taken}
-use Rattle.varisat_proof.specs.declared.proof.format.Encoding.TheVariants.{Text}
-use Rattle.varisat_proof.specs.declared.proof.format.ProofFormat.{ProofFormat}
-use Rattle.varisat_proof.specs.promises.Lines.{encoding_of, plain_lines, has_marks}
+use Rattle.varisat_lines.specs.declared.format.Encoding.TheVariants.{Text}
+use Rattle.varisat_lines.specs.declared.format.ProofFormat.{ProofFormat}
+use Rattle.varisat_lines.specs.promises.Lines.{encoding_of, plain_lines, has_marks}
 use Rattle.varisat_proof.specs.promises.Proving.{IsClosed}
-use Rattle.varisat_proof.specs.promises.Steps.{lines_written}
-use Rattle.varisat_proof.specs.promises.Logging.{logged_lines, logged_bytes}
-use Rattle.varisat_proof.specs.promises.Written.{AreInRange}
+use Rattle.varisat_lines.specs.promises.Steps.{lines_written}
+use Rattle.varisat_lines.specs.promises.Logging.{logged_lines, logged_bytes}
+use Rattle.varisat_lines.specs.promises.Written.{AreInRange}
 use Rattle.varisat_solver.specs.promises.OpenProofs.{OpenProof, opened_state, IsOpen, first_proof, entries_over, lines_over, HaveOwnVariables}
 use Rattle.varisat_solver.specs.promises.ProofBytes.{IsMarkedDerivation}
 use Rattle.varisat_solver.specs.promises.States.{Known, State}

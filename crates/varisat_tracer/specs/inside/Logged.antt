@@ -8,13 +8,13 @@ use Rattle.varisat_theory.specs.promises.Derivations.{Add, Delete}
 use Rattle.varisat_theory.specs.promises.Held.{without}
 use Rattle.varisat_theory.specs.promises.Renaming.{rename_line}
 use Rattle.varisat_theory.specs.promises.Journals.{Entry, Accepts, Writes, Assumes, Fails, Retires}
-use Rattle.varisat_proof.specs.declared.proof.format.ProofFormat.{ProofFormat}
-use Rattle.varisat_proof.specs.declared.proof.format.Encoding.{Encoding}
-use Rattle.varisat_proof.specs.promises.Lines.{ProofLine, encoding_of}
-use Rattle.varisat_proof.specs.promises.Written.{line_written}
-use Rattle.varisat_proof.specs.promises.Steps.{lines_written}
+use Rattle.varisat_lines.specs.declared.format.ProofFormat.{ProofFormat}
+use Rattle.varisat_lines.specs.declared.format.Encoding.{Encoding}
+use Rattle.varisat_lines.specs.promises.Lines.{ProofLine, encoding_of}
+use Rattle.varisat_lines.specs.promises.Written.{line_written}
+use Rattle.varisat_lines.specs.promises.Steps.{lines_written}
 use Rattle.varisat_proof.specs.promises.Calls.{CheckerState}
-use Rattle.varisat_proof.specs.promises.Logging.{entry_lines, logged_lines, logged_bytes}
+use Rattle.varisat_lines.specs.promises.Logging.{entry_lines, logged_lines, logged_bytes}
 use Rattle.varisat_proof.specs.inside.Present.{IsLeftAfter}
 use Rattle.varisat_proof.specs.promises.Proving.{OpenState, ProofParts, is_there, IsWrittenIf, IsBegunIf, IsCheckedIf, IsLogged, logged}
 use Rattle.varisat_tracer.specs.promises.Carried.{logged_as}

@@ -1,4 +1,4 @@
-use Rattle.varisat_proof.specs.promises.Lines.{encoding_of}
+use Rattle.varisat_lines.specs.promises.Lines.{encoding_of}
 use Rattle.varisat_proof.proofs.MarkedOnce.{check_once}
 use Rattle.varisat_proof.proofs.laws.one_check_is_right.Goals as goal
 

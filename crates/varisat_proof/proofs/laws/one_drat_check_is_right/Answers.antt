@@ -1,4 +1,4 @@
-use Rattle.varisat_proof.specs.promises.Lines.{plain_encoding}
+use Rattle.varisat_lines.specs.promises.Lines.{plain_encoding}
 use Rattle.varisat_proof.proofs.DratOnce.{drat_once}
 use Rattle.varisat_proof.proofs.laws.one_drat_check_is_right.Goals as goal
 

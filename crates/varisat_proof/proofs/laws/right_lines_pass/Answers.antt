@@ -1,4 +1,4 @@
-use Rattle.varisat_proof.specs.promises.Lines.{encoding_of}
+use Rattle.varisat_lines.specs.promises.Lines.{encoding_of}
 use Rattle.varisat_proof.proofs.MarkedOnce.{check_through}
 use Rattle.varisat_proof.proofs.laws.right_lines_pass.Goals as goal
 

@@ -1,7 +1,7 @@
 -- The line that is not written, or not whole, stands behind those before it.
 use Rattle.std.proofs.Common.{◌<◌, get_or, [], refl, subst}
 use Rattle.varisat_theory.specs.promises.Derivations.{Add}
-use Rattle.varisat_proof.specs.promises.Lines.{encoding_of}
+use Rattle.varisat_lines.specs.promises.Lines.{encoding_of}
 use Rattle.varisat_solve.proofs.LeadBytes.{lines-fail}
 use Rattle.varisat_solve.proofs.lines.write_history.Goals as goal
 

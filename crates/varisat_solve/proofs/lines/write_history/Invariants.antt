@@ -1,6 +1,6 @@
 use Rattle.std.proofs.Common.{◌≡◌, ◌++◌, take}
-use Rattle.varisat_proof.specs.promises.Lines.{encoding_of, plain_lines}
-use Rattle.varisat_proof.specs.promises.Steps.{lines_written}
+use Rattle.varisat_lines.specs.promises.Lines.{encoding_of, plain_lines}
+use Rattle.varisat_lines.specs.promises.Steps.{lines_written}
 use Rattle.varisat_solve.proofs.lines.write_history.Given as goal
 
 abbrev pub invariant-loop-line : goal.invariant-loop-line

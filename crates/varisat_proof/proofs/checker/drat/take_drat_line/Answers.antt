@@ -1,5 +1,5 @@
 use Rattle.std.proofs.Common.{sym, subst, refl}
-use Rattle.varisat_proof.specs.declared.proof.format.LineKind.{LineKind}
+use Rattle.varisat_lines.specs.declared.format.LineKind.{LineKind}
 use Rattle.varisat_proof.specs.promises.DratChecks.{TakesDratKind, IsDratStatusOf}
 use Rattle.varisat_proof.proofs.checker.drat.take_drat_line.Goals as goal
 

@@ -2,9 +2,9 @@ use Rattle.std.proofs.Common.{[], ◌∷◌}
 use Rattle.varisat_theory.specs.promises.Journals.{Accepts}
 use Rattle.std.proofs.lemmas.List.{append-nil}
 use Rattle.std.proofs.Common.{sym}
-use Rattle.varisat_proof.specs.declared.proof.format.LineKind.TheVariants as kinds
-use Rattle.varisat_proof.specs.promises.Lines.{line_of_kind}
-use Rattle.varisat_proof.specs.promises.Logging.{marked_line}
+use Rattle.varisat_lines.specs.declared.format.LineKind.TheVariants as kinds
+use Rattle.varisat_lines.specs.promises.Lines.{line_of_kind}
+use Rattle.varisat_lines.specs.promises.Logging.{marked_line}
 use Rattle.varisat_proof.specs.promises.Proving.{ProofParts, logged}
 use Rattle.varisat_proof.proofs.LoggedSteps.{written-as, tells-ok, tells-spent}
 use Rattle.varisat_proof.proofs.proof.proving.add_clause.Goals as goal

@@ -2,7 +2,7 @@ use Rattle.std.proofs.Common.{◌≡◌, List, [], ◌∷◌, ◌++◌, sym, ap,
 use Rattle.varisat_theory.specs.promises.Literals.{Clause}
 use Rattle.varisat_proof.specs.declared.checker.line.LineStatus.TheVariants.{Taken}
 use Rattle.varisat_proof.specs.declared.checker.error.CheckerError.TheVariants.{CheckFailed, NoSuchClause, CoreNotAssumed}
-use Rattle.varisat_proof.specs.promises.Lines.{line_of_kind}
+use Rattle.varisat_lines.specs.promises.Lines.{line_of_kind}
 use Rattle.varisat_proof.specs.inside.Checks.{StopsBehind}
 use Rattle.varisat_proof.proofs.CheckedLines.{error_of, still_refuted, on_wrong, on_taken}
 use Rattle.varisat_proof.specs.promises.Marked.{state_of}

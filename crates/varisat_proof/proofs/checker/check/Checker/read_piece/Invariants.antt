@@ -1,6 +1,6 @@
 use Rattle.std.proofs.Common.{◌≡◌, ℕ, List, ◌++◌, take}
-use Rattle.varisat_proof.specs.declared.proof.format.Encoding.{Encoding}
-use Rattle.varisat_proof.specs.promises.Lines.{ProofLine}
+use Rattle.varisat_lines.specs.declared.format.Encoding.{Encoding}
+use Rattle.varisat_lines.specs.promises.Lines.{ProofLine}
 use Rattle.varisat_proof.specs.promises.Marked.{ProofState, state_of}
 use Rattle.varisat_proof.specs.inside.Checks.{HasRead, IsAfterLines}
 use Rattle.varisat_proof.proofs.CheckedLines.{SoFar}

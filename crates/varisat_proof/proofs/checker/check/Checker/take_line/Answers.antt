@@ -1,6 +1,6 @@
 use Rattle.std.proofs.Common.{sym, subst}
 use Rattle.varisat_proof.specs.declared.checker.line.LineRules.{LineRules}
-use Rattle.varisat_proof.specs.promises.Lines.{line_of_kind}
+use Rattle.varisat_lines.specs.promises.Lines.{line_of_kind}
 use Rattle.varisat_proof.specs.promises.Marked.{state_of}
 use Rattle.varisat_proof.specs.inside.Checks.{IsLineStatus}
 use Rattle.varisat_proof.specs.promises.DratChecks.{rules_of}

@@ -1,0 +1,9 @@
+pub mod Elements
+pub mod TokenSymbols
+pub mod MachineTokens
+pub mod TokenLines
+pub mod WrittenLines
+pub mod GrammarLaws
+pub mod LineBytes
+pub mod MappedSteps
+pub mod StepLines

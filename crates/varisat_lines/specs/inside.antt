@@ -1,0 +1,4 @@
+-- What contracts inside of the program cite. No promise to users rests on these definitions.
+pub mod Machine
+pub mod Laws
+pub mod Mapping

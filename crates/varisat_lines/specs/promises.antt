@@ -1,0 +1,7 @@
+-- What a promise to users rests on. Who wants to know what is proved reads these files, in the order that docs/GUARANTEES.md gives.
+pub mod Lines
+pub mod Written
+pub mod Grammar
+pub mod Means
+pub mod Steps
+pub mod Logging

@@ -1,5 +1,0 @@
-use Rattle.std.proofs.Common.{rules}
-use Rattle.varisat_proof.proofs.checker.token.Part.number_symbol.Goals as goal
-
-pub returns-then-value-le536870913-clause-symbol : goal.returns-then-value-le536870913-clause-symbol
-returns-then-value-le536870913-clause-symbol g = search rules

@@ -1,9 +1,0 @@
-use Rattle.std.proofs.Common.{false, refl}
-use Rattle.varisat_proof.specs.declared.proof.format.Encoding.TheVariants.{Text}
-use Rattle.varisat_proof.proofs.StepLines.{puts-step}
-use Rattle.varisat_proof.proofs.proof.writer.write_step.Goals as goal
-
-pub returns : goal.returns
-returns g c =
-    puts-step (Text false) refl (g.W.ProofTarget.taken c.args.target.now)
-    (g.W.ProofTarget.taken c.write_entries.new.target) c.write_entries.result c.args.step.now c.write_entries.ensures

@@ -111,10 +111,15 @@ def write_mixed(path, clauses, variables, seed):
     return write_clauses(path, variables, clauses, mixed_clauses(clauses, variables, seed))
 
 
+def random_sat(variables, clauses, length, seed):
+    """Clauses of as many different variables each."""
+    numbers = Numbers(seed)
+    return Formula(variables, [random_clause(numbers, variables, length) for _ in range(clauses)])
+
+
 def random_3_sat(variables, clauses, seed):
     """Clauses of 3 different variables each."""
-    numbers = Numbers(seed)
-    return Formula(variables, [random_clause(numbers, variables, 3) for _ in range(clauses)])
+    return random_sat(variables, clauses, 3, seed)
 
 
 def choices(thing, options):
@@ -260,6 +265,70 @@ def parity(variables, seed):
         for variable in rest:
             total = formula.differ(total, variable)
         formula.clauses.append([sign * total])
+    return formula
+
+
+def odd(variables):
+    """The clauses that an odd number of the variables is true."""
+    even = (values for values in itertools.product((False, True), repeat=len(variables)) if sum(values) % 2 == 0)
+    return [[-variable if value else variable for variable, value in zip(variables, values)] for values in even]
+
+
+def regular_edges(vertices, degree, seed):
+    """The edges of a random graph without loops, in which as many edges end at each vertex."""
+    numbers, count = Numbers(seed), vertices * degree
+    while True:
+        ends = [(end - 1) % vertices for end in different(numbers, count, count)]
+        edges = list(zip(ends[::2], ends[1::2]))
+        if all(one != other for one, other in edges):
+            return edges
+
+
+def odd_degrees(vertices, degree, seed):
+    """Is there a choice of a random graph's edges of which an odd number ends at each vertex? Unsatisfiable for an odd
+    number of vertices."""
+    edges = regular_edges(vertices, degree, seed)
+    formula = Formula(len(edges))
+    for vertex in range(vertices):
+        formula.clauses += odd([name for name, edge in enumerate(edges, 1) if vertex in edge])
+    return formula
+
+
+def progressions(largest, length):
+    """The arithmetic progressions of the length in the numbers from 1 to the largest."""
+    for first in range(1, largest + 1):
+        for step in range(1, (largest - first) // (length - 1) + 1):
+            yield range(first, first + (length - 1) * step + 1, step)
+
+
+def two_kinds(largest, one, other):
+    """Are the numbers from 1 on of two kinds, with no progression of the one length in the first kind, nor of the other
+    length in the second?"""
+    first = [[-number for number in numbers] for numbers in progressions(largest, one)]
+    return Formula(largest, first + [list(numbers) for numbers in progressions(largest, other)])
+
+
+def add_count(formula, digits, take):
+    """Adds the binary digits, of which `take` takes the next one out of a list, and gives the digits of their sum."""
+    columns, total = [list(digits)], []
+    for column in columns:
+        while len(column) > 1:
+            digit, carry = add_digits(formula, [take(column) for _ in range(min(3, len(column)))])
+            column.append(digit)
+            if len(columns) == len(total) + 1:
+                columns.append([])
+            columns[len(total) + 1].append(carry)
+        total += column
+    return total
+
+
+def counts(variables, seed):
+    """Are more of the variables true if they are counted in one order than in another? Unsatisfiable."""
+    formula = Formula(variables)
+    mixed = different(Numbers(seed), variables, variables)
+    one = add_count(formula, range(1, variables + 1), lambda column: column.pop(0))
+    other = add_count(formula, mixed, list.pop)
+    formula.clauses.append([formula.differ(here, there) for here, there in zip(one, other)])
     return formula
 
 

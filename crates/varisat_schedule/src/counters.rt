@@ -1,8 +1,9 @@
 //! What is counted of a search. Contracts read `removed_units` alone, so that any other number costs a field and the
 //! line that counts.
-ghost use Rattle.std.specs.Prelude.{◌≡◌, ◌+◌, ◌-◌, ◌^◌, min};
+ghost use Rattle.std.specs.Prelude.{◌≡◌, ◌+◌, ◌-◌, ◌^◌, ◌<◌, min};
 
-/// How often a search did what. A number stays at 2^64-1 once it is there. It takes no memory.
+/// How often a search did what, and the glue of what it learned. A number stays at 2^64-1 once it is there. It takes no
+/// memory.
 #[derive(Clone, Copy, Debug, Default, PartialEq, Eq)]
 pub struct Counters {
     /// Conflicts that were analysed.
@@ -21,6 +22,10 @@ pub struct Counters {
     pub collections: u64,
     /// Literals of level 0 that left the trail with their variables.
     pub removed_units: u64,
+    /// The moving average of the glue of learned clauses over the last 32 of them or so, in parts of 2^20.
+    pub recent_glue: u64,
+    /// The same over the last 50,000 or so.
+    pub usual_glue: u64,
 }
 
 /// Counts so many more.
@@ -28,4 +33,35 @@ pub fn count(counter: &mut u64, more: u64)
     ensures { counter.new ≡ min (counter.old + more) (2 ^ 64 - 1) }
 {
     *counter = counter.saturating_add(more);
+}
+
+// Over how many learned clauses each average is, about, and in what parts of a glue.
+const RECENT: u64 = 32;
+
+const USUAL: u64 = 50000;
+
+const PARTS: u64 = 1 << 20;
+
+/// The moving average over so many numbers, in parts, once another number came.
+fn average_with(average: u64, number: u64, over: u64) -> u64
+    requires { 0 < over }
+{
+    let left = average.saturating_sub(average / over);
+    left.saturating_add(number.saturating_mul(PARTS) / over)
+}
+
+impl Counters {
+    /// Takes the glue of a clause that was learned into both averages, which are over all clauses at first.
+    pub fn count_glue(&mut self, glue: usize)
+        ensures { self.new ≡ record self.old { recent_glue = self.new.recent_glue; usual_glue = self.new.usual_glue } }
+    {
+        let learned = self.conflicts.max(1);
+        self.recent_glue = average_with(self.recent_glue, glue as u64, learned.min(RECENT));
+        self.usual_glue = average_with(self.usual_glue, glue as u64, learned.min(USUAL));
+    }
+
+    /// Whether the recent glue is above so many hundredths of the usual one.
+    pub fn is_glue_high(&self, hundredths: u64) -> bool {
+        self.recent_glue.saturating_mul(100) > self.usual_glue.saturating_mul(hundredths)
+    }
 }

@@ -1,7 +1,8 @@
-//! Terms of the Luby sequence, and the steps that begin with a restart.
+//! Terms of the Luby sequence, the steps that begin with a restart, and averages of the glue.
 ghost use Rattle.std.specs.Prelude.{◌<◌};
 
 use std::alloc::{AllocError, Global};
+use varisat_schedule::counters::{Counters, count};
 use varisat_schedule::luby::LubySequence;
 use varisat_schedule::schedule::Schedule;
 
@@ -74,4 +75,25 @@ fn terms_and_restarts_are_as_they_should_be(rt: HostRuntime) -> Result<(), Alloc
         assert!(rt; is_right, "with {} and {}", row.0, row.1);
     }
     Ok(())
+}
+
+// So many clauses of the glue are learned.
+fn learn(counters: &mut Counters, clauses: u8, glue: usize) {
+    for _ in 0..clauses {
+        count(&mut counters.conflicts, 1);
+        counters.count_glue(glue);
+    }
+}
+
+// The recent glue rises above the usual one and comes back to it sooner. Equal ones are not high.
+#[test]
+fn glue_is_high_once_it_rose(rt: HostRuntime) {
+    let mut counters = Counters::default();
+    learn(&mut counters, 200, 4);
+    assert!(rt; !counters.is_glue_high(100));
+    learn(&mut counters, 30, 8);
+    assert!(rt; counters.is_glue_high(125));
+    assert!(rt; !counters.is_glue_high(150));
+    learn(&mut counters, 100, 4);
+    assert!(rt; !counters.is_glue_high(100));
 }

@@ -15,6 +15,7 @@ use thiserror::Error;
 /// | `reduce_locals_interval`, in steps | 15000 | from 1 |
 /// | `reduce_mids_interval`, in steps | 10000 | from 1 |
 /// | `luby_restart_interval_scale`, in steps | 128 | from 1 |
+/// | `restart_glue`, in hundredths | 0 | 0 to 1000 |
 /// | `max_steps`, of one call of `solve` | 2^64-1 | any |
 #[derive(Clone, Copy, Debug, PartialEq, Eq)]
 pub struct SolverConfig {
@@ -23,6 +24,7 @@ pub struct SolverConfig {
     reduce_locals_interval: u64,
     reduce_mids_interval: u64,
     luby_restart_interval_scale: u64,
+    restart_glue: u64,
     max_steps: u64,
 }
 
@@ -37,6 +39,7 @@ impl Model for SolverConfig {
       reduce_locals_interval = c.reduce_locals_interval;
       reduce_mids_interval = c.reduce_mids_interval;
       luby_restart_interval_scale = c.luby_restart_interval_scale;
+      restart_glue = c.restart_glue;
       max_steps = c.max_steps;
     } };
 
@@ -46,6 +49,7 @@ impl Model for SolverConfig {
       reduce_locals_interval = s.reduce_locals_interval;
       reduce_mids_interval = s.reduce_mids_interval;
       luby_restart_interval_scale = s.luby_restart_interval_scale;
+      restart_glue = s.restart_glue;
       max_steps = s.max_steps;
     } };
 
@@ -56,6 +60,7 @@ impl Model for SolverConfig {
           reduce_locals_interval = c.reduce_locals_interval;
           reduce_mids_interval = c.reduce_mids_interval;
           luby_restart_interval_scale = c.luby_restart_interval_scale;
+          restart_glue = c.restart_glue;
           max_steps = c.max_steps;
         }) };
 }
@@ -68,6 +73,7 @@ pub struct SolverConfigUpdate {
     pub reduce_locals_interval: Option<u64>,
     pub reduce_mids_interval: Option<u64>,
     pub luby_restart_interval_scale: Option<u64>,
+    pub restart_glue: Option<u64>,
     pub max_steps: Option<u64>,
 }
 
@@ -79,6 +85,7 @@ pub enum ConfigField {
     ReduceLocalsInterval,
     ReduceMidsInterval,
     LubyRestartIntervalScale,
+    RestartGlue,
     MaxSteps,
 }
 
@@ -113,6 +120,7 @@ impl SolverConfig {
             reduce_locals_interval: 15000,
             reduce_mids_interval: 10000,
             luby_restart_interval_scale: 128,
+            restart_glue: 0,
             max_steps: u64::MAX,
         }
     }
@@ -164,6 +172,15 @@ impl SolverConfig {
         self.luby_restart_interval_scale
     }
 
+    /// Above how many hundredths of the usual glue that of the last learned clauses has to be for a due restart to be made.
+    /// At 0 each is made.
+    pub fn restart_glue(&self) -> u64
+        ensures value { result ≡ self.now.restart_glue }
+        ensures range { result ≤ 1000 }
+    {
+        self.restart_glue
+    }
+
     /// How many steps one call of `solve` may make.
     pub fn max_steps(&self) -> u64
         ensures { result ≡ self.now.max_steps }
@@ -183,6 +200,7 @@ impl ConfigField {
             ConfigField::ReduceLocalsInterval => "reduce_locals_interval",
             ConfigField::ReduceMidsInterval => "reduce_mids_interval",
             ConfigField::LubyRestartIntervalScale => "luby_restart_interval_scale",
+            ConfigField::RestartGlue => "restart_glue",
             ConfigField::MaxSteps => "max_steps",
         }
     }
@@ -202,6 +220,8 @@ impl ConfigField {
             Some(ConfigField::ReduceMidsInterval)
         } else if name == b"luby_restart_interval_scale".as_slice() {
             Some(ConfigField::LubyRestartIntervalScale)
+        } else if name == b"restart_glue".as_slice() {
+            Some(ConfigField::RestartGlue)
         } else if name == b"max_steps".as_slice() {
             Some(ConfigField::MaxSteps)
         } else {
@@ -218,6 +238,7 @@ impl ConfigField {
             ConfigField::ReduceLocalsInterval
             | ConfigField::ReduceMidsInterval
             | ConfigField::LubyRestartIntervalScale => (1, u64::MAX),
+            ConfigField::RestartGlue => (0, 1000),
             ConfigField::MaxSteps => (0, u64::MAX),
         }
     }
@@ -268,6 +289,7 @@ impl SolverConfigUpdate {
             reduce_locals_interval: None,
             reduce_mids_interval: None,
             luby_restart_interval_scale: None,
+            restart_glue: None,
             max_steps: None,
         }
     }
@@ -285,6 +307,7 @@ impl SolverConfigUpdate {
             ConfigField::LubyRestartIntervalScale => {
                 update.luby_restart_interval_scale = Some(value);
             }
+            ConfigField::RestartGlue => update.restart_glue = Some(value),
             ConfigField::MaxSteps => update.max_steps = Some(value),
         }
         update
@@ -299,6 +322,7 @@ impl SolverConfigUpdate {
         ConfigField::ReduceLocalsInterval.check(self.reduce_locals_interval)?;
         ConfigField::ReduceMidsInterval.check(self.reduce_mids_interval)?;
         ConfigField::LubyRestartIntervalScale.check(self.luby_restart_interval_scale)?;
+        ConfigField::RestartGlue.check(self.restart_glue)?;
         Ok(())
     }
 
@@ -322,6 +346,7 @@ impl SolverConfigUpdate {
             luby_restart_interval_scale: self
                 .luby_restart_interval_scale
                 .unwrap_or(config.luby_restart_interval_scale),
+            restart_glue: self.restart_glue.unwrap_or(config.restart_glue),
             max_steps: self.max_steps.unwrap_or(config.max_steps),
         };
         Ok(())

@@ -4,15 +4,16 @@ use Rattle.std.specs.Option.{unwrap_or}
 use Rattle.varisat_names.specs.declared.config.SolverConfigUpdate.{SolverConfigUpdate}
 use Rattle.varisat_names.specs.declared.config.ConfigError.{ConfigError}
 use Rattle.varisat_names.specs.declared.config.ConfigField.{ConfigField}
-use Rattle.varisat_names.specs.declared.config.ConfigField.TheVariants.{VsidsDecay, ClauseActivityDecay, ReduceLocalsInterval, ReduceMidsInterval, LubyRestartIntervalScale, MaxSteps}
+use Rattle.varisat_names.specs.declared.config.ConfigField.TheVariants.{VsidsDecay, ClauseActivityDecay, ReduceLocalsInterval, ReduceMidsInterval, LubyRestartIntervalScale, RestartGlue, MaxSteps}
 
--- Decays are in thousandths, intervals in steps. `max_steps` is for one call of `solve`.
+-- Decays are in thousandths, intervals in steps, `restart_glue` in hundredths. `max_steps` is for one call of `solve`.
 pub record Settings : Type 0 where
   pub vsids_decay : ℕ
   pub clause_activity_decay : ℕ
   pub reduce_locals_interval : ℕ
   pub reduce_mids_interval : ℕ
   pub luby_restart_interval_scale : ℕ
+  pub restart_glue : ℕ
   pub max_steps : ℕ
 
 -- the settings of a new solver
@@ -23,6 +24,7 @@ default_settings = record {
   reduce_locals_interval = 15000;
   reduce_mids_interval = 10000;
   luby_restart_interval_scale = 128;
+  restart_glue = 0;
   max_steps = 2 ^ 64 - 1;
 }
 
@@ -33,6 +35,7 @@ least_value ClauseActivityDecay = 500
 least_value ReduceLocalsInterval = 1
 least_value ReduceMidsInterval = 1
 least_value LubyRestartIntervalScale = 1
+least_value RestartGlue = 0
 least_value MaxSteps = 0
 
 -- the greatest value of each setting
@@ -42,6 +45,7 @@ greatest_value ClauseActivityDecay = 999
 greatest_value ReduceLocalsInterval = 2 ^ 64 - 1
 greatest_value ReduceMidsInterval = 2 ^ 64 - 1
 greatest_value LubyRestartIntervalScale = 2 ^ 64 - 1
+greatest_value RestartGlue = 1000
 greatest_value MaxSteps = 2 ^ 64 - 1
 
 -- each setting is within its range
@@ -52,6 +56,7 @@ pub record AreSettingsInRange (s : Settings) : Type 0 where
   pub reduce_locals_interval : least_value ReduceLocalsInterval ≤ s.reduce_locals_interval
   pub reduce_mids_interval : least_value ReduceMidsInterval ≤ s.reduce_mids_interval
   pub luby_restart_interval_scale : least_value LubyRestartIntervalScale ≤ s.luby_restart_interval_scale
+  pub restart_glue : s.restart_glue ≤ greatest_value RestartGlue
 
 -- the text of a setting's name
 abbrev pub field_text : ConfigField → List ℕ
@@ -60,6 +65,7 @@ field_text ClauseActivityDecay = codes "clause_activity_decay"
 field_text ReduceLocalsInterval = codes "reduce_locals_interval"
 field_text ReduceMidsInterval = codes "reduce_mids_interval"
 field_text LubyRestartIntervalScale = codes "luby_restart_interval_scale"
+field_text RestartGlue = codes "restart_glue"
 field_text MaxSteps = codes "max_steps"
 
 -- an update that changes nothing, and one that changes one setting
@@ -71,6 +77,7 @@ no_update =
       reduce_locals_interval = None;
       reduce_mids_interval = None;
       luby_restart_interval_scale = None;
+      restart_glue = None;
       max_steps = None;
     }
 
@@ -81,6 +88,7 @@ update_of ClauseActivityDecay x = record no_update { clause_activity_decay = Som
 update_of ReduceLocalsInterval x = record no_update { reduce_locals_interval = Some x }
 update_of ReduceMidsInterval x = record no_update { reduce_mids_interval = Some x }
 update_of LubyRestartIntervalScale x = record no_update { luby_restart_interval_scale = Some x }
+update_of RestartGlue x = record no_update { restart_glue = Some x }
 update_of MaxSteps x = record no_update { max_steps = Some x }
 
 -- no value is given for the setting, or one within its range
@@ -102,7 +110,8 @@ first_bad u =
     (ClauseActivityDecay, may_take ClauseActivityDecay u.clause_activity_decay) ∷
     (ReduceLocalsInterval, may_take ReduceLocalsInterval u.reduce_locals_interval) ∷
     (ReduceMidsInterval, may_take ReduceMidsInterval u.reduce_mids_interval) ∷
-    (LubyRestartIntervalScale, may_take LubyRestartIntervalScale u.luby_restart_interval_scale) ∷ [])
+    (LubyRestartIntervalScale, may_take LubyRestartIntervalScale u.luby_restart_interval_scale) ∷
+    (RestartGlue, may_take RestartGlue u.restart_glue) ∷ [])
 
 -- the settings that the update gives, and else the old ones
 abbrev pub updated_settings : Settings → SolverConfigUpdate → Settings
@@ -112,6 +121,7 @@ updated_settings s u = record {
   reduce_locals_interval = unwrap_or u.reduce_locals_interval s.reduce_locals_interval;
   reduce_mids_interval = unwrap_or u.reduce_mids_interval s.reduce_mids_interval;
   luby_restart_interval_scale = unwrap_or u.luby_restart_interval_scale s.luby_restart_interval_scale;
+  restart_glue = unwrap_or u.restart_glue s.restart_glue;
   max_steps = unwrap_or u.max_steps s.max_steps;
 }
 

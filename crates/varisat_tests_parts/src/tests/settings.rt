@@ -3,13 +3,14 @@ use std::alloc::{AllocError, Global};
 use varisat_names::config::{ConfigError, ConfigField, SolverConfig, SolverConfigUpdate};
 
 /// All settings, in the order of the record.
-fn told(config: &SolverConfig) -> [u64; 6] {
+fn told(config: &SolverConfig) -> [u64; 7] {
     [
         config.vsids_decay(),
         config.clause_activity_decay(),
         config.reduce_locals_interval(),
         config.reduce_mids_interval(),
         config.luby_restart_interval_scale(),
+        config.restart_glue(),
         config.max_steps(),
     ]
 }
@@ -82,7 +83,7 @@ fn a_good_field_beside_a_bad_one_stays(rt: HostRuntime) {
     let is_refused = update_with(Some(0)).apply(&mut config).is_err();
     assert!(rt; is_refused & (config == SolverConfig::new()));
     let is_applied = update_with(None).apply(&mut config).is_ok();
-    assert!(rt; is_applied & (told(&config) == [600, 999, 15000, 10000, 128, 7]));
+    assert!(rt; is_applied & (told(&config) == [600, 999, 15000, 10000, 128, 0, 7]));
 }
 
 fn is_name(alloc: Global, field: ConfigField, name: &str) -> Result<bool, AllocError> {
@@ -116,6 +117,7 @@ const NAMES: &[&str] = &[
     "reduce_locals_interval",
     "reduce_mids_interval",
     "luby_restart_interval_scale",
+    "restart_glue",
     "max_steps",
 ];
 

@@ -11,6 +11,7 @@ returns c = (
     c.unwrap_or-4.ensures,
     c.unwrap_or-5.ensures,
     c.unwrap_or-6.ensures,
+    c.unwrap_or-7.ensures,
     ←
         c.config.view_is,
   ) refl,

@@ -12,7 +12,7 @@ pub struct Counters {
     pub decisions: u64,
     /// Literals that were taken from the queue and propagated.
     pub propagations: u64,
-    /// Restarts that were due, also where there was no level to undo.
+    /// Restarts that were made, also where there was no level to undo.
     pub restarts: u64,
     /// Literals of the clauses that were learned, of which each conflict teaches one.
     pub learned_literals: u64,

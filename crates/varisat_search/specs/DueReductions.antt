@@ -105,7 +105,7 @@ InprocessesIfDue {A} =
 -- `are` holds.
 pub record BeginsStep {A : Type 0} (are : List Line → Type 0) (x z : Context A) : Type 0 where
   pub begun : Context A
-  pub restarts : RestartsByPolicy x.schedule x.assumptions.levels (view x) (view begun)
+  pub restarts : RestartsByPolicy x.solver_config.restart_glue x.schedule x.assumptions.levels (view x) (view begun)
   pub saves : SavesUndone x.assumptions.levels (view x) (view begun) x.assignment.last begun.assignment.last
   pub begins : ChangesRestarted x begun
   pub decidable : SameDecidable (view x) x.vsids (view begun) begun.vsids
@@ -119,7 +119,7 @@ pub record BeginsStep {A : Type 0} (are : List Line → Type 0) (x z : Context A
 pub record GoesBySchedule {A : Type 0} (lines : List Line) (x z : Context A) : Type 0 where
   pub begun : Context A
   pub inprocessed : Context A
-  pub restarts : RestartsByPolicy x.schedule x.assumptions.levels (view x) (view begun)
+  pub restarts : RestartsByPolicy x.solver_config.restart_glue x.schedule x.assumptions.levels (view x) (view begun)
   pub begins : ChangesRestarted x begun
   pub first : List Line
   pub rest : List Line

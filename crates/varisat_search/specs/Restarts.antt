@@ -16,9 +16,10 @@ pub record RestartsIfDue (q : Plan) (level : ℕ) (s t : View) : Type 0 where
   pub undecided : length s.decisions ≤ level → t ≡ s
   pub undone : IsDue q → level < length s.decisions → IsCut s t level
 
--- What the policy makes of a restart that is due: each is made. For a policy that passes some over this is `MayRestart`.
-abbrev pub RestartsByPolicy : Plan → ℕ → View → View → Type 0
-RestartsByPolicy = RestartsIfDue
+-- What the policy makes of a restart that is due: each is made where the setting is 0, and else some may be passed over.
+pub record RestartsByPolicy (glue : ℕ) (q : Plan) (level : ℕ) (s t : View) : Type 0 where
+  pub may : MayRestart q level s t
+  pub each : glue ≡ 0 → RestartsIfDue q level s t
 
 -- Where decisions above the level are undone, the values that variables lose are saved, and where nothing changes no value is.
 pub record SavesUndone (level : ℕ) (s t : View) (old new : List Bool) : Type 0 where
@@ -31,7 +32,7 @@ pub record KeepsAssignment (s t : View) : Type 0 where
   pub kinds_stay : kinds t ≡ kinds s
 
 -- what is remembered over a restart down to the level, where one is due, and over what comes after it
-abbrev pub RestartsAndRemembers : Plan → ℕ → View → List Bool → List Bool → Type 0
-RestartsAndRemembers q level s old new =
-    (t : View) × (between : List Bool) × RestartsByPolicy q level s t × SavesUndone level s t old between
+abbrev pub RestartsAndRemembers : ℕ → Plan → ℕ → View → List Bool → List Bool → Type 0
+RestartsAndRemembers glue q level s old new =
+    (t : View) × (between : List Bool) × RestartsByPolicy glue q level s t × SavesUndone level s t old between
     × Remembers t between new

@@ -263,6 +263,7 @@ fn learn_from_conflict<A: Allocator + Copy, P: ProofTracer>(
         first,
         reason,
     )?;
+    ctx.counters.count_glue(header.glue());
     Ok(())
 }
 

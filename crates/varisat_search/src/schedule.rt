@@ -27,12 +27,13 @@ pub use varisat_schedule::luby::LubySequence;
 pub use varisat_schedule::schedule::Schedule;
 use varisat_steps::{ProofTracer, TraceError};
 
-/// The policy: whether a restart that is due is made. The bound on steps needs no restart, so any answer would do; this
-/// one makes each. A policy that passes some over has no contract, and `MayRestart` for `RestartsByPolicy`.
-fn is_restart_wanted<A: Allocator + Copy>(_ctx: &Context<A>) -> bool
-    ensures { IsTrue result }
+/// The policy: whether a restart that is due is made. The bound on steps needs no restart, so any answer would do. At the
+/// setting 0 each is made; else those where the glue of the last learned clauses is high, as where a search got stuck.
+fn is_restart_wanted<A: Allocator + Copy>(ctx: &Context<A>) -> bool
+    ensures { ctx.now.solver_config.restart_glue ≡ 0 → IsTrue result }
 {
-    true
+    let hundredths = ctx.solver_config.restart_glue();
+    hundredths == 0 || ctx.counters.is_glue_high(hundredths)
 }
 
 /// Begins a step of the schedule, which restarts the search where a restart is due. Assumptions keep their levels.
@@ -40,7 +41,8 @@ fn restart_if_due<A: Allocator + Copy>(ctx: &mut Context<A>)
     requires ready { IsReady ctx.old }
     requires counted { ctx.old.schedule.steps < 2 ^ 64 - 1 }
     ensures ready { IsReady ctx.new }
-    ensures restarted { RestartsByPolicy ctx.old.schedule ctx.old.assumptions.levels (view ctx.old) (view ctx.new) }
+    ensures restarted { RestartsByPolicy ctx.old.solver_config.restart_glue
+        ctx.old.schedule ctx.old.assumptions.levels (view ctx.old) (view ctx.new) }
     ensures saved { SavesUndone ctx.old.assumptions.levels
         (view ctx.old) (view ctx.new) ctx.old.assignment.last ctx.new.assignment.last }
     ensures decidable { SameDecidable (view ctx.old) ctx.old.vsids (view ctx.new) ctx.new.vsids }
@@ -48,7 +50,10 @@ fn restart_if_due<A: Allocator + Copy>(ctx: &mut Context<A>)
     ensures frame { ChangesBegun ctx.old ctx.new }
 {
     let scale = ctx.solver_config.luby_restart_interval_scale();
-    if !ctx.schedule.begin_step(scale) || !is_restart_wanted(ctx) {
+    if !ctx.schedule.begin_step(scale) {
+        return;
+    }
+    if !is_restart_wanted(ctx) {
         return;
     }
     count(&mut ctx.counters.restarts, 1);
@@ -145,8 +150,8 @@ pub fn schedule_step<A: Allocator + Copy, P: ProofTracer>(
     ensures rises { OnOk result (ctx.new.solver_state.sat_state ≡ SatState.Unknown →
         IsPlannedStep ctx.old.schedule (kinds (view ctx.old)) (kinds (view ctx.new))) }
     ensures keeps { OnOk result (KeepsVariables ctx.old ctx.new) }
-    ensures last { OnOk result (RestartsAndRemembers ctx.old.schedule ctx.old.assumptions.levels
-        (view ctx.old) ctx.old.assignment.last ctx.new.assignment.last) }
+    ensures last { OnOk result (RestartsAndRemembers ctx.old.solver_config.restart_glue
+        ctx.old.schedule ctx.old.assumptions.levels (view ctx.old) ctx.old.assignment.last ctx.new.assignment.last) }
     ensures state { OnOk result
         (ctx.new.solver_state ≡ record ctx.old.solver_state { sat_state = ctx.new.solver_state.sat_state }) }
     ensures counts { CountsStep result ctx.old ctx.new }

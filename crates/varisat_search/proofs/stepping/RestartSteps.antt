@@ -1,7 +1,6 @@
 -- A step that may begin with a restart.
-use Rattle.std.proofs.Common.{◌≡◌, ℕ, ◌<◌, ◌≤◌, List, [], length, ⊎_elim, inl, inr, refl, sym, ap, subst, arith}
+use Rattle.std.proofs.Common.{◌≡◌, ℕ, ◌<◌, ◌≤◌, List, [], length, ⊎_elim, refl, sym, ap, subst, arith}
 use Rattle.std.proofs.lemmas.List.{length-map}
-use Rattle.std.proofs.lemmas.Bool.{cases_lt}
 use Rattle.varisat_theory.specs.inside.Rank.{rank}
 use Rattle.varisat_theory.specs.promises.Derivations.{Line}
 use Rattle.varisat_theory.specs.inside.Outcomes.{Outcome, Proves, Steps}
@@ -10,7 +9,6 @@ use Rattle.varisat_prop.specs.View.{View, WellFormed, PropagatedBeforeDecisions,
 use Rattle.varisat_prop.specs.Watches.{Watches, IsPropagated}
 use Rattle.varisat_schedule.specs.Plans.{Plan}
 use Rattle.varisat_schedule.specs.CallSteps.{IsPlannedStep}
-use Rattle.varisat_schedule.proofs.CallSteps.{due-or-not}
 use Rattle.varisat_search.specs.Restarts.{MayRestart, RestartsByPolicy}
 use Rattle.varisat_search.specs.Seen.{search_of}
 use Rattle.varisat_search.specs.Steps.{IsCut}
@@ -44,24 +42,19 @@ begun-cut s t level w v h c =
     }
 
 -- What the policy does may be done: the one place that has to follow where the policy changes.
-pub permitted : (q : Plan) (level : ℕ) (s t : View) → RestartsByPolicy q level s t → MayRestart q level s t
-permitted q level s t r = record {
-  stays = r.stays;
-  undone =
-      ⊎_elim (λ d. ⊎_elim (λ h. inr (h, r.undone d h)) (λ h. inl (r.undecided h)) (cases_lt level (length s.decisions))) (λ n. inl (r.stays n))
-      (due-or-not q);
-}
+pub permitted : {glue : ℕ} (q : Plan) (level : ℕ) (s t : View) → RestartsByPolicy glue q level s t → MayRestart q level s t
+permitted q level s t r = r.may
 
 -- what holds of a view in which nothing changes, and of one in which decisions are undone
-pub restart-elim : (q : Plan) (level : ℕ) (s t : View) (P : View → Type 0) → RestartsByPolicy q level s t → P s →
+pub restart-elim : {glue : ℕ} (q : Plan) (level : ℕ) (s t : View) (P : View → Type 0) → RestartsByPolicy glue q level s t → P s →
     (level < length s.decisions → IsCut s t level → P t) → P t
 restart-elim q level s t P r same cut = ⊎_elim (λ e. subst P (sym e) same) (λ (h, c). cut h c) (permitted q level s t r).undone
 
 -- no decision stands above the level
-pub restart-undecided : (q : Plan) (level : ℕ) (s t : View) → RestartsByPolicy q level s t → length s.decisions ≤ level → t ≡ s
+pub restart-undecided : {glue : ℕ} (q : Plan) (level : ℕ) (s t : View) → RestartsByPolicy glue q level s t → length s.decisions ≤ level → t ≡ s
 restart-undecided q level s t r n = ⊎_elim (λ e. e) (λ (h, c). absurd (omega (arith, n, h))) (permitted q level s t r).undone
 
-module _ (q : Plan) (level : ℕ) (s t : View) (w : WellFormed s) (v : PropagatedBeforeDecisions s) (r : RestartsByPolicy q level s t) where
+module _ {glue : ℕ} (q : Plan) (level : ℕ) (s t : View) (w : WellFormed s) (v : PropagatedBeforeDecisions s) (r : RestartsByPolicy glue q level s t) where
   pub begun-view : Begun s t
   begun-view = restart-elim q level s t (Begun s) r (begun-same s w v) (begun-cut s t level w v)
 

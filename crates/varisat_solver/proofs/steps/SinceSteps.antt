@@ -178,7 +178,7 @@ come-begun {A} are x z r h l b f c k =
     come-settled (as-inprocessed InprocessesIfDue are t z) t z b.inprocesses.goes_on (f ∙ sym config) c x.schedule
     (record {
       units = k.units;
-      begun = begun-without c x.schedule k.units (kinds (view x)) (kinds (view t)) positive l (λ d. ap kinds (b.restarts.stays d)) k.come;
+      begun = begun-without c x.schedule k.units (kinds (view x)) (kinds (view t)) positive l (λ d. ap kinds (b.restarts.may.stays d)) k.come;
       scale = k.scale ∙ sym (ap (λ (s : Settings). s.luby_restart_interval_scale) config);
       variables = k.variables ∙ sym count;
       room = room-same x t k.units c.variables b.decidable k.room;

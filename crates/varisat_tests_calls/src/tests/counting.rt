@@ -4,10 +4,15 @@ use std::io::Cursor;
 use varisat::search::Counters;
 use varisat::solver::{Solver, SolverError};
 use varisat_formula::io::{MemoryTarget, ReadSource};
+use varisat_names::config::SolverConfigUpdate;
 
-// What was counted once the text was decided.
-fn counted(alloc: Global, text: &'static str) -> Result<Counters, SolverError> {
+// What was counted once the text was decided, where restarts are due after few steps.
+fn counted(alloc: Global, restart_glue: u64, text: &'static str) -> Result<Counters, SolverError> {
     let mut solver: Solver<MemoryTarget<Global>, Global> = Solver::new_in(alloc);
+    let mut update = SolverConfigUpdate::new();
+    update.luby_restart_interval_scale = Some(1);
+    update.restart_glue = Some(restart_glue);
+    solver.config(&update)?;
     let mut source = ReadSource::new(Cursor::new(text));
     solver.add_dimacs_cnf(&mut source)?;
     let _ = solver.solve()?;
@@ -18,8 +23,8 @@ fn counted(alloc: Global, text: &'static str) -> Result<Counters, SolverError> {
 // others conflict at level 0.
 #[test]
 fn searches_are_counted(rt: HostRuntime) {
-    let none = counted(rt.alloc(), "1 2 0\n");
-    let refuted = counted(rt.alloc(), "1 2 0 -1 2 0 1 -2 0 -1 -2 0\n");
+    let none = counted(rt.alloc(), 0, "1 2 0\n");
+    let refuted = counted(rt.alloc(), 0, "1 2 0 -1 2 0 1 -2 0 -1 -2 0\n");
     let (Ok(none), Ok(refuted)) = (none, refuted) else {
         assert!(rt; false);
         return;
@@ -34,4 +39,14 @@ fn searches_are_counted(rt: HostRuntime) {
             refuted.learned_literals
         ) == (2, 1, 1)
     );
+}
+
+// No clause was learned whose glue is high.
+#[test]
+fn due_restarts_are_passed_over(rt: HostRuntime) {
+    let Ok(counters) = counted(rt.alloc(), 100, "1 2 0\n") else {
+        assert!(rt; false);
+        return;
+    };
+    assert!(rt; (counters.conflicts, counters.restarts) == (0, 0));
 }

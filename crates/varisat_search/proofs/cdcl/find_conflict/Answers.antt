@@ -3,7 +3,7 @@ use Rattle.varisat_prop.specs.View.{GrowsTrail}
 use Rattle.varisat_prop.proofs.views.ViewGrowth.{grows-refl, grows-trans, grows-longer}
 use Rattle.varisat_prop.proofs.trails.TrailValues.{trail-short}
 use Rattle.varisat_search.specs.declared.context.Context.{Context}
-use Rattle.varisat_search.specs.Contexts.{view, KeepsSchedule, IsReady}
+use Rattle.varisat_search.specs.Contexts.{view, KeepsSchedule}
 use Rattle.varisat_search.specs.AssumptionParts.{AssumptionParts, TakesOutImplied}
 use Rattle.varisat_search.specs.Frames.{GoesForward}
 use Rattle.varisat_search.proofs.learning.AssumedTruths.{takes-refl, takes-trans}

@@ -1,8 +1,7 @@
 use Rattle.varisat_steps.proofs.Broken.{error-broken}
 use Rattle.std.proofs.lemmas.Bool.{cases_lt}
-use Rattle.std.proofs.Common.{◌≡◌, List, [], Ok, length, ⊎_elim, refl, arith}
+use Rattle.std.proofs.Common.{◌≡◌, [], length, ⊎_elim, refl, arith}
 use Rattle.varisat_search.specs.Contexts.{view}
-use Rattle.varisat_theory.specs.promises.Derivations.{Line}
 use Rattle.varisat_steps.specs.Traces.{TakesLines}
 use Rattle.varisat_search.specs.RootSimplified.{HasRootNews, SimplifiesRoot}
 use Rattle.varisat_search.proofs.stepping.FixedLiterals.{ready-complete, none-conflicting}

@@ -1,4 +1,4 @@
-use Rattle.std.proofs.Common.{◌≡◌, length, ⊎_elim, refl, ap, ◌∙◌}
+use Rattle.std.proofs.Common.{◌≡◌, ◌≤◌, length, ⊎_elim, inl, inr, refl, ap, ◌∙◌}
 use Rattle.std.proofs.lemmas.Bool.{cases_lt}
 use Rattle.varisat_schedule.specs.Plans.{step_begun}
 use Rattle.varisat_vsids.specs.Activities.{Activities}
@@ -14,13 +14,21 @@ use Rattle.varisat_search.proofs.schedule.restart_if_due.Given.{Over}
 use Rattle.varisat_search.proofs.schedule.restart_if_due.Goals.{After-restart}
 use Rattle.varisat_search.proofs.schedule.restart_if_due.Goals as goal
 
-restarts : (g : Over) (c : After-restart g) → RestartsByPolicy c.args.ctx.now.schedule c.args.ctx.now.assumptions.levels (view c.args.ctx.now)
+restarts : (g : Over) (c : After-restart g) →
+    RestartsByPolicy c.args.ctx.now.solver_config.restart_glue c.args.ctx.now.schedule c.args.ctx.now.assumptions.levels (view c.args.ctx.now)
     (view c.restart.new.ctx)
-restarts g c = record {
-  stays = λ n. absurd (n (c.begin_step.ensures.due.0 c.if-not-begin_step.false));
-  undecided = λ e. ap (λ (x : Context g.row.A.Denot). view x) (c.restart.ensures.same e);
-  undone = λ d. c.restart.ensures.cut;
-}
+restarts g c =
+    let s = view c.args.ctx.now in
+    let level = c.args.ctx.now.assumptions.levels in
+    let due = c.begin_step.ensures.due.0 c.if-not-begin_step.false in
+    let undecided : length s.decisions ≤ level → view c.restart.new.ctx ≡ s = λ e. ap (λ (x : Context g.row.A.Denot). view x) (c.restart.ensures.same e) in
+    record {
+      may = record {
+        stays = λ n. absurd (n due);
+        undone = ⊎_elim (λ h. inr (h, c.restart.ensures.cut h)) (λ h. inl (undecided h)) (cases_lt level (length s.decisions));
+      };
+      each = λ z. record { stays = λ n. absurd (n due); undecided = undecided; undone = λ d. c.restart.ensures.cut };
+    }
 
 -- the context whose levels were undone
 abbrev before : (g : Over) (c : After-restart g) → Context g.row.A.Denot

@@ -31,7 +31,7 @@ use Rattle.varisat_steps.proofs.Traced.{step-more}
 use Rattle.varisat_search.proofs.schedule.schedule_step.Goals as goal
 
 -- A step that begins with a restart and goes on with inprocessing: x is before it, t after the restart, u after inprocessing.
-module _ {A : Type 0} (x t u : Context A) (r : IsReady x) (b : RestartsByPolicy x.schedule x.assumptions.levels (view x) (view t))
+module _ {A : Type 0} (x t u : Context A) (r : IsReady x) (b : RestartsByPolicy x.solver_config.restart_glue x.schedule x.assumptions.levels (view x) (view t))
     {P : List Line → Type 0} (k : GoesOnByLines P t u) where
   scheduled-steps : (z : View) (v : Outcome) (Q R : List Line → Type 0) → ((first more : List Line) → P first → Q more → R (first ++ more)) →
       ((more : List Line) × Steps (search_of (view u)) (search_of z) v more × Q more) → (lines : List Line)
@@ -58,7 +58,7 @@ module _ {A : Type 0} (x t u : Context A) (r : IsReady x) (b : RestartsByPolicy 
       (same-trans (view t) t.vsids (view u) u.vsids (view z) z.vsids k.decidable last)
 
   scheduled-last : (new : List Bool) → SavesUndone x.assumptions.levels (view x) (view t) x.assignment.last t.assignment.last →
-      Remembers (view u) u.assignment.last new → RestartsAndRemembers x.schedule x.assumptions.levels (view x) x.assignment.last new
+      Remembers (view u) u.assignment.last new → RestartsAndRemembers x.solver_config.restart_glue x.schedule x.assumptions.levels (view x) x.assignment.last new
   scheduled-last new saved remembers = (view t, t.assignment.last, b, saved, remembers-settled t u P k new remembers)
 
   scheduled-assumes : (v : Outcome) (a : AssumptionParts) → u.assumptions ≡ x.assumptions →

@@ -20,7 +20,7 @@ use Rattle.varisat.specs.promises.Runs.{MayStillFail}
 use Rattle.varisat.specs.declared.session.Call.{Call}
 use Rattle.varisat.specs.declared.session.Call.TheVariants as call
 use Rattle.varisat_names.specs.declared.config.ConfigField.{ConfigField}
-use Rattle.varisat_names.specs.declared.config.ConfigField.TheVariants.{VsidsDecay, ClauseActivityDecay, ReduceLocalsInterval, ReduceMidsInterval, LubyRestartIntervalScale, MaxSteps}
+use Rattle.varisat_names.specs.declared.config.ConfigField.TheVariants.{VsidsDecay, ClauseActivityDecay, ReduceLocalsInterval, ReduceMidsInterval, LubyRestartIntervalScale, RestartGlue, MaxSteps}
 use Rattle.varisat_names.specs.promises.Settings.{field_text}
 use Rattle.varisat.specs.promises.Lines.{Command, Add, Assume, New, Sample, Witness, Hide, Observe, Solve, Model, Core, Config, Steps, Since, ProofText, ProofBinary, ProofMarked, Close, SelfCheck, MeansCommand, MeansOneCommand, HasNumbersInRange, AsksFor, words, words_of, spelling}
 
@@ -110,6 +110,7 @@ name_has_no_space ClauseActivityDecay = is_word (codes "clause_activity_decay") 
 name_has_no_space ReduceLocalsInterval = is_word (codes "reduce_locals_interval") refl
 name_has_no_space ReduceMidsInterval = is_word (codes "reduce_mids_interval") refl
 name_has_no_space LubyRestartIntervalScale = is_word (codes "luby_restart_interval_scale") refl
+name_has_no_space RestartGlue = is_word (codes "restart_glue") refl
 name_has_no_space MaxSteps = is_word (codes "max_steps") refl
 
 number_has_no_space : (n : ℕ) → n < 2 ^ 64 → NoSpace (decimal n)
@@ -125,6 +126,7 @@ names_apart ClauseActivityDecay ClauseActivityDecay e = refl
 names_apart ReduceLocalsInterval ReduceLocalsInterval e = refl
 names_apart ReduceMidsInterval ReduceMidsInterval e = refl
 names_apart LubyRestartIntervalScale LubyRestartIntervalScale e = refl
+names_apart RestartGlue RestartGlue e = refl
 names_apart MaxSteps MaxSteps e = refl
 names_apart f g e = absurd (omega (arith, e))
 

@@ -135,8 +135,8 @@ pub const AMPLE_SESSIONS: [Exchange; 31] = [
         "err 12\nok\nbad line\n",
     ),
     (
-        "config vsids_decay 1000\nconfig vsids_decay 500\nconfig luby_restart_interval_scale 0\n",
-        "err 12\nok\nerr 12\n",
+        "config vsids_decay 1000\nconfig vsids_decay 500\nconfig luby_restart_interval_scale 0\nconfig restart_glue 1001\nconfig restart_glue 1000\n",
+        "err 12\nok\nerr 12\nerr 12\nok\n",
     ),
     (
         "config max_steps 0\nconfig max_steps 18446744073709551615\n",

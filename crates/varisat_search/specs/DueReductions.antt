@@ -8,13 +8,18 @@ use Rattle.varisat_clause.specs.Collected.{IsCollected}
 use Rattle.varisat_clause.specs.Reductions.{ReducesLocals, mids_reduced}
 use Rattle.varisat_search.specs.declared.context.Context.{Context}
 use Rattle.varisat_search.specs.Contexts.{view, IsReady}
-use Rattle.varisat_search.specs.Frames.{ChangesPlaces, ChangesRestarted}
+use Rattle.varisat_search.specs.Frames.{ChangesPlaces, ChangesRestarted, KeepsVariables}
 use Rattle.varisat_search.specs.Decisions.{SameDecidable}
 use Rattle.varisat_analysis.specs.HeaderChanges.{ChangesHeaders}
 use Rattle.varisat_analysis.specs.Reductions.{reasons_marked, Discards}
 use Rattle.varisat_analysis.specs.Collections.{Repacks}
-use Rattle.varisat_search.specs.Progress.{ProvesTo, StepsTo}
-use Rattle.varisat_search.specs.Restarts.{KeepsAssignment, RestartsByPolicy, SavesUndone}
+use Rattle.varisat_search.specs.Progress.{ProvesTo, StepsTo, outcome_at}
+use Rattle.varisat_search.specs.Restarts.{KeepsAssignment, RestartsByPolicy, SavesUndone, RestartsAndRemembers}
+use Rattle.varisat_search.specs.AssumptionParts.{KeepsAssumptions}
+use Rattle.varisat_search.specs.Seen.{search_of}
+use Rattle.varisat_search.specs.declared.state.SatState.TheVariants as verdict
+use Rattle.varisat_prop.specs.View.{kinds}
+use Rattle.varisat_schedule.specs.CallSteps.{IsPlannedStep}
 use Rattle.varisat_search.specs.RootSimplified.{HasRootNews, KeepsFixed, GoesOnByLines, SimplifiesRootFirst}
 use Rattle.varisat_search.specs.Deletions.{unmarked_deletions}
 
@@ -132,3 +137,13 @@ pub record GoesBySchedule {A : Type 0} (lines : List Line) (x z : Context A) : T
 -- such a step was made, by lines for which `are` holds
 abbrev pub StepsBySchedule : {A : Type 0} → (List Line → Type 0) → Context A → Context A → Type 0
 StepsBySchedule are x y = StepsTo (λ lines. GoesBySchedule lines x y × are lines) x y
+
+-- Such a step was made. Unless the answer is known the trail's rank rises; variables stay, and so do assumptions but for
+-- those that are fixed, and what is remembered of values.
+pub record MakesScheduledStep {A : Type 0} (are : List Line → Type 0) (x y : Context A) : Type 0 where
+  pub steps : StepsBySchedule are x y
+  pub rises : y.solver_state.sat_state ≡ verdict.Unknown → IsPlannedStep x.schedule (kinds (view x)) (kinds (view y))
+  pub keeps : KeepsVariables x y
+  pub assumes : KeepsAssumptions (search_of (view x)) (outcome_at y) x.assumptions y.assumptions
+  pub last : RestartsAndRemembers x.solver_config.restart_glue x.schedule x.assumptions.levels (view x)
+      x.assignment.last y.assignment.last

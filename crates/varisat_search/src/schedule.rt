@@ -1,15 +1,12 @@
 //! The steps of a search by its schedule.
 ghost use Rattle.std.specs.Prelude.{◌≡◌, ◌-◌, ◌^◌, ◌<◌, IsTrue, List, length, OnOk, IfErr};
-ghost use Rattle.varisat_prop.specs.View.{kinds};
-ghost use Rattle.varisat_schedule.specs.CallSteps.{IsPlannedStep};
-ghost use Rattle.varisat_search.specs.AssumptionParts.{KeepsAssumptions};
 ghost use Rattle.varisat_search.specs.Contexts.{view, IsReady};
-ghost use Rattle.varisat_search.specs.Frames.{ChangesBegun, ChangesReduced, ChangesPlaces, ChangesStore, ChangesTiers, CountsStep, KeepsVariables};
+ghost use Rattle.varisat_search.specs.Frames.{ChangesBegun, ChangesReduced, ChangesPlaces, ChangesStore, ChangesTiers, CountsStep};
 ghost use Rattle.varisat_search.specs.Decisions.{SameDecidable};
 ghost use Rattle.varisat_search.specs.Progress.{outcome_at};
 ghost use Rattle.varisat_search.specs.FoundCores.{HasCoreIfFailed};
-ghost use Rattle.varisat_search.specs.Restarts.{RestartsByPolicy, SavesUndone, RestartsAndRemembers};
-ghost use Rattle.varisat_search.specs.DueReductions.{ReducesLocalsIfDue, ReducesMidsIfDue, NoLines, Inprocesses, InprocessesIfDue, BeginsStep, StepsBySchedule};
+ghost use Rattle.varisat_search.specs.Restarts.{RestartsByPolicy, SavesUndone};
+ghost use Rattle.varisat_search.specs.DueReductions.{ReducesLocalsIfDue, ReducesMidsIfDue, NoLines, Inprocesses, InprocessesIfDue, BeginsStep, MakesScheduledStep};
 ghost use Rattle.varisat_search.specs.StepErrors.{HasNoRoom, step_faults};
 ghost use Rattle.varisat_search.specs.Seen.{search_of};
 ghost use Rattle.varisat_steps.specs.Traces.{TakesLines, TakesStep, BreaksOff, faults_of, AdmitsFor};
@@ -142,16 +139,9 @@ pub fn schedule_step<A: Allocator + Copy, P: ProofTracer>(
     requires counted { ctx.old.schedule.steps < 2 ^ 64 - 1 }
     ensures ready { OnOk result (IsReady ctx.new) }
     // The tracer took the lines of the step, in the order of its parts, and then the core, where assumptions failed.
-    ensures steps { OnOk result
-        (StepsBySchedule (λ lines. TakesStep P.takes proof.old lines (outcome_at ctx.new) proof.new) ctx.old ctx.new) }
-    ensures assumes { OnOk result
-        (KeepsAssumptions (search_of (view ctx.old)) (outcome_at ctx.new) ctx.old.assumptions ctx.new.assumptions) }
+    ensures made { OnOk result
+        (MakesScheduledStep (λ lines. TakesStep P.takes proof.old lines (outcome_at ctx.new) proof.new) ctx.old ctx.new) }
     ensures core { OnOk result (HasCoreIfFailed ctx.new) }
-    ensures rises { OnOk result (ctx.new.solver_state.sat_state ≡ SatState.Unknown →
-        IsPlannedStep ctx.old.schedule (kinds (view ctx.old)) (kinds (view ctx.new))) }
-    ensures keeps { OnOk result (KeepsVariables ctx.old ctx.new) }
-    ensures last { OnOk result (RestartsAndRemembers ctx.old.solver_config.restart_glue
-        ctx.old.schedule ctx.old.assumptions.levels (view ctx.old) ctx.old.assignment.last ctx.new.assignment.last) }
     ensures state { OnOk result
         (ctx.new.solver_state ≡ record ctx.old.solver_state { sat_state = ctx.new.solver_state.sat_state }) }
     ensures counts { CountsStep result ctx.old ctx.new }

@@ -72,7 +72,7 @@ fn flag_variables<A: Allocator + Copy>(
 }
 
 /// Drops the solver variable. Its global variable is gone for good where it has no name and is isolated, and the proof
-/// is logs that.
+/// logs that.
 fn detach_solver_var<W: ProofTarget, A: Allocator + Copy>(
     tracer: &mut SolverTracer<W, A>,
     solver: Var,

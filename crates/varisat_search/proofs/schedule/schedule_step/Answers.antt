@@ -87,8 +87,8 @@ counted : {A : Type 0} {lines : List Line} {x z : Context A} {plan : Plan} → S
     SimplifiesThenSteps lines x (record z { schedule = plan })
 counted d = record { settled = d.settled; end = d.end; first = d.first; rest = d.rest; parts = d.parts; simplifies_root = d.simplifies_root; steps = d.steps }
 
-pub returns-clause-steps : goal.returns-clause-steps
-returns-clause-steps g c =
+pub returns-clause-made : goal.returns-clause-made
+returns-clause-made g c =
     let takes = g.P.ProofTracer.takes in
     let b = c.in_ok-begin_step.ensures.begins in
     let x = c.args.ctx.now in
@@ -99,29 +99,43 @@ returns-clause-steps g c =
     let p1 = c.begin_step.new.proof in
     let p2 = c.conflict_step.new.proof in
     let v = outcome_at z in
-    let m = made-with u z (λ lines. SimplifiesRootFirst lines u z × LearnsAlone lines u z × TakesStep takes p1 lines v p2) c.in_ok-conflict_step.ensures.made in
-    scheduled-steps x t u c.requires.ready b.restarts
-    (proved-too t u (as-inprocessed InprocessesIfDue (λ lines. TakesLines takes p0 lines p1) t u) b.inprocesses.goes_on)
-    (view z) v
-    (λ lines. Steps (search_of (view u)) (search_of (view z)) v lines × (SimplifiesRootFirst lines u z × LearnsAlone lines u z × TakesStep takes p1 lines v p2))
-    (λ lines. GoesBySchedule lines x (record z { schedule = c.end_step.new.self }) × TakesStep takes p0 lines v p2)
-    (λ first more (d, (r, parts, i)) (p, (s, a, j)). (
-      record {
-        begun = t;
-        inprocessed = u;
-        restarts = b.restarts;
-        begins = b.begins;
-        first = first;
-        rest = more;
-        parts = refl;
-        inprocesses = r;
-        proves = d;
-        simplifies_root = λ h. counted (s h);
-        steps = (more, p, refl);
-      },
-      step-more takes g.met.P.ProofTracer.takes_more p0 p1 p2 first more v i j,
-    ))
-    m.goes.steps
+    let made = c.in_ok-conflict_step.ensures.made in
+    let m = made-with u z (λ lines. SimplifiesRootFirst lines u z × LearnsAlone lines u z × TakesStep takes p1 lines v p2) made in
+    let k = made.goes.keeps in
+    let begun = begun-view x.schedule x.assumptions.levels (view x) (view t) c.requires.ready.well c.requires.ready.settled b.restarts in
+    record {
+      steps = scheduled-steps x t u c.requires.ready b.restarts
+          (proved-too t u (as-inprocessed InprocessesIfDue (λ lines. TakesLines takes p0 lines p1) t u) b.inprocesses.goes_on)
+          (view z) v
+          (λ lines. Steps (search_of (view u)) (search_of (view z)) v lines × (SimplifiesRootFirst lines u z × LearnsAlone lines u z × TakesStep takes p1 lines v p2))
+          (λ lines. GoesBySchedule lines x (record z { schedule = c.end_step.new.self }) × TakesStep takes p0 lines v p2)
+          (λ first more (d, (r, parts, i)) (p, (s, a, j)). (
+            record {
+              begun = t;
+              inprocessed = u;
+              restarts = b.restarts;
+              begins = b.begins;
+              first = first;
+              rest = more;
+              parts = refl;
+              inprocesses = r;
+              proves = d;
+              simplifies_root = λ h. counted (s h);
+              steps = (more, p, refl);
+            },
+            step-more takes g.met.P.ProofTracer.takes_more p0 p1 p2 first more v i j,
+          ))
+          m.goes.steps;
+      rises = λ e. scheduled-rises x t u c.requires.ready b.restarts b.inprocesses.goes_on (view z) made.goes.ready.well k.count (made.goes.rises e);
+      keeps = record {
+        decidable = scheduled-decidable x t u c.requires.ready b.restarts b.inprocesses.goes_on z b.decidable k.decidable;
+        decay = k.decay ∙ ap (λ (y : Context g.row.A.Denot). y.vsids.decay) b.rest ∙ b.decay;
+        count = k.count ∙ b.inprocesses.goes_on.extends.count ∙ begun.count;
+      };
+      assumes = scheduled-assumes x t u c.requires.ready b.restarts b.inprocesses.goes_on v z.assumptions
+          (ap (λ (y : Context g.row.A.Denot). y.assumptions) c.begin_step.ensures.frame) made.assumes;
+      last = scheduled-last x t u c.requires.ready b.restarts b.inprocesses.goes_on z.assignment.last b.saves made.last;
+    }
 
 -- no step is counted as it begins
 begun-uncounted : (scale : ℕ) (p : Plan) → (step_begun scale p).steps ≡ p.steps
@@ -144,41 +158,8 @@ returns-clause-counts g c =
       solver_config = k.solver_config ∙ ap (λ (y : Context g.row.A.Denot). y.solver_config) c.begin_step.ensures.frame;
     }
 
-pub returns-clause-rises : goal.returns-clause-rises
-returns-clause-rises g c e =
-    let b = c.in_ok-begin_step.ensures.begins in
-    let m = c.in_ok-conflict_step.ensures.made.goes in
-    scheduled-rises c.args.ctx.now b.begun c.begin_step.new.ctx c.requires.ready b.restarts b.inprocesses.goes_on (view c.conflict_step.new.ctx)
-    m.ready.well m.keeps.count (m.rises e)
-
-pub returns-clause-keeps : goal.returns-clause-keeps
-returns-clause-keeps g c =
-    let x = c.args.ctx.now in
-    let b = c.in_ok-begin_step.ensures.begins in
-    let u = c.begin_step.new.ctx in
-    let k = c.in_ok-conflict_step.ensures.made.goes.keeps in
-    let begun = begun-view x.schedule x.assumptions.levels (view x) (view b.begun) c.requires.ready.well c.requires.ready.settled b.restarts in
-    record {
-      decidable = scheduled-decidable x b.begun u c.requires.ready b.restarts b.inprocesses.goes_on c.conflict_step.new.ctx b.decidable k.decidable;
-      decay = k.decay ∙ ap (λ (y : Context g.row.A.Denot). y.vsids.decay) b.rest ∙ b.decay;
-      count = k.count ∙ b.inprocesses.goes_on.extends.count ∙ begun.count;
-    }
-
-pub returns-clause-last : goal.returns-clause-last
-returns-clause-last g c =
-    let b = c.in_ok-begin_step.ensures.begins in
-    scheduled-last c.args.ctx.now b.begun c.begin_step.new.ctx c.requires.ready b.restarts b.inprocesses.goes_on c.conflict_step.new.ctx.assignment.last
-    b.saves c.in_ok-conflict_step.ensures.made.last
-
 pub returns-clause-core : goal.returns-clause-core
 returns-clause-core g c = c.in_ok-conflict_step.ensures.core
-
-pub returns-clause-assumes : goal.returns-clause-assumes
-returns-clause-assumes g c =
-    let b = c.in_ok-begin_step.ensures.begins in
-    let z = c.conflict_step.new.ctx in
-    scheduled-assumes c.args.ctx.now b.begun c.begin_step.new.ctx c.requires.ready b.restarts b.inprocesses.goes_on (outcome_at z) z.assumptions
-    (ap (λ (y : Context g.row.A.Denot). y.assumptions) c.begin_step.ensures.frame) c.in_ok-conflict_step.ensures.made.assumes
 
 pub returns-in_err-begin_step-clause-broken : goal.returns-in_err-begin_step-clause-broken
 returns-in_err-begin_step-clause-broken g c =

@@ -357,7 +357,7 @@ int varisat_hide_var(varisat *solver, int32_t variable) { return set_mode(solver
 /* Settings and counters. */
 
 int varisat_set(varisat *solver, enum varisat_setting setting, uint64_t value) {
-    BEGIN(enter(solver, setting <= VARISAT_LUBY_RESTART_INTERVAL_SCALE));
+    BEGIN(enter(solver, setting <= VARISAT_RESTART_GLUE));
     return leave(solver, -caller_config(&solver->handle, setting, value));
 }
 

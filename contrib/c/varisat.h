@@ -137,7 +137,8 @@ enum varisat_setting {
     VARISAT_CLAUSE_ACTIVITY_DECAY,       /* 500 to 999, in thousandths; 999 */
     VARISAT_REDUCE_LOCALS_INTERVAL,      /* from 1; 15000 */
     VARISAT_REDUCE_MIDS_INTERVAL,        /* from 1; 10000 */
-    VARISAT_LUBY_RESTART_INTERVAL_SCALE  /* from 1; 128 */
+    VARISAT_LUBY_RESTART_INTERVAL_SCALE, /* from 1; 128 */
+    VARISAT_RESTART_GLUE                 /* 0 to 1000, in hundredths; 0: each due restart is made */
 };
 int varisat_set(varisat *solver, enum varisat_setting setting, uint64_t value);
 

@@ -24,7 +24,9 @@ _OUT_OF_MEMORY = -3
 _FORMATS = {"drat": 0, "binary": 1, "marked": 2}
 # Between so many steps of a search Python looks at signals, interrupts and the function of set_terminate.
 _ROUND = 1000
-SETTINGS = ("vsids_decay", "clause_activity_decay", "reduce_locals_interval", "reduce_mids_interval", "luby_restart_interval_scale")
+SETTINGS = (
+    "vsids_decay", "clause_activity_decay", "reduce_locals_interval", "reduce_mids_interval", "luby_restart_interval_scale", "restart_glue"
+)
 COUNTERS = ("conflicts", "decisions", "propagations", "restarts", "learned_literals", "deleted_clauses", "collections", "steps", "bytes")
 
 

@@ -103,6 +103,8 @@ static void wrong_calls(void) {
     CHECK(varisat_hide_var(s, 0) == VARISAT_BAD_ARGUMENT && varisat_witness_var(s, -1) == VARISAT_BAD_ARGUMENT);
     CHECK(varisat_set(s, 99, 1) == VARISAT_BAD_ARGUMENT && varisat_set(s, VARISAT_VSIDS_DECAY, 10) == VARISAT_OUT_OF_RANGE);
     CHECK(strstr(varisat_error_text(s), "vsids_decay"));
+    CHECK(varisat_set(s, VARISAT_RESTART_GLUE, 1001) == VARISAT_OUT_OF_RANGE && varisat_set(s, VARISAT_RESTART_GLUE, 125) == 0);
+    CHECK(varisat_set(s, VARISAT_RESTART_GLUE + 1, 1) == VARISAT_BAD_ARGUMENT);
     CHECK(varisat_add_clause(s, LITS(0x10000001)) == VARISAT_VARIABLE_LIMIT && varisat_add_clause(s, LITS(INT32_MIN)) == VARISAT_VARIABLE_LIMIT);
     CHECK(varisat_hide_var(s, INT32_MAX) == VARISAT_VARIABLE_LIMIT);
     CHECK(varisat_close_proof(s) == VARISAT_NOTHING);

@@ -1,7 +1,7 @@
 -- The numbers by which callers name formats, settings and modes, and by which they are given answers.
 use Rattle.std.specs.Prelude.{ℕ, nat_eq, if◌then◌else◌, Bool, true, false, Option, Some, None, Result, Ok, Err}
 use Rattle.varisat_names.specs.declared.config.ConfigField.{ConfigField}
-use Rattle.varisat_names.specs.declared.config.ConfigField.TheVariants.{VsidsDecay, ClauseActivityDecay, ReduceLocalsInterval, ReduceMidsInterval, LubyRestartIntervalScale}
+use Rattle.varisat_names.specs.declared.config.ConfigField.TheVariants.{VsidsDecay, ClauseActivityDecay, ReduceLocalsInterval, ReduceMidsInterval, LubyRestartIntervalScale, RestartGlue}
 use Rattle.varisat_names.specs.declared.variables.data.SamplingMode.{SamplingMode}
 use Rattle.varisat_names.specs.declared.variables.data.SamplingMode.TheVariants.{Sample, Witness, Hide}
 use Rattle.varisat_lines.specs.declared.format.ProofFormat.{ProofFormat}
@@ -16,7 +16,8 @@ field_numbered n =
     (if nat_eq n 1 then Some ClauseActivityDecay else
     (if nat_eq n 2 then Some ReduceLocalsInterval else
     (if nat_eq n 3 then Some ReduceMidsInterval else
-    (if nat_eq n 4 then Some LubyRestartIntervalScale else None))))
+    (if nat_eq n 4 then Some LubyRestartIntervalScale else
+    (if nat_eq n 5 then Some RestartGlue else None)))))
 
 -- the format of a number
 abbrev pub format_numbered : ℕ → Option ProofFormat

@@ -25,6 +25,7 @@ pub fn field_of(number: u8) -> Option<ConfigField>
         2 => Some(ConfigField::ReduceLocalsInterval),
         3 => Some(ConfigField::ReduceMidsInterval),
         4 => Some(ConfigField::LubyRestartIntervalScale),
+        5 => Some(ConfigField::RestartGlue),
         _ => None,
     }
 }

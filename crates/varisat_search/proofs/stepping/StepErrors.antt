@@ -50,9 +50,9 @@ pub steps-after : (s u t : View) (v : Outcome) (lines : List Line) → WellForme
     Steps (search_of u) (search_of t) v lines → Steps (search_of s) (search_of t) v lines
 steps-after s u t v lines w x g p = part_step (search_of s) (search_of u) (search_of t) v [] lines (grows_prove s u w x g) p
 
-told-by : {X E : Type 0} (r : Result X E) (Q P : E → Type 0) → IsErr r × IsErrAnd r Q → ((e : E) → Q e → P e) → IfErr r P
-told-by (Ok x) Q P (a, b) f = tt
-told-by (Err e) Q P (a, b) f = f e b
+if-err : {X E : Type 0} (r : Result X E) (Q P : E → Type 0) → IsErr r × IsErrAnd r Q → ((e : E) → Q e → P e) → IfErr r P
+if-err (Ok x) Q P (a, b) f = tt
+if-err (Err e) Q P (a, b) f = f e b
 
 -- a step says that the store is full only where the store said it
 store-full : (s : StoreError) → step_error_of_store s ≡ step.Full → s ≡ store.Full
@@ -61,7 +61,7 @@ store-full store.Memory e = absurd (let z : step.Memory ≡ step.Full = e in cc)
 
 pub if-full : {X : Type 0} (r : Result X StepError) (s : StoreError) (P : Type 0) → IsErr r × IsErrAnd r (λ e. e ≡ step_error_of_store s) →
     (s ≡ store.Full → P) → IfErr r (λ e. e ≡ step.Full → P)
-if-full r s P h f = told-by r (λ e. e ≡ step_error_of_store s) (λ e. e ≡ step.Full → P) h (λ e p q. f (store-full s (sym p ∙ q)))
+if-full r s P h f = if-err r (λ e. e ≡ step_error_of_store s) (λ e. e ≡ step.Full → P) h (λ e p q. f (store-full s (sym p ∙ q)))
 
 -- a step with another error
 pub ends-unfilled : {A : Type 0} {x y : Context A} (r : Result (Unit {0}) StepError) (e : StepError) → IsErr r × IsErrAnd r (λ z. z ≡ e) →

@@ -33,7 +33,7 @@ use Rattle.varisat_solver.proofs.steps.SearchLinks.{relinked-marks, answers-cove
 use Rattle.varisat_solver.proofs.calls.Carried.{carry-at, carry-sign, map-empty, satisfied-carried, forced-value, wide-back}
 use Rattle.varisat_tracer.specs.inside.RenamedEntries.{carry-opposites}
 use Rattle.varisat_solver.proofs.accepting.AcceptSolverVariables.{one-literal}
-use Rattle.varisat_solver.proofs.entries.ReachedHeld.{lines_logged, with_told, IsInUse, lines-lead, shares-after, shares-joined, logged-quiet, counted-literal}
+use Rattle.varisat_solver.proofs.entries.ReachedHeld.{lines_logged, with_logged, IsInUse, lines-lead, shares-after, shares-joined, logged-quiet, counted-literal}
 use Rattle.varisat_solver.proofs.entries.LoggedEntries.{written-derived, logged-written, logged-accepted, logged-assumed, spoken-renamed}
 use Rattle.varisat_proof.specs.promises.Calls.{CheckerState}
 use Rattle.varisat_proof.specs.promises.Proving.{IsCheckedIf}
@@ -57,7 +57,7 @@ module _ (w : Carrying) (p : Spaces) (s : State) (d : Clause) (k : Links w p s) 
     x : ℕ
     i : ℕ
     named : p.global_from_user (variable_of l) ≡ Some x
-    stands : w.identity x ≡ Some i
+    identified : w.identity x ≡ Some i
     known : i ∈ s.counted
     there : r.identity v ≡ Some i
     name : s.naming.names (variable_of l) ≡ Some i
@@ -75,7 +75,7 @@ module _ (w : Carrying) (p : Spaces) (s : State) (d : Clause) (k : Links w p s) 
         x = x;
         i = q.0;
         named = b;
-        stands = q.1;
+        identified = q.1;
         known = q.2;
         there = chain-some p.global_from_solver w.identity v x g ∙ q.1;
         name = k.names.agree (variable_of l) ∙ chain-some p.global_from_user w.identity (variable_of l) x b ∙ q.1;
@@ -186,14 +186,14 @@ module _ (w : Carrying) (p : Spaces) (s : State) (d : Clause) (k : Links w p s) 
         loads.verdict
 
     -- the clause joins, and then come the lines
-    joins : SharesHeld (with_told (r.logged ++ Accepts c ∷ []) r) p.search.fixed (h.held ++ e ∷ [])
+    joins : SharesHeld (with_logged (r.logged ++ Accepts c ∷ []) r) p.search.fixed (h.held ++ e ∷ [])
     joins = shares-joined r h.held c e same-clause of-clause h.logged
 
     goes-more : GoesOn 0 (r.logged ++ Accepts c ∷ []) (lines_logged r lines)
     goes-more = let (last, g, o) = loads.holds h.held h.holds in
-        (lines-lead 0 (with_told (r.logged ++ Accepts c ∷ []) r) (h.held ++ e ∷ []) lines last joins g).goes
+        (lines-lead 0 (with_logged (r.logged ++ Accepts c ∷ []) r) (h.held ++ e ∷ []) lines last joins g).goes
 
-    holds-more : SearchHolds (s.clauses ++ c ∷ []) (with_told ((r.logged ++ Accepts c ∷ []) ++ lines_logged r lines) r) t v
+    holds-more : SearchHolds (s.clauses ++ c ∷ []) (with_logged ((r.logged ++ Accepts c ∷ []) ++ lines_logged r lines) r) t v
     holds-more =
         let (last, g, o) = loads.holds h.held h.holds in
         let all = by_derives 0 (h.held ++ e ∷ []) lines last g in
@@ -209,7 +209,7 @@ module _ (w : Carrying) (p : Spaces) (s : State) (d : Clause) (k : Links w p s) 
           fixed = λ n l i a b. fixed-on s.clauses r p.search t v h long in-covers n l
               (h.fixed (λ q. let z : outcome.Unknown ≡ outcome.Unsat = q in cc) l i a b);
           covered = covers-more;
-          logged = shares-after (with_told (r.logged ++ Accepts c ∷ []) r) (h.held ++ e ∷ []) 0 lines last joins g t v
+          logged = shares-after (with_logged (r.logged ++ Accepts c ∷ []) r) (h.held ++ e ∷ []) 0 lines last joins g t v
               (fixed-on s.clauses r p.search t v h long in-covers)
               (spoken_wider (IsLiteralOfEither p.search e) (IsInUse r) lines
               (λ l. elim [ inl a ↦ h.within l a | inr a ↦ of-clause l a ]) loads.speaks) plain o;
@@ -221,7 +221,7 @@ module _ (w : Carrying) (p : Spaces) (s : State) (d : Clause) (k : Links w p s) 
   made l h =
       let (l0, a, z) = map-∈ (through_names s.naming) l d h in
       let y = where-to l0 a in
-      subst (λ j. j < s.naming.made) (sym (ap variable_of z ∙ carry-at s.naming.names l0 y.i y.name)) (k.identities.below y.x y.i y.stands)
+      subst (λ j. j < s.naming.made) (sym (ap variable_of z ∙ carry-at s.naming.names l0 y.i y.name)) (k.identities.below y.x y.i y.identified)
 
   -- A clause of which the marks of isolation fell.
   module _ (after : ℕ → VarData) (touched : IsTouched p d after) where
@@ -249,7 +249,7 @@ module _ (w : Carrying) (p : Spaces) (s : State) (d : Clause) (k : Links w p s) 
             let (l0, b, z) = map-∈ (through_names s.naming) l d a in
             let y = where-to l0 b in
             let ij : i ≡ y.i = q ∙ ap variable_of z ∙ carry-at s.naming.names l0 y.i y.name in
-            by-mark (after y.x).isolated y.x refl (y.stands ∙ ap Some (sym ij)) apart l0 b y.named)
+            by-mark (after y.x).isolated y.x refl (y.identified ∙ ap Some (sym ij)) apart l0 b y.named)
             (λ n. Apart (λ b l a f g z. ⊎_elim (λ j. apart b l j f g z)
             (λ j. ⊎_elim (λ y. n (subst (λ v. v ∈ map variable_of (map (through_names s.naming) d)) z
             (∈-map variable_of l (map (through_names s.naming) d) (subst (λ u. l ∈ u) y g)))) (λ y. absurd y) j)
@@ -257,14 +257,14 @@ module _ (w : Carrying) (p : Spaces) (s : State) (d : Clause) (k : Links w p s) 
             (∈-or_not i (map variable_of (map (through_names s.naming) d)))
         go (Forced b e) = Forced b e
 
-    stands : (logged : List Entry) → IsWholeLog logged (s.clauses ++ c ∷ []) s.assumptions s.counted s.ever_hidden (IsRetired w s) →
+    linked : (logged : List Entry) → IsWholeLog logged (s.clauses ++ c ∷ []) s.assumptions s.counted s.ever_hidden (IsRetired w s) →
         (t : Search) (v : Outcome) (m : ℕ → Bool) (checker : Option CheckerState) (x : Verdict) →
         CheckerFits w.global logged checker →
-        SearchHolds (s.clauses ++ c ∷ []) (with_told logged r) t (without_core v) → VerdictFits w.identity m v x →
+        SearchHolds (s.clauses ++ c ∷ []) (with_logged logged r) t (without_core v) → VerdictFits w.identity m v x →
         CoreFits s.naming.names p.core x → IsRight (s.clauses ++ c ∷ []) s.assumptions s.counted x →
         Links w (record p { kept = after; search = t; outcome = v; model = m; checker = checker }) (with_entries logged (accept c x s))
     unfolding r c
-    stands logged is-logged t v m checker x checks holds fits core right =
+    linked logged is-logged t v m checker x checks holds fits core right =
         relinked-marks w p (record p { kept = after; search = t; outcome = v; model = m; checker = checker }) s (with_entries logged (accept c x s)) k
         (record {
           deleted = λ x. ap (λ y. y.deleted) (touched.rest x);
@@ -389,7 +389,7 @@ module _ (w : Carrying) (p : Spaces) (s : State) (d : Clause) (k : Links w p s) 
           Refuted refl none,
           logs',
           logged-as,
-          stands logged is-logged t v m checker Unsat follows
+          linked logged is-logged t v m checker Unsat follows
               (subst (SearchHolds (s.clauses ++ map (through_names s.naming) d ∷ []) after' t) (u ∙ sym (ap without_core u)) more)
               (subst (λ y. VerdictFits w.identity m y Unsat) (sym u) tt) tt none,
         ))
@@ -399,7 +399,7 @@ module _ (w : Carrying) (p : Spaces) (s : State) (d : Clause) (k : Links w p s) 
           Reopened refl (λ z. q (contradicted h long-before z)),
           logs',
           logged-as,
-          stands logged is-logged t v m checker Unknown
+          linked logged is-logged t v m checker Unknown
               follows (subst (SearchHolds (s.clauses ++ map (through_names s.naming) d ∷ []) after' t) (u ∙ sym (ap without_core u)) more)
               (subst (λ y. VerdictFits w.identity m y Unknown) (sym u) tt) tt tt,
         ))

@@ -16,7 +16,7 @@ use Rattle.varisat_solver.proofs.accepting.NamesComing.{AreAlike, all-alike, ali
 use Rattle.varisat_solver.specs.declared.solver.SolverError.{SolverError}
 use Rattle.varisat_solver.specs.declared.solver.SolverError.TheVariants.{WitnessVar, VariableLimit}
 use Rattle.varisat_solver.specs.promises.OpenProofs.{BarsAssumptions}
-use Rattle.varisat_solver.proofs.calls.CallStates.{stands-valid}
+use Rattle.varisat_solver.proofs.calls.CallStates.{represents-valid}
 use Rattle.varisat_names.specs.declared.variables.data.SamplingMode.TheVariants as sampling
 
 -- What is found out over the tables of names is so over the names of a state for which they stand.
@@ -84,11 +84,11 @@ module _ (g : Summary) (s : State) (st : Represents g s) (valid : g.ledger.valid
   limit-passed c = let (w, k) = st.fits valid in ⊎_elim (λ a. inl a) (λ b. inr (crowded-state w g s k d b)) c
 
   pub clause-refused : MayAccept by_state s → (e : SolverError) → ChecksNames g.tables d (Err e) → AddsClause s d (Err e) s
-  clause-refused n VariableLimit c = (stands-valid g s st valid, n, limit-passed c, refl)
-  clause-refused n (WitnessVar u) c = let (w, k) = st.fits valid in (stands-valid g s st valid, n, c.0.in_range, witness-state w g s k d u c.1, refl)
+  clause-refused n VariableLimit c = (represents-valid g s st valid, n, limit-passed c, refl)
+  clause-refused n (WitnessVar u) c = let (w, k) = st.fits valid in (represents-valid g s st valid, n, c.0.in_range, witness-state w g s k d u c.1, refl)
   clause-refused n e c = absurd c
 
   pub list-refused : (BarsAssumptions s.proof → ⊥) → (e : SolverError) → ChecksNames g.tables d (Err e) → Assumes s d (Err e) s
-  list-refused n VariableLimit c = (stands-valid g s st valid, n, limit-passed c, refl)
-  list-refused n (WitnessVar u) c = let (w, k) = st.fits valid in (stands-valid g s st valid, n, c.0.in_range, witness-state w g s k d u c.1, refl)
+  list-refused n VariableLimit c = (represents-valid g s st valid, n, limit-passed c, refl)
+  list-refused n (WitnessVar u) c = let (w, k) = st.fits valid in (represents-valid g s st valid, n, c.0.in_range, witness-state w g s k d u c.1, refl)
   list-refused n e c = absurd c

@@ -134,9 +134,9 @@ like-still s = record {
 pub same-since : (changed_at before after since : ℕ) → after ≡ before → since ≡ before - changed_at → since + (after - before) ≡ after - changed_at
 same-since changed_at before after since e h = omega (arith, e, h)
 
--- a solver and a state for which it stands are valid alike
-pub stands-valid : (g : Summary) (s : State) → Represents g s → g.ledger.valid ≡ true → IsValid s
-stands-valid g s st v = ap (λ x. x.valid) st.ledger ∙ v
+-- a solver and a state that it represents are valid alike
+pub represents-valid : (g : Summary) (s : State) → Represents g s → g.ledger.valid ≡ true → IsValid s
+represents-valid g s st v = ap (λ x. x.valid) st.ledger ∙ v
 
 -- its proof fits what is known of it
 pub proof-fits : {g : Summary} {s : State} → Represents g s → g.ledger.valid ≡ true → ProofFits g.opened s.variables s.logged s.proof
@@ -153,7 +153,7 @@ pub record Begins (g : Summary) (s : State) : Type 0 where
 
 pub begins : {g : Summary} {s : State} → Represents g s → g.ledger.valid ≡ true → Begins g s
 begins {g} {s} st v = record {
-  valid = stands-valid g s st v;
+  valid = represents-valid g s st v;
   ledger = st.ledger;
   words = st.words;
   fits = st.fits v;

@@ -60,11 +60,11 @@ summary_of parts started changed_at x =
           (is_there parts.proof.checker);
     }
 
-pub stands-updated : {A : Type 0} (parts : TracerState) (started : Bool) (changed_at anew : ℕ) (x y : Context A) (u : SolverConfigUpdate)
+pub represents-updated : {A : Type 0} (parts : TracerState) (started : Bool) (changed_at anew : ℕ) (x y : Context A) (u : SolverConfigUpdate)
     (b : ActivityScale) (a : Activities) (s : State) → y ≡ record x
     { clause_activity = b; solver_config = updated_settings x.solver_config u; vsids = a } → anew ≡ y.schedule.steps →
     Represents (summary_of parts started changed_at x) s → Represents (summary_of parts started anew y) (with_update u s)
-stands-updated {A = A} parts started changed_at anew x y u b a s e n st =
+represents-updated {A = A} parts started changed_at anew x y u b a s e n st =
     let same : anew ≡ x.schedule.steps = n ∙ ap (λ (z : Context A). z.schedule.steps) e in
     subst (λ (z : Context A). Represents (summary_of parts started anew z) (with_update u s)) (sym e) (record {
       ledger = ap (λ (l : Ledger). record l { since = 0; settings = updated_settings l.settings u }) st.ledger
@@ -84,9 +84,9 @@ stands-updated {A = A} parts started changed_at anew x y u b a s e n st =
           record { clauses = f.clauses; assumptions = f.assumptions; counted = f.counted; unlisted = f.unlisted; unassumed = f.unassumed };
     })
 
-pub stands-same : {A : Type 0} (parts : TracerState) (started : Bool) (changed_at : ℕ) (x y : Context A) (s : State) → y ≡ x →
+pub represents-same : {A : Type 0} (parts : TracerState) (started : Bool) (changed_at : ℕ) (x y : Context A) (s : State) → y ≡ x →
     Represents (summary_of parts started changed_at x) s → Represents (summary_of parts started changed_at y) s
-stands-same {A = A} parts started changed_at x y s e st = subst (λ (z : Context A). Represents (summary_of parts started changed_at z) s) (sym e) st
+represents-same {A = A} parts started changed_at x y s e st = subst (λ (z : Context A). Represents (summary_of parts started changed_at z) s) (sym e) st
 
 -- Other settings, where the limit of steps alone is another one. What decays is as before.
 abbrev pub IsLimited : {A : Type 0} → ℕ → Context A → Context A → Type 0
@@ -120,10 +120,10 @@ limits-steps {A} n x y u r e h =
     go (Err error) (z, k) = absurd (let f : None ≡ Some error.field = z in cc)
 
 -- the same solver, in which a call may make so many steps
-pub stands-limited : {A : Type 0} (parts : TracerState) (started : Bool) (changed_at n : ℕ) (x y : Context A) (b : ActivityScale) (a : Activities)
+pub represents-limited : {A : Type 0} (parts : TracerState) (started : Bool) (changed_at n : ℕ) (x y : Context A) (b : ActivityScale) (a : Activities)
     (s : State) → y ≡ record x { clause_activity = b; solver_config = record x.solver_config { max_steps = n }; vsids = a } →
     Represents (summary_of parts started changed_at x) s → Represents (summary_of parts started changed_at y) (with_max_steps n s)
-stands-limited {A = A} parts started changed_at n x y b a s e st =
+represents-limited {A = A} parts started changed_at n x y b a s e st =
     subst (λ (z : Context A). Represents (summary_of parts started changed_at z) (with_max_steps n s)) (sym e) (record {
       ledger = ap (λ (l : Ledger). record l { settings = record l.settings { max_steps = n } }) st.ledger;
       fits = λ v. let (w, k) = st.fits v in (
@@ -162,9 +162,9 @@ counts-limited {A = A} changed_at n x y b a e g k =
     })
 
 -- the same solver, where steps are counted anew
-pub stands-anew : {A : Type 0} (parts : TracerState) (started : Bool) (changed_at anew : ℕ) (x : Context A) (s : State) → anew ≡ x.schedule.steps →
+pub represents-anew : {A : Type 0} (parts : TracerState) (started : Bool) (changed_at anew : ℕ) (x : Context A) (s : State) → anew ≡ x.schedule.steps →
     Represents (summary_of parts started changed_at x) s → Represents (summary_of parts started anew x) (count_anew s)
-stands-anew parts started changed_at anew x s n st = record {
+represents-anew parts started changed_at anew x s n st = record {
   ledger = ap (λ (l : Ledger). record l { since = 0 }) st.ledger
       ∙ ap (λ k. ledger_of (not x.solver_state.state_is_invalid) started x.schedule.steps k x.solver_config (is_there parts.proof.checker))
       (none-since anew x.schedule.steps n);
@@ -179,12 +179,12 @@ stands-anew parts started changed_at anew x s n st = record {
 }
 
 -- the same solver with another proof, or none, and the same checker
-pub stands-with-proof : {A : Type 0} (tables : Tables) (p q : ProofParts) (started : Bool) (changed_at : ℕ) (x : Context A) (s : State)
+pub represents-with-proof : {A : Type 0} (tables : Tables) (p q : ProofParts) (started : Bool) (changed_at : ℕ) (x : Context A) (s : State)
     (proof : Option OpenProof) → q.checker ≡ p.checker → q.opened ≡ opened_state proof →
     (not x.solver_state.state_is_invalid ≡ true → IsWrittenWhereOpen s.variables s.logged proof) → (BarsAssumptions proof → s.assumptions ≡ []) →
     Represents (summary_of (record { tables = tables; proof = p }) started changed_at x) s →
     Represents (summary_of (record { tables = tables; proof = q }) started changed_at x) (with_proof proof s)
-stands-with-proof tables p q started changed_at x s proof checker e f unassumed st = record {
+represents-with-proof tables p q started changed_at x s proof checker e f unassumed st = record {
   ledger = st.ledger
       ∙ ap (λ (o : Option CheckerState). ledger_of (not x.solver_state.state_is_invalid) started x.schedule.steps (x.schedule.steps - changed_at)
       x.solver_config (is_there o)) (sym checker);
@@ -255,10 +255,10 @@ pub some-checking : {A : Type 0} (tables : Tables) (p q : ProofParts) (x : Conte
     RepresentsSome (spaces_with tables p.checker x) started → RepresentsSome (spaces_with tables q.checker x) started
 some-checking tables p q x started e fresh (s, fit, f) = let (none, few) = f fresh in (s, spaces-checking tables p q x s e none few fit, f)
 
-pub stands-checking : {A : Type 0} (tables : Tables) (p q : ProofParts) (started : Bool) (changed_at : ℕ) (x : Context A) (s : State) →
+pub represents-checking : {A : Type 0} (tables : Tables) (p q : ProofParts) (started : Bool) (changed_at : ℕ) (x : Context A) (s : State) →
     Checks p q → is_there q.checker ≡ true → s.ledger.started ≡ false → Represents (summary_of (record { tables = tables; proof = p }) started changed_at x) s →
     Represents (summary_of (record { tables = tables; proof = q }) started changed_at x) (with_checking s)
-stands-checking tables p q started changed_at x s e runs fresh st = record {
+represents-checking tables p q started changed_at x s e runs fresh st = record {
   ledger = ap (λ (l : Ledger). record l { checking = true }) st.ledger
       ∙ ap (λ b. ledger_of (not x.solver_state.state_is_invalid) started x.schedule.steps (x.schedule.steps - changed_at) x.solver_config b) (sym runs);
   words = st.words;

@@ -57,7 +57,7 @@ use Rattle.varisat_solver.proofs.calls.SpacesAgree.{map-map, AreInUse}
 use Rattle.varisat_solver.proofs.calls.CallStates.{like-still}
 use Rattle.varisat_solver.proofs.steps.SearchVerdicts.{right-false, right-core}
 use Rattle.varisat_solver.proofs.calls.Carried.{carry-at, carry-sign}
-use Rattle.varisat_solver.proofs.steps.SolveVerdict.{logged-with, LinesInSteps, steps-tell, steps-derived, steps-in-turn, steps-stayed, core-ends, steps-logged-as, core-logs, core-logged-as, maps-alike, recount, spaces-same, sat-found, unsat-found, core-found, found, went-on}
+use Rattle.varisat_solver.proofs.steps.SolveVerdict.{logged-with, LinesInSteps, steps-log, steps-derived, steps-in-turn, steps-stayed, core-ends, steps-logged-as, core-logs, core-logged-as, maps-alike, recount, spaces-same, sat-found, unsat-found, core-found, found, went-on}
 use Rattle.varisat_solver.proofs.calls.ModelsFit.{logged, is-sat, is-unsat, is-core, is-unknown}
 use Rattle.varisat_solver.proofs.accepting.AcceptClause.{with_tables, name-below, name-above, given-spaces}
 use Rattle.varisat_solver.proofs.steps.SearchLinks.{view-long}
@@ -331,7 +331,7 @@ comes-made at p q search assumed s t y z verdict.Unknown n lines (w, k) one v ho
     record {
       verdict = Unknown;
       logged = logged;
-      more = steps-tell w (spaces g) s k refl (search_of t) outcome.Unknown n lines v.steps long v.in_use;
+      more = steps-log w (spaces g) s k refl (search_of t) outcome.Unknown n lines v.steps long v.in_use;
       begins = begins-nothing at.interval at.number (n - 1) s.logged _ (omega (arith, one));
       adds = λ e. steps-in-turn w (spaces g) s k refl (search_of t) outcome.Unknown n lines v.steps long v.in_use at.interval at.number refl (how refl);
       stayed = λ e. steps-stayed w (spaces g) s k refl (search_of t) outcome.Unknown n lines v.steps long v.in_use;
@@ -350,7 +350,7 @@ comes-made at p q search assumed s t y z verdict.Sat n lines (w, k) one v how ta
     record {
       verdict = Sat a;
       logged = logged;
-      more = steps-tell w (spaces g) s k refl (search_of t) (outcome.Sat (assignment_of t)) n lines v.steps long v.in_use;
+      more = steps-log w (spaces g) s k refl (search_of t) (outcome.Sat (assignment_of t)) n lines v.steps long v.in_use;
       adds = λ e. absurd (let z : Sat a ≡ Unknown = e in cc);
       stayed = λ e. absurd (let z : Sat a ≡ Unknown = e in cc);
       begins = begins-nothing at.interval at.number (n - 1) s.logged _ (omega (arith, one));
@@ -368,7 +368,7 @@ comes-made at p q search assumed s t y z verdict.Unsat n lines (w, k) one v how 
     record {
       verdict = Unsat;
       logged = logged;
-      more = steps-tell w (spaces g) s k refl (search_of t) outcome.Unsat n lines v.steps long v.in_use;
+      more = steps-log w (spaces g) s k refl (search_of t) outcome.Unsat n lines v.steps long v.in_use;
       adds = λ e. absurd (let z : Unsat ≡ Unknown = e in cc);
       stayed = λ e. absurd (let z : Unsat ≡ Unknown = e in cc);
       begins = begins-nothing at.interval at.number (n - 1) s.logged _ (omega (arith, one));
@@ -494,9 +494,9 @@ pub answers-alike : (g : Summary) (s : State) → Represents g s → g.ledger.va
 answers-alike g s st v = let (w, k) = st.fits v in answers-fit w.identity (spaces g).model g.search g.assumed.failed_core g.sat_state s.verdict k.verdict
 
 -- under assumptions that failed the core is logged that is kept over names
-pub core-to-tell : (g : Summary) (s : State) → Represents g s → g.ledger.valid ≡ true → g.sat_state ≡ verdict.UnsatUnderAssumptions →
+pub core-returned : (g : Summary) (s : State) → Represents g s → g.ledger.valid ≡ true → g.sat_state ≡ verdict.UnsatUnderAssumptions →
     IsReturnedCore s (Some g.assumed.user_core)
-core-to-tell g s st v e =
+core-returned g s st v e =
     let (w, k) = st.fits v in
     let (core, q) = is-core w.identity (spaces g).model g.assumed.failed_core s.verdict
     (subst (λ y. VerdictFits w.identity (spaces g).model y s.verdict) (ap (outcome_of g.search g.assumed.failed_core) e) k.verdict) in
@@ -508,23 +508,6 @@ unsat-known g s st v e =
     let (w, k) = st.fits v in
     is-unsat w.identity (spaces g).model s.verdict
     (subst (λ y. VerdictFits w.identity (spaces g).model y s.verdict) (ap (outcome_of g.search g.assumed.failed_core) e) k.verdict)
-
-pub unsat-to-tell : (g : Summary) (s : State) → Represents g s → g.ledger.valid ≡ true → g.sat_state ≡ verdict.Unsat → IsReturnedCore s (Some [])
-unsat-to-tell g s st v e =
-    let (w, k) = st.fits v in
-    let q = is-unsat w.identity (spaces g).model s.verdict
-    (subst (λ y. VerdictFits w.identity (spaces g).model y s.verdict) (ap (outcome_of g.search g.assumed.failed_core) e) k.verdict) in
-    ((λ l h. absurd h), ap core_of q)
-
--- no answer false, no core
-pub none-to-tell : (s : State) → (answer_of s.verdict ≡ Some false → ⊥) → IsReturnedCore s None
-none-to-tell s n = go s.verdict n
-  where
-    go : (v : Verdict) → (answer_of v ≡ Some false → ⊥) → core_of v ≡ None
-    go Unknown n = refl
-    go (Sat a) n = refl
-    go Unsat n = absurd (n refl)
-    go (UnsatUnderAssumptions core) n = absurd (n refl)
 
 -- 7. What is logged where the verdict is known.
 

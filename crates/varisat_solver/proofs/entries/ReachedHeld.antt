@@ -171,8 +171,8 @@ lines-lead n r share lines after q d =
     }
 
 -- logged once more
-abbrev pub with_told : List Entry → Translation → Translation
-with_told logged r = record r { logged = logged }
+abbrev pub with_logged : List Entry → Translation → Translation
+with_logged logged r = record r { logged = logged }
 
 -- a literal of a solver variable in use
 abbrev pub IsInUse : Translation → Literal → Type 0
@@ -180,7 +180,7 @@ IsInUse r l = (i : ℕ) × (r.identity (variable_of l) ≡ Some i)
 
 module _ {fixed : List Literal} (r : Translation) (share : List Clause) (n : ℕ) (lines : List Line) (after : List Clause)
     (q : SharesHeld r fixed share) (d : DerivesBy n share lines after) where
-  shares-fits : (more : List Literal) → fixed ⊆ more → SpeakOf (IsInUse r) lines → SharesHeld (with_told (r.logged ++ lines_logged r lines) r) more after
+  shares-fits : (more : List Literal) → fixed ⊆ more → SpeakOf (IsInUse r) lines → SharesHeld (with_logged (r.logged ++ lines_logged r lines) r) more after
   shares-fits more stay speaks =
       let on = lines-lead n r share lines after q d in
       shares-more stay (record {
@@ -209,7 +209,7 @@ module _ {fixed : List Literal} (r : Translation) (share : List Clause) (n : ℕ
 
   -- what a search shares after lines over variables in use
   pub shares-after : (t : Search) (v : Outcome) → (v ≢ outcome.Unsat → fixed ⊆ t.fixed) → SpeakOf (IsInUse r) lines →
-      ((core : List Literal) → v ≡ outcome.UnsatUnder core → ⊥) → Holds after t v → HeldFits (with_told (r.logged ++ lines_logged r lines) r) t.fixed after v
+      ((core : List Literal) → v ≡ outcome.UnsatUnder core → ⊥) → Holds after t v → HeldFits (with_logged (r.logged ++ lines_logged r lines) r) t.fixed after v
   shares-after t outcome.Unknown stay speaks plain h = shares-fits t.fixed (stay (λ e. let z : outcome.Unknown ≡ outcome.Unsat = e in cc)) speaks
   shares-after t (outcome.Sat found) stay speaks plain h = shares-fits t.fixed (stay (λ e. let z : outcome.Sat found ≡ outcome.Unsat = e in cc)) speaks
   shares-after t outcome.Unsat stay speaks plain h = logged-conflict h
@@ -218,7 +218,7 @@ module _ {fixed : List Literal} (r : Translation) (share : List Clause) (n : ℕ
 -- an accepted clause joins what is held
 pub shares-joined : {fixed : List Literal} (r : Translation) (share : List Clause) (c d : Clause) → map (carry r.identity) d ≡ c →
     ((l : Literal) → l ∈ d → (i : ℕ) × (r.identity (variable_of l) ≡ Some i)) → SharesHeld r fixed share →
-    SharesHeld (with_told (r.logged ++ Accepts c ∷ []) r) fixed (share ++ d ∷ [])
+    SharesHeld (with_logged (r.logged ++ Accepts c ∷ []) r) fixed (share ++ d ∷ [])
 shares-joined r share c d e in-use q =
     let f = carry r.identity in
     let names : (q.forgotten ++ rename f share) ++ c ∷ [] ≡ q.forgotten ++ rename f (share ++ d ∷ []) =
@@ -339,7 +339,7 @@ module _ (r : Translation) (e : Entry) (quiet : (held : List Clause) → Leads [
   led-on : (held : List Clause) → Leads [] r.logged held → Leads [] (r.logged ++ e ∷ []) held
   led-on held d = leads_append [] r.logged held (e ∷ []) held d (held, quiet held d, refl)
 
-  shares-quiet : {fixed : List Literal} (share : List Clause) → SharesHeld r fixed share → SharesHeld (with_told (r.logged ++ e ∷ []) r) fixed share
+  shares-quiet : {fixed : List Literal} (share : List Clause) → SharesHeld r fixed share → SharesHeld (with_logged (r.logged ++ e ∷ []) r) fixed share
   shares-quiet share q = record {
     held = q.held;
     led = led-on q.held q.led;
@@ -353,7 +353,7 @@ module _ (r : Translation) (e : Entry) (quiet : (held : List Clause) → Leads [
   }
 
   pub logged-quiet : (fixed : List Literal) (share : List Clause) (v : Outcome) → HeldFits r fixed share v →
-      HeldFits (with_told (r.logged ++ e ∷ []) r) fixed share v
+      HeldFits (with_logged (r.logged ++ e ∷ []) r) fixed share v
   logged-quiet fixed share outcome.Unknown q = shares-quiet share q
   logged-quiet fixed share (outcome.Sat found) q = shares-quiet share q
   logged-quiet fixed share outcome.Unsat (held, d, c) = (held, led-on held d, c)

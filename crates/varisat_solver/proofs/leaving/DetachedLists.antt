@@ -278,7 +278,7 @@ unassumed-taken m ls l h =
     let (x, e, n) = unassumed-global m (at m.solvers.backward (variable_of l)) u in
     subst IsSome (sym e) refl
 
--- What a solver keeps, and stands for, once the variables on the trail that are not assumed left.
+-- What a solver keeps, and represents, once the variables on the trail that are not assumed left.
 module _ {A : Type 0} {m n : Tables} {x y : Context A} {gone : List Bool}
     (h : HaveLeft m n x y gone (unassumed_among m x.trail.literals) (length x.assignment.current)) where
   listed-free : (l : Literal) → l ∈ unassumed_among m x.trail.literals → (z : ℕ) → at m.solvers.backward (variable_of l) ≡ Some z →
@@ -297,15 +297,15 @@ module _ {A : Type 0} {m n : Tables} {x y : Context A} {gone : List Bool}
   none-left = over-left h (λ l on e. true-or-not (leads_to_unassumed m (at m.solvers.backward (variable_of l)))
       (λ u. other-than h (variable_of l) e l (filter-∈ (λ l. leads_to_unassumed m (at m.solvers.backward (variable_of l))) x.trail.literals l on u) refl))
 
--- What it stands for, which the proof logs too.
+-- What it represents, which the proof logs too.
 module _ {A : Type 0} {p q : TracerState} {x y : Context A} {gone : List Bool}
     (h : HaveLeft p.tables q.tables x y gone (unassumed_among p.tables x.trail.literals) (length x.assignment.current)) where
-  pub stands-dropped : IsRootSimplified (view x) → AreDetachedAlone (unassumed_among p.tables x.trail.literals) p q →
+  pub represents-dropped : IsRootSimplified (view x) → AreDetachedAlone (unassumed_among p.tables x.trail.literals) p q →
       search_of (view y) ≡ search_without gone (search_of (view x)) → (s : State) →
       SpacesFit (spaces_of p.tables p.proof.checker (view x) x.assumptions verdict.Unknown) s →
       (logged : List Entry) × LogsRetired s.variables s.logged logged p.proof q.proof
       × SpacesFit (spaces_of q.tables q.proof.checker (view y) y.assumptions verdict.Unknown) (with_entries logged s)
-  stands-dropped d a seen s fit =
+  represents-dropped d a seen s fit =
       let m = p.tables in
       let known : ℕ → Option Bool = (λ v. slice_index_or x.assignment.current v None) in
       subst (λ (as' : AssumptionParts). (logged : List Entry) × LogsRetired s.variables s.logged logged p.proof q.proof
@@ -441,7 +441,7 @@ module _ (m : Tables) (mentioned : List Bool) (ls : List Literal) (u : ListsUnne
             let r : true ≡ false = sym (ap not (free (variable_of l) z i q)) ∙ sym (ap (leads_to_unassumed m) q) ∙ over l on in
             cc)
 
--- What a solver keeps, and stands for, once they left.
+-- What a solver keeps, and represents, once they left.
 module _ {A : Type 0} {m n : Tables} {x y : Context A} {mentioned gone : List Bool} {ls : List Literal} (over : AreOverAssumed m x.trail.literals)
     (p : FlagsMentioned (view x) mentioned) (u : ListsUnneeded m mentioned ls) (h : HaveLeft m n x y gone ls (length mentioned)) where
   pub kept-released : IsValidSolver n y
@@ -469,15 +469,15 @@ module _ {A : Type 0} {m n : Tables} {x y : Context A} {mentioned gone : List Bo
   pub needed-left : HasOnlyNeeded n (view y)
   needed-left = record { assumed = over-left h (λ l on e. over l on); needed = needed }
 
--- What it stands for, which the proof logs too.
+-- What it represents, which the proof logs too.
 module _ {A : Type 0} {p q : TracerState} {x y : Context A} {mentioned gone : List Bool} {ls : List Literal}
     (over : AreOverAssumed p.tables x.trail.literals) (f : FlagsMentioned (view x) mentioned) (u : ListsUnneeded p.tables mentioned ls)
     (h : HaveLeft p.tables q.tables x y gone ls (length mentioned)) where
-  pub stands-released : AreDetached ls p q → search_of (view y) ≡ search_without gone (search_of (view x)) → (s : State) →
+  pub represents-released : AreDetached ls p q → search_of (view y) ≡ search_without gone (search_of (view x)) → (s : State) →
       SpacesFit (spaces_of p.tables p.proof.checker (view x) x.assumptions verdict.Unknown) s →
       (logged : List Entry) × LogsRetired s.variables s.logged logged p.proof q.proof
       × SpacesFit (spaces_of q.tables q.proof.checker (view y) y.assumptions verdict.Unknown) (with_entries logged s)
-  stands-released a seen s (c, links) =
+  represents-released a seen s (c, links) =
       let m = p.tables in
       let free : (v z : ℕ) → v ∈ map variable_of ls → at m.solvers.backward v ≡ Some z →
       (data_at m.kept z).assumed ≡ false = (λ v z i e. true-or-not (data_at m.kept z).assumed (λ t.

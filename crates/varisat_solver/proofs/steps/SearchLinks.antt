@@ -18,7 +18,7 @@ use Rattle.varisat_solver.specs.inside.Carried.{AgreesAlong, is_forced}
 use Rattle.varisat_solver.specs.inside.Spaces.{Translation, SearchHolds, Spaces, Carrying, translation, CheckerFits, SolversFit, IsRetired, IsWholeLog, AssumptionsFit, IsolationFits, MarksFit, WorkingFits, CoreFits, VerdictFits, without_core, Links}
 use Rattle.varisat_solver.proofs.calls.SpacesAgree.{AreLong, identities-same, modes-same, units-same}
 use Rattle.varisat_tracer.specs.inside.RenamedEntries.{carry-opposites}
-use Rattle.varisat_solver.proofs.entries.ReachedHeld.{lines_logged, with_told, IsInUse, lines-lead, shares-after}
+use Rattle.varisat_solver.proofs.entries.ReachedHeld.{lines_logged, with_logged, IsInUse, lines-lead, shares-after}
 use Rattle.varisat_names.specs.declared.variables.data.VarData.{VarData}
 use Rattle.varisat_solver.specs.promises.States.{State, HasRightVerdict, IsWellFormed}
 use Rattle.varisat_solver.proofs.calls.CallStates.{logged_as, logged-well}
@@ -76,7 +76,7 @@ module _ (P : List Clause) (r : Translation) (s t : Search) (v : Outcome) (h : S
   -- the clauses that a proof holds after some lines, which it logged
   pub held-on : (n : ℕ) (lines : List Line) (after : List Clause) → DerivesBy n h.held lines after → Holds after t v →
       SpeakOf (IsLiteralOf s) lines → ((core : List Literal) → v ≡ outcome.UnsatUnder core → ⊥) →
-      ((l : Literal) → IsLiteralOf t l → (i : ℕ) × (r.identity (variable_of l) ≡ Some i)) → SearchHolds P (with_told (r.logged ++ lines_logged r lines) r) t v
+      ((l : Literal) → IsLiteralOf t l → (i : ℕ) × (r.identity (variable_of l) ≡ Some i)) → SearchHolds P (with_logged (r.logged ++ lines_logged r lines) r) t v
   held-on n lines after d holds speaks plain within =
       record {
         held = after;

@@ -14,7 +14,7 @@ use Rattle.varisat_solver.specs.inside.Changes.{EndsSearch}
 use Rattle.varisat_solver.specs.promises.Calls.{IsLike, IsValid, is_valid, Invalidates, CountsCall, CountsIf, Decided, Searched, HasVerdict, Searches, Solves, with_steps, once_searched, by_state, ReturnsVerdict, IsSpent, FailsStep, IsStoreFull, with_max_steps, with_verdict}
 use Rattle.varisat_solver.specs.declared.solver.SolverError.{SolverError}
 use Rattle.varisat_solver.specs.declared.solver.SolverError.TheVariants.{Interrupted, ProofIoError, OutOfMemory, Invalid, ClauseStoreFull, WitnessVar, VariableLimit, AssumedVar, ClauseAfterSolve, ProofOpen, ProofTooLate, ConfigOutOfRange, Dimacs}
-use Rattle.varisat_solver.proofs.calls.CallStates.{same-ledger, stands-valid, proof-fits, flags-alike, broken, same-assumptions, same-by, same-clauses, same-counted, same-hidden, same-naming, same-verdict, ledger-is}
+use Rattle.varisat_solver.proofs.calls.CallStates.{same-ledger, represents-valid, proof-fits, flags-alike, broken, same-assumptions, same-by, same-clauses, same-counted, same-hidden, same-naming, same-verdict, ledger-is}
 use Rattle.varisat_solver.proofs.accepting.AcceptClause.{proof-free}
 use Rattle.varisat_solver.proofs.entries.Targets.{flushed-open}
 use Rattle.varisat_solver.proofs.entries.OpenProofs.{goes-on-searched, goes-on-failing, open-before, open-there, searched-state, searched-written, fitted-before, flushed-on, barred-marked, barred-fitted, goes-on-none, goes-on-through}
@@ -139,11 +139,11 @@ ends-badly s t (Err ClauseStoreFull) cause now (h, full) v o f = absurd (invalid
 ends-badly s t (Err (ProofIoError first)) cause now (q, h) v o f = absurd (invalid-valid _ _ t h.2 v)
 ends-badly s t (Err e) cause now h v o f = absurd h
 
--- 2. What stands for them.
+-- 2. What represents them.
 
 -- the same solver, where `solve` was called under an open proof
-pub stands-searched : (g : Summary) (s : State) → Represents g s → Represents (record g { opened = marked_searched g.opened }) (once_searched s)
-stands-searched g s st = record {
+pub represents-searched : (g : Summary) (s : State) → Represents g s → Represents (record g { opened = marked_searched g.opened }) (once_searched s)
+represents-searched g s st = record {
   ledger = st.ledger;
   words = st.words;
   bounded = st.bounded;
@@ -153,10 +153,10 @@ stands-searched g s st = record {
   flags = λ v. flags-alike s (once_searched s) (st.flags v) refl refl refl refl refl (barred-marked s.proof);
 }
 
--- before that it stood for such a state too
-pub stood-before : (g : Summary) (s : State) → g.ledger.valid ≡ true → Represents (record g { opened = marked_searched g.opened }) s →
+-- before that it represented such a state too
+pub represents-before : (g : Summary) (s : State) → g.ledger.valid ≡ true → Represents (record g { opened = marked_searched g.opened }) s →
     (proof : Option OpenProof) × Represents g (with_proof proof s)
-stood-before g s v st =
+represents-before g s v st =
     let (before, f) = fitted-before g.opened s.variables s.logged s.proof (proof-fits st v) in (
       before,
       record {
@@ -172,9 +172,9 @@ stood-before g s v st =
     )
 
 -- the solver became invalid
-stands-broken : (g h : Summary) (s : State) (now : Option OpenProof) → h ≡ record g { opened = h.opened; ledger = record g.ledger { valid = false } } →
+represents-broken : (g h : Summary) (s : State) (now : Option OpenProof) → h ≡ record g { opened = h.opened; ledger = record g.ledger { valid = false } } →
     h.opened ≡ opened_state now → Represents g s → Represents h (broken now s.words s)
-stands-broken g h s now e opened st =
+represents-broken g h s now e opened st =
     let same : h.ledger ≡ record g.ledger { valid = false } = ap (λ (x : Summary). x.ledger) e in
     let bad : h.ledger.valid ≡ false = ap (λ (l : Ledger). l.valid) same in
     record {
@@ -190,17 +190,17 @@ stands-broken g h s now e opened st =
 pub solve-ends : (g h : Summary) (s t : State) (r : Result Bool SolverError) → Searches s r t → Represents g t → g.ledger.valid ≡ true →
     EndsSearch g (Ok tt) h → (u : State) × Solves by_state s r u × Represents h u
 solve-ends g h s t r k st v e =
-    (once_searched t, ends-well s t r k (stands-valid g t st v), subst (λ (x : Summary). Represents x (once_searched t)) (sym e) (stands-searched g t st))
+    (once_searched t, ends-well s t r k (represents-valid g t st v), subst (λ (x : Summary). Represents x (once_searched t)) (sym e) (represents-searched g t st))
 
 pub solve-fails : (g h : Summary) (s t : State) (r : Result Bool SolverError) (e : SolverError) → Searches s r t → Represents g t →
     g.ledger.valid ≡ true → EndsSearch g (Err e) h → (u : State) × Solves by_state s (Err e) u × Represents h u
 solve-fails g h s t r (ProofIoError cause) k st v (o, e) =
     let (now, f, same) = flushed-on g.opened h.opened cause t.proof st.same o in (
       broken now t.words t,
-      ends-badly s t r cause now k (stands-valid g t st v)
+      ends-badly s t r cause now k (represents-valid g t st v)
           (open-there g.opened t.variables t.logged t.proof true (proof-fits st v) (sym (flushed-open g.opened h.opened cause o)) refl)
           f,
-      stands-broken g h t now e same st,
+      represents-broken g h t now e same st,
     )
 solve-fails g h s t r e k st v f = absurd f
 

@@ -185,8 +185,8 @@ module _ (w : Carrying) (p : Spaces) (s : State) (k : Links w p s) (unknown : p.
       (λ l a. let (x, b) = in-use l a in let q = k.solvers.live (variable_of l) x b in
       (q.0, chain-some p.global_from_solver w.identity (variable_of l) x b ∙ q.1))
 
-  pub steps-tell : LogsMore n s.logged (logged-with w p s lines)
-  steps-tell = let (after, d, o) = made.holds before.held before.holds in
+  pub steps-log : LogsMore n s.logged (logged-with w p s lines)
+  steps-log = let (after, d, o) = made.holds before.held before.holds in
       record {
         entries = lines_logged (translation w p s.logged) lines;
         joined = refl;
@@ -194,8 +194,8 @@ module _ (w : Carrying) (p : Spaces) (s : State) (k : Links w p s) (unknown : p.
             (lines-lead n (translation w p s.logged) before.held lines after before.logged d).goes;
       }
 
-  pub steps-derived : AreDerived steps-tell.entries
-  unfolding steps-tell
+  pub steps-derived : AreDerived steps-log.entries
+  unfolding steps-log
   steps-derived = written-derived (map (rename_line (carry (translation w p s.logged).identity)) lines)
 
   -- where the search goes on, each step added a new clause that stays: no clause that was held is a part of it, a forgotten one neither
@@ -215,8 +215,8 @@ module _ (w : Carrying) (p : Spaces) (s : State) (k : Links w p s) (unknown : p.
       (last, a)
 
   -- one that adds a clause by its only line
-  pub steps-one : v ≡ outcome.Unknown → n ≡ 1 → AddOne lines → (interval number : ℕ) → GoesOnInSteps interval number 1 s.logged steps-tell.entries
-  unfolding steps-tell
+  pub steps-one : v ≡ outcome.Unknown → n ≡ 1 → AddOne lines → (interval number : ℕ) → GoesOnInSteps interval number 1 s.logged steps-log.entries
+  unfolding steps-log
   steps-one e one (c, alone) interval number =
       let r = translation w p s.logged in
       let d = map (carry r.identity) c in
@@ -230,8 +230,8 @@ module _ (w : Carrying) (p : Spaces) (s : State) (k : Links w p s) (unknown : p.
   -- parts of all clauses are kept where they are in the search
   pub steps-keep : v ≡ outcome.Unknown →
       ((held after : List Clause) → IsPresentAfter held lines after → Fits after t → KeepsParts [] held after) →
-      GoesOnKeeping s.logged steps-tell.entries
-  unfolding steps-tell
+      GoesOnKeeping s.logged steps-log.entries
+  unfolding steps-log
   steps-keep e keeps held last d l c h =
       let r = translation w p s.logged in
       let f = carry r.identity in
@@ -252,8 +252,8 @@ module _ (w : Carrying) (p : Spaces) (s : State) (k : Links w p s) (unknown : p.
       inl (y', j', λ l o. u.0 l (z.0 l (m l (u'.0 l (z'.0 l o)))))
 
   -- the clauses that are added name no variable that left
-  pub steps-stayed : SpeakOfAdded (HasStayed s.logged) steps-tell.entries
-  unfolding steps-tell
+  pub steps-stayed : SpeakOfAdded (HasStayed s.logged) steps-log.entries
+  unfolding steps-log
   steps-stayed =
       let to = (translation w p s.logged).identity in
       written-added (HasStayed s.logged) (map (rename_line (carry to)) lines)
@@ -337,7 +337,7 @@ module _ (w : Carrying) (p : Spaces) (s : State) (k : Links w p s) (unknown : p.
     pub core-logs : (found logged : List Literal) → v ≡ outcome.UnsatUnder found →
         map (carry s.naming.names) logged ≡ map (carry (translation w p s.logged).identity) found →
         LogsMore n s.logged ((logged-with w p s lines) ++ Fails (map (carry s.naming.names) logged) ∷ [])
-    core-logs found logged e same-core = logs-also n s.logged (logged-with w p s lines) (Fails (map (carry s.naming.names) logged) ∷ []) steps-tell
+    core-logs found logged e same-core = logs-also n s.logged (logged-with w p s lines) (Fails (map (carry s.naming.names) logged) ∷ []) steps-log
         (λ held d. (held, (held, (subst (Conflicts held) (sym same-core) (core-conflicts found e held d), refl), inl (tt, refl))))
 
     -- and that at last
@@ -345,7 +345,7 @@ module _ (w : Carrying) (p : Spaces) (s : State) (k : Links w p s) (unknown : p.
         (carry (translation w p s.logged).identity) found) → EndWithCore (map (carry s.naming.names) logged) (core-logs found logged e same-core).entries
     unfolding core-logs
     core-ends found logged e same-core =
-        also-ends n s.logged (logged-with w p s lines) (map (carry s.naming.names) logged) steps-tell steps-derived _
+        also-ends n s.logged (logged-with w p s lines) (map (carry s.naming.names) logged) steps-log steps-derived _
 
     -- the lines and the core
     core-carried : (m : ℕ → Option ℕ) → ((i x : ℕ) → w.global i ≡ Some x → m i ≡ Some x) → (found logged : List Literal) →
@@ -431,12 +431,12 @@ module _ (w : Carrying) (p : Spaces) (s : State) (k : Links w p s) (unknown : p.
 pub steps-in-turn : (w : Carrying) (p : Spaces) (s : State) (k : Links w p s) (unknown : p.outcome ≡ outcome.Unknown) (t : Search) (v : Outcome) (n : ℕ)
     (lines : List Line) (made : MakesSteps n p.search t v lines) (long : AreLong t) (in-use : AreInUse p t) (interval number : ℕ) →
     v ≡ outcome.Unknown → LinesInSteps interval number n lines t →
-    LogsInSteps interval number n s.logged (steps-tell w p s k unknown t v n lines made long in-use).entries
+    LogsInSteps interval number n s.logged (steps-log w p s k unknown t v n lines made long in-use).entries
 steps-in-turn w p s k unknown t v zero lines made long in-use interval number e keeps =
     λ due. steps-keep w p s k unknown t v zero lines made long in-use e (keeps due)
 steps-in-turn w p s k unknown t v (suc n) lines made long in-use interval number e (one, adds) =
     let same : suc n ≡ 1 = ap suc one in
-    subst (λ j. GoesOnInSteps interval number j s.logged (steps-tell w p s k unknown t v (suc n) lines made long in-use).entries) (sym same)
+    subst (λ j. GoesOnInSteps interval number j s.logged (steps-log w p s k unknown t v (suc n) lines made long in-use).entries) (sym same)
     (steps-one w p s k unknown t v (suc n) lines made long in-use e same adds interval number)
 
 module _ (w : Carrying) (p : Spaces) (s : State) (k : Links w p s) (unknown : p.outcome ≡ outcome.Unknown) (t : Search) (f : Assignment) (n : ℕ)

@@ -83,8 +83,8 @@ load_clause-requires-clause-decidable g c l h =
     (c.in_ok-solver_from_user_lits.ensures {u = tt}).literals c.prove_linked-2.ensures l (subst (λ ls. l ∈ ls) c.as_slice-lits.ensures.value h)
 
 -- the proof can log for the search once the clause was
-can-tell : (g : Over) (c : In_ok-log_clause g) → CanLog c.log_clause.new.tracer.proof
-can-tell g c = logs-on (record { tables = c.mark_joined.new.variables; proof = c.args.tracer.now.proof }) (tracer_state c.log_clause.new.tracer) _
+can-log : (g : Over) (c : In_ok-log_clause g) → CanLog c.log_clause.new.tracer.proof
+can-log g c = logs-on (record { tables = c.mark_joined.new.variables; proof = c.args.tracer.now.proof }) (tracer_state c.log_clause.new.tracer) _
     (c.in_ok-log_clause.ensures {u = tt}).logged c.requires.can.logs
 
 -- the verdict is not Unsat when the clause is loaded
@@ -175,7 +175,7 @@ goes-on-logging : (g : Over) (c : In_ok-load_clause g) → CanLog c.load_clause.
 goes-on-logging g c =
     let here = goal.at.returns-clause-accepted g c in
     logs-on (tracer_state c.log_clause.new.tracer) (tracer_state c.load_clause.new.proof) _
-    ((c.in_ok-load_clause.ensures {u = tt}).loads (opened g here.In_ok-solver_from_user_lits)).lines.written (can-tell g here.In_ok-log_clause)
+    ((c.in_ok-load_clause.ensures {u = tt}).loads (opened g here.In_ok-solver_from_user_lits)).lines.written (can-log g here.In_ok-log_clause)
 
 logged-some : (g : Over) (c : In_ok-load_clause g) → LogsSome c.args.tracer.now.proof c.load_clause.new.proof.proof
 logged-some g c =

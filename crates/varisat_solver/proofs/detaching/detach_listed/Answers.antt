@@ -12,7 +12,7 @@ use Rattle.varisat_tracer.specs.inside.Tracing.{tracer_state}
 use Rattle.varisat_solver.specs.promises.Detaching.{leads_to_unassumed}
 use Rattle.varisat_solver.specs.inside.Detached.{unassumed_among, FlagsVariables, AreDetachedAlone, DetachesFromTables}
 use Rattle.varisat_solver.proofs.leaving.DetachedAlone.{dropped-logged}
-use Rattle.varisat_solver.proofs.leaving.DetachedLists.{HaveLeft, have-left, values-left, on-inside, unmentioned, assumed-stay, unassumed-distinct, unassumed-taken, kept-dropped, none-left, stands-dropped}
+use Rattle.varisat_solver.proofs.leaving.DetachedLists.{HaveLeft, have-left, values-left, on-inside, unmentioned, assumed-stay, unassumed-distinct, unassumed-taken, kept-dropped, none-left, represents-dropped}
 use Rattle.varisat_solver.proofs.steps.SinceSteps.{come-dropped}
 use Rattle.varisat_solver.proofs.detaching.detach_listed.Given.{Over}
 use Rattle.varisat_solver.proofs.detaching.detach_listed.Goals.{In_ok-gone, In_ok-detach_fixed_vars}
@@ -110,6 +110,6 @@ returns-clause-leave g c =
       given = dropped-logged (unassumed_among c.args.tracer.now.tables x.trail.literals) (tracer_state c.args.tracer.now)
           (tracer_state c.detach_fixed_vars.new.tracer) (dropped g here.In_ok-detach_fixed_vars);
       represents = λ s fit.
-          stands-dropped gone c.requires.settled (dropped g here.In_ok-detach_fixed_vars)
+          represents-dropped gone c.requires.settled (dropped g here.In_ok-detach_fixed_vars)
           (subst (λ fs. search_of (view y) ≡ search_without fs (search_of (view x))) c.deref-2.ensures.value e.seen) s fit;
     }

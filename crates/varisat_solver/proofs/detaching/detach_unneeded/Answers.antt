@@ -8,7 +8,7 @@ use Rattle.varisat_search.specs.Seen.{search_of}
 use Rattle.varisat_search.specs.Contexts.{view}
 use Rattle.varisat_tracer.specs.inside.Tracing.{tracer_state}
 use Rattle.varisat_solver.specs.inside.Detached.{FlagsVariables, ListsUnneeded, AreDetached, DetachesFromTables}
-use Rattle.varisat_solver.proofs.leaving.DetachedLists.{HaveLeft, have-left, values-left, needed-shown, none-leaves, released-logged, unneeded-inside, unneeded-taken, unneeded-unmentioned, named-stay, kept-released, needed-left, stands-released}
+use Rattle.varisat_solver.proofs.leaving.DetachedLists.{HaveLeft, have-left, values-left, needed-shown, none-leaves, released-logged, unneeded-inside, unneeded-taken, unneeded-unmentioned, named-stay, kept-released, needed-left, represents-released}
 use Rattle.varisat_solver.proofs.steps.SinceSteps.{come-dropped}
 use Rattle.varisat_solver.proofs.detaching.detach_unneeded.Given.{Over}
 use Rattle.varisat_solver.proofs.detaching.detach_unneeded.Goals.{In_ok-gone, In_ok-list_unneeded, In_ok-detach_unfixed_vars}
@@ -108,7 +108,7 @@ returns-clause-leave g c =
       count = values-left gone;
       given = released-logged c.list_unneeded.new.unneeded.items p q released;
       represents = λ s fit.
-          stands-released c.requires.left c.in_ok-mentioned.ensures list gone
+          represents-released c.requires.left c.in_ok-mentioned.ensures list gone
           released
           (subst (λ fs. search_of (view y) ≡ search_without fs (search_of (view x))) c.deref-3.ensures.value e.seen) s fit;
     }

@@ -4,7 +4,7 @@ use Rattle.varisat_schedule.specs.Plans.{Plan}
 use Rattle.varisat_tracer.specs.inside.TracerLaws.{checked-runs}
 use Rattle.varisat_solver.specs.promises.States.{State}
 use Rattle.varisat_solver.specs.promises.Calls.{by_state, count_anew, MayAccept, Ignored, Accepted, AddsClause}
-use Rattle.varisat_solver.proofs.calls.CallStates.{stands-valid, proof-fits, broken, broken-invalid, adds-broken}
+use Rattle.varisat_solver.proofs.calls.CallStates.{represents-valid, proof-fits, broken, broken-invalid, adds-broken}
 use Rattle.varisat_solver.proofs.accepting.AcceptClause.{not-refuted}
 use Rattle.varisat_tracer.specs.inside.Tracing.{tracer_state, BreaksProof}
 use Rattle.varisat_search.specs.StepErrors.{step_faults}
@@ -16,7 +16,7 @@ use Rattle.varisat_solver.specs.declared.solver.SolverError.TheVariants.{ClauseS
 use Rattle.varisat_solver.proofs.entries.Targets.{writes-nothing, refused-unwritten, logs-writes, breaks-writes, names-unwritten, names-not-full, refused-full, same-error}
 use Rattle.varisat_solver.proofs.entries.OpenProofs.{broken-open, broken-on, closed-there, unclosed-there}
 use Rattle.varisat_solver.proofs.accepting.Joins.{ClauseJoins, clause-joins}
-use Rattle.varisat_solver.proofs.calls.ChangeEnds.{kept-changed, stands-changed, stands-broken, stands-invalid, invalid-logged}
+use Rattle.varisat_solver.proofs.calls.ChangeEnds.{kept-changed, represents-changed, represents-broken, represents-invalid, invalid-logged}
 use Rattle.varisat_solver.proofs.calls.SettingsCalls.{summary_of}
 use Rattle.varisat_solver.proofs.accepting.Additions.{logged-error}
 use Rattle.varisat_solver.proofs.calls.SolverCalls.{unsat-known}
@@ -92,12 +92,12 @@ returns-clause-call g c s st =
     let j = joins g (goal.at.returns-clause-call g c).In_ok-end_change s q in (
       j.state,
       (
-        stands-valid _ s q ok,
+        represents-valid _ s q ok,
         Accepted bad
             (may-constrain _ s q ok c.args.clause.now c.in_ok-check_names.ensures.0 c.in_ok-check_names.ensures.1)
             j.accepts,
       ),
-      stands-changed (tracer_state old.tracer) (tracer_state new.tracer) old.started old.changed_at c.end_change.new.changed_at old.ctx new.ctx
+      represents-changed (tracer_state old.tracer) (tracer_state new.tracer) old.started old.changed_at c.end_change.new.changed_at old.ctx new.ctx
           c.end_change.new.ctx s j.state q counted (ap (λ (x : SolverState). x.state_is_invalid) accepted.state) (ap (λ (x : Plan). x.steps) plan.schedule)
           plan.solver_config (checked-runs old.tracer.proof.checker new.tracer.proof.checker logs.0 logs.1.checked) j.ledger j.size j.fits j.proof
           (j.flags (q.flags ok)) accepted.kept.bounded,
@@ -126,9 +126,9 @@ returns-in_err-end_change-clause-call g c s st =
           (λ f. broken-open old.tracer.proof new.tracer.proof s.variables s.logged s.proof (proof-fits q ok)
           (subst (λ n. BreaksProof old.tracer.proof n new.tracer.proof) f fails)) bad
           (may-constrain _ s q ok c.args.clause.now c.in_ok-check_names.ensures.0 c.in_ok-check_names.ensures.1)
-          (broken-invalid (step_faults error) s now words (stands-valid _ s q ok) goes)
+          (broken-invalid (step_faults error) s now words (represents-valid _ s q ok) goes)
           (λ f. let room = failed.full f in let few = failed.size f s (q.fits ok) in omega (arith, room, few))),
-      stands-broken (tracer_state old.tracer) (tracer_state new.tracer) old.started old.changed_at c.end_change.new.changed_at old.ctx new.ctx
+      represents-broken (tracer_state old.tracer) (tracer_state new.tracer) old.started old.changed_at c.end_change.new.changed_at old.ctx new.ctx
           c.end_change.new.ctx s now q made count (ap (λ (x : Plan). x.steps) k.schedule) k.solver_config fails.2 same,
     )
 
@@ -136,7 +136,7 @@ pub returns-in-Unsat-clause-call : goal.returns-in-Unsat-clause-call
 returns-in-Unsat-clause-call g c s st =
     let q = rw (← c.self.view_is) at st in (
       count_anew s,
-      (stands-valid _ s q (ap not c.in_ok-ensure_valid.ensures), Ignored (unsat-known _ s q (ap not c.in_ok-ensure_valid.ensures) c.in-Unsat.is) refl),
+      (represents-valid _ s q (ap not c.in_ok-ensure_valid.ensures), Ignored (unsat-known _ s q (ap not c.in_ok-ensure_valid.ensures) c.in-Unsat.is) refl),
       c.begin_count.ensures.call s st,
     )
 
@@ -146,7 +146,7 @@ returns-then-bars_clauses-clause-call g c s st =
     let ok = ap not c.in_ok-ensure_valid.ensures in (
       s,
       (
-        stands-valid _ s q ok,
+        represents-valid _ s q ok,
         not-refuted _ s q ok c.in_default.not-Unsat,
         closed-there _ s.variables s.logged s.proof c.bars_clauses.result
             (proof-fits q ok) c.bars_clauses.ensures c.if-bars_clauses.true,
@@ -202,7 +202,7 @@ pub returns-in_err-ensure_valid-clause-call : goal.returns-in_err-ensure_valid-c
 returns-in_err-ensure_valid-clause-call g c s st =
     let q = rw (← c.self.view_is) at st in
     let refused = invalid-logged c.from_residual.result c.in_err-ensure_valid.field-0.0 c.from_residual.ensures c.in_err-ensure_valid.ensures.0 in
-    (s, subst (λ r. AddsClause s c.args.clause.now r s) (sym refused) (stands-invalid _ s q (ap not c.in_err-ensure_valid.ensures.1), refl), st)
+    (s, subst (λ r. AddsClause s c.args.clause.now r s) (sym refused) (represents-invalid _ s q (ap not c.in_err-ensure_valid.ensures.1), refl), st)
 
 pub returns-in_err-ensure_valid-clause-target : goal.returns-in_err-ensure_valid-clause-target
 returns-in_err-ensure_valid-clause-target g c =

@@ -9,14 +9,14 @@ use Rattle.varisat_solver.specs.promises.Summaries.{Summary}
 use Rattle.varisat_solver.specs.promises.Targets.{WritesAll, WritesUpTo}
 use Rattle.varisat_solver.specs.declared.solver.SolverError.TheVariants.{ClauseStoreFull, Invalid}
 use Rattle.varisat_solver.proofs.accepting.Additions.{adds-valid, takes-in-turn, text-refused}
-use Rattle.varisat_solver.proofs.calls.CallStates.{stands-valid}
-use Rattle.varisat_solver.proofs.calls.ChangeEnds.{stands-invalid, invalid-logged}
+use Rattle.varisat_solver.proofs.calls.CallStates.{represents-valid}
+use Rattle.varisat_solver.proofs.calls.ChangeEnds.{represents-invalid, invalid-logged}
 use Rattle.varisat_solver.proofs.entries.Targets.{up-to-then, refused-unwritten, same-error}
 use Rattle.varisat_solver.proofs.solver.Solver.add_dimacs_cnf.Goals as goal
 
 pub returns-in-Ok-None-clause-call : goal.returns-in-Ok-None-clause-call
 returns-in-Ok-None-clause-call g c s st =
-    let valid = stands-valid _ s (rw (← c.self.view_is) at st) (ap not c.in_ok-ensure_valid.ensures) in
+    let valid = represents-valid _ s (rw (← c.self.view_is) at st) (ap not c.in_ok-ensure_valid.ensures) in
     let k = c.in-Ok-None.ensures.taken in
     let (u, a, w) = (takes-in-turn _ _ _ _ k.takes_all).call s st in
     (count_anew u, Read valid k.reading k.gives (ClausesAdded u a (NoFault (sym k.reported ∙ c.in-Ok-None.field-0-is) refl refl)), c.begin_count.ensures.call u w)
@@ -28,7 +28,7 @@ returns-in-Ok-None-clause-target g c =
 
 pub returns-in-Ok-Some-clause-call : goal.returns-in-Ok-Some-clause-call
 returns-in-Ok-Some-clause-call g c s st =
-    let valid = stands-valid _ s (rw (← c.self.view_is) at st) (ap not c.in_ok-ensure_valid.ensures) in
+    let valid = represents-valid _ s (rw (← c.self.view_is) at st) (ap not c.in_ok-ensure_valid.ensures) in
     let k = c.in-Ok-Some.ensures.taken in
     let (u, a, w) = (takes-in-turn _ _ _ _ k.takes_all).call s st in
     let (t, f, z) = c.refuse_text.ensures.call u w (adds-valid s u _ valid a) in (
@@ -50,7 +50,7 @@ returns-in-Ok-Some-clause-full g c f = absurd (c.refuse_text.ensures.full (same-
 
 pub returns-in-Err-clause-call : goal.returns-in-Err-clause-call
 returns-in-Err-clause-call g c s st =
-    let valid = stands-valid _ s (rw (← c.self.view_is) at st) (ap not c.in_ok-ensure_valid.ensures) in
+    let valid = represents-valid _ s (rw (← c.self.view_is) at st) (ap not c.in_ok-ensure_valid.ensures) in
     let k = c.in-Err.ensures.refused in
     let (t, a, w) = (takes-in-turn _ _ _ _ k.takes_some).call s st in
     (t, text-refused s t _ _ k.clauses c.in-Err.error valid k.given a, w)
@@ -65,7 +65,7 @@ pub returns-in_err-ensure_valid-clause-call : goal.returns-in_err-ensure_valid-c
 returns-in_err-ensure_valid-clause-call g c s st =
     let q = rw (← c.self.view_is) at st in
     let refused = invalid-logged c.from_residual.result c.in_err-ensure_valid.field-0.0 c.from_residual.ensures c.in_err-ensure_valid.ensures.0 in
-    (s, Unread refused (stands-invalid _ s q (ap not c.in_err-ensure_valid.ensures.1), refl) refl, st)
+    (s, Unread refused (represents-invalid _ s q (ap not c.in_err-ensure_valid.ensures.1), refl) refl, st)
 
 pub returns-in_err-ensure_valid-clause-target : goal.returns-in_err-ensure_valid-clause-target
 returns-in_err-ensure_valid-clause-target g c =

@@ -8,7 +8,7 @@ use Rattle.varisat_solver.specs.promises.Targets.{WritesUpTo}
 use Rattle.varisat_tracer.specs.inside.Tracing.{tracer_state, BreaksProof}
 use Rattle.varisat_solver.specs.promises.OpenProofs.{BarsAssumptions}
 use Rattle.varisat_solver.specs.inside.Representations.{Represents, spaces_with}
-use Rattle.varisat_solver.proofs.calls.ChangeEnds.{kept-changed, stands-changed, stands-broken, stands-invalid, invalid-logged}
+use Rattle.varisat_solver.proofs.calls.ChangeEnds.{kept-changed, represents-changed, represents-broken, represents-invalid, invalid-logged}
 use Rattle.varisat_solver.proofs.calls.SettingsCalls.{summary_of}
 use Rattle.varisat_solver.proofs.accepting.Joins.{ListJoins, list-joins}
 use Rattle.varisat_solver.specs.promises.States.{State}
@@ -16,7 +16,7 @@ use Rattle.varisat_solver.specs.declared.solver.SolverError.TheVariants.{Invalid
 use Rattle.varisat_solver.specs.promises.Calls.{Assumes}
 use Rattle.varisat_solver.proofs.entries.OpenProofs.{barred-there, unbarred-there, broken-open, broken-on}
 use Rattle.varisat_solver.proofs.entries.Targets.{refused-unwritten, logs-writes, breaks-writes, names-unwritten, names-not-broken, broken-not-memory, same-error}
-use Rattle.varisat_solver.proofs.calls.CallStates.{stands-valid, proof-fits, broken, broken-invalid, assumes-broken}
+use Rattle.varisat_solver.proofs.calls.CallStates.{represents-valid, proof-fits, broken, broken-invalid, assumes-broken}
 use Rattle.varisat_solver.proofs.accepting.Additions.{logged-error}
 use Rattle.varisat_solver.proofs.accepting.NamingStates.{may-constrain, list-refused}
 use Rattle.varisat_solver.proofs.solver.Solver.assume.Given.{Over}
@@ -80,12 +80,12 @@ returns-clause-call g c s st =
     let j = joins g (goal.at.returns-clause-call g c).In_ok-end_change s q free in (
       j.state,
       (
-        stands-valid _ s q ok,
+        represents-valid _ s q ok,
         free,
         may-constrain _ s q ok c.args.lits.now c.in_ok-check_names.ensures.0 c.in_ok-check_names.ensures.1,
         j.takes,
       ),
-      stands-changed (tracer_state old.tracer) (tracer_state new.tracer) old.started old.changed_at c.end_change.new.changed_at old.ctx new.ctx
+      represents-changed (tracer_state old.tracer) (tracer_state new.tracer) old.started old.changed_at c.end_change.new.changed_at old.ctx new.ctx
           c.end_change.new.ctx s j.state q counted (ap (λ (x : SolverState). x.state_is_invalid) assumed.state) (ap (λ (x : Plan). x.steps) plan.schedule)
           plan.solver_config (checked-runs old.tracer.proof.checker new.tracer.proof.checker _ logs.1.checked) j.ledger j.size j.fits j.proof
           j.flags assumed.kept.bounded,
@@ -110,8 +110,8 @@ returns-in_err-end_change-clause-call g c s st =
           (λ f. broken-open old.tracer.proof new.tracer.proof s.variables s.logged s.proof (proof-fits q ok)
           (subst (λ n. BreaksProof old.tracer.proof n new.tracer.proof) f fails)) free
           (may-constrain _ s q ok c.args.lits.now c.in_ok-check_names.ensures.0 c.in_ok-check_names.ensures.1)
-          (broken-invalid (step_faults error) s now words (stands-valid _ s q ok) goes)),
-      stands-broken (tracer_state old.tracer) (tracer_state new.tracer) old.started old.changed_at c.end_change.new.changed_at old.ctx new.ctx
+          (broken-invalid (step_faults error) s now words (represents-valid _ s q ok) goes)),
+      represents-broken (tracer_state old.tracer) (tracer_state new.tracer) old.started old.changed_at c.end_change.new.changed_at old.ctx new.ctx
           c.end_change.new.ctx s now q made count (ap (λ (x : Plan). x.steps) k.schedule) k.solver_config fails.2 same,
     )
 
@@ -121,7 +121,7 @@ returns-then-bars_assumptions-clause-call g c s st =
     let ok = ap not c.in_ok-ensure_valid.ensures in (
       s,
       (
-        stands-valid _ s q ok,
+        represents-valid _ s q ok,
         barred-there _ s.variables s.logged s.proof c.bars_assumptions.result (proof-fits q ok) c.bars_assumptions.ensures c.if-bars_assumptions.true,
         refl,
       ),
@@ -171,7 +171,7 @@ pub returns-in_err-ensure_valid-clause-call : goal.returns-in_err-ensure_valid-c
 returns-in_err-ensure_valid-clause-call g c s st =
     let q = rw (← c.self.view_is) at st in
     let refused = invalid-logged c.from_residual.result c.in_err-ensure_valid.field-0.0 c.from_residual.ensures c.in_err-ensure_valid.ensures.0 in
-    (s, subst (λ r. Assumes s c.args.lits.now r s) (sym refused) (stands-invalid _ s q (ap not c.in_err-ensure_valid.ensures.1), refl), st)
+    (s, subst (λ r. Assumes s c.args.lits.now r s) (sym refused) (represents-invalid _ s q (ap not c.in_err-ensure_valid.ensures.1), refl), st)
 
 pub returns-in_err-ensure_valid-clause-target : goal.returns-in_err-ensure_valid-clause-target
 returns-in_err-ensure_valid-clause-target g c =

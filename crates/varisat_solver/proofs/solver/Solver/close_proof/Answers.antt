@@ -10,10 +10,10 @@ use Rattle.varisat_solver.specs.promises.Summaries.{Summary}
 use Rattle.varisat_solver.specs.inside.Representations.{spaces_with, RepresentsSome}
 use Rattle.varisat_solver.specs.promises.Calls.{count_anew}
 use Rattle.varisat_solver.specs.promises.ProofCalls.{with_proof, ClosesProof}
-use Rattle.varisat_solver.proofs.calls.CallStates.{stands-valid, broken, broken-invalid}
-use Rattle.varisat_solver.proofs.calls.ChangeEnds.{stands-broken}
+use Rattle.varisat_solver.proofs.calls.CallStates.{represents-valid, broken, broken-invalid}
+use Rattle.varisat_solver.proofs.calls.ChangeEnds.{represents-broken}
 use Rattle.varisat_solver.proofs.entries.OpenProofs.{closed-back, closed-fails}
-use Rattle.varisat_solver.proofs.calls.SettingsCalls.{stands-with-proof}
+use Rattle.varisat_solver.proofs.calls.SettingsCalls.{represents-with-proof}
 use Rattle.varisat_solver.proofs.entries.LoggedJournals.{proof-of}
 use Rattle.varisat_solver.proofs.solver.Solver.close_proof.Goals as goal
 
@@ -42,7 +42,7 @@ returns-in-Ok-clause-call g c s st =
         (λ _. proof-of _ s q ok),
         refl,
       ),
-      c.begin_count-in-Ok.ensures.call (with_proof None s) (stands-with-proof c.self.inside.tracer.tables c.self.inside.tracer.proof
+      c.begin_count-in-Ok.ensures.call (with_proof None s) (represents-with-proof c.self.inside.tracer.tables c.self.inside.tracer.proof
           c.close_proof.new.proof c.self.inside.started c.self.inside.changed_at c.self.inside.ctx s None
           (ap (λ (p : ProofParts). p.checker) c.close_proof.ensures.closed)
           (ap (λ (p : ProofParts). p.opened) c.close_proof.ensures.closed) (λ _. tt) (λ (p, e, b). absurd cc) q),
@@ -72,9 +72,9 @@ returns-in-Err-clause-call g c s st =
         closed-fails g.W.ProofTarget.taken (opened_state s.proof) c.in-Err.cause
             (ProofIoError c.in-Err.cause) c.in-Err.target closed,
         proof-of _ s q ok,
-        broken-invalid 0 (with_proof None s) None words (stands-valid _ s q ok) (refl, refl),
+        broken-invalid 0 (with_proof None s) None words (represents-valid _ s q ok) (refl, refl),
       ),
-      stands-broken (tracer_state inside.tracer) (record { tables = inside.tracer.tables; proof = c.close_proof.new.proof }) inside.started
+      represents-broken (tracer_state inside.tracer) (record { tables = inside.tracer.tables; proof = c.close_proof.new.proof }) inside.started
           inside.changed_at inside.changed_at inside.ctx inside.ctx c.invalidate.new.ctx s None q c.invalidate.ensures.invalid refl refl refl
           (ap (λ (p : ProofParts). is_there p.checker) none) (ap (λ (p : ProofParts). p.opened) none),
     )
@@ -90,7 +90,7 @@ returns-then-self-clause-call g c s st =
         (λ v. absurd (let z : false ≡ true = ap not (sym c.if-self.true) ∙ ap (λ (l : Ledger). l.valid) (sym q.ledger) ∙ v in cc)),
         refl,
       ),
-      c.begin_count.ensures.call (with_proof None s) (stands-with-proof c.self.inside.tracer.tables c.self.inside.tracer.proof
+      c.begin_count.ensures.call (with_proof None s) (represents-with-proof c.self.inside.tracer.tables c.self.inside.tracer.proof
           c.take_target-target.new.proof c.self.inside.started c.self.inside.changed_at c.self.inside.ctx s None
           (ap (λ (p : ProofParts). p.checker) c.take_target-target.ensures.closed)
           (ap (λ (p : ProofParts). p.opened) c.take_target-target.ensures.closed)

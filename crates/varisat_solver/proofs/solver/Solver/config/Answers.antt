@@ -3,10 +3,10 @@ use Rattle.varisat_search.specs.declared.context.Context.{Context}
 use Rattle.varisat_solver.specs.inside.Representations.{spaces_with, RepresentsSome}
 use Rattle.varisat_tracer.specs.inside.Tracing.{tracer_state}
 use Rattle.varisat_solver.specs.promises.Calls.{with_update, Configures}
-use Rattle.varisat_solver.proofs.calls.CallStates.{stands-valid}
-use Rattle.varisat_solver.proofs.calls.SettingsCalls.{stands-updated, stands-same, kept-updated}
+use Rattle.varisat_solver.proofs.calls.CallStates.{represents-valid}
+use Rattle.varisat_solver.proofs.calls.SettingsCalls.{represents-updated, represents-same, kept-updated}
 use Rattle.varisat_solver.proofs.steps.SinceSteps.{since-now}
-use Rattle.varisat_solver.proofs.calls.ChangeEnds.{stands-invalid, invalid-logged}
+use Rattle.varisat_solver.proofs.calls.ChangeEnds.{represents-invalid, invalid-logged}
 use Rattle.varisat_solver.proofs.solver.Solver.config.Goals as goal
 
 pub returns : goal.returns
@@ -14,8 +14,8 @@ returns g c s st =
     let q = rw (← c.self.view_is) at st in
     let e = c.in-Ok.ensures.changed in (
       with_update c.args.update.now s,
-      (stands-valid _ s q (ap not c.in_ok-ensure_valid.ensures), e.0, refl),
-      stands-updated
+      (represents-valid _ s q (ap not c.in_ok-ensure_valid.ensures), e.0, refl),
+      represents-updated
           (tracer_state c.self.inside.tracer) c.self.inside.started c.self.inside.changed_at c.steps-self-inside.result c.self.inside.ctx
           c.config_changed.new.self c.args.update.now _ _ s e.1 c.steps-self-inside.ensures.steps q,
     )
@@ -25,8 +25,8 @@ returns-in-Err g c s st =
     let q = rw (← c.self.view_is) at st in
     let e = c.in-Err.ensures.changed in (
       s,
-      (stands-valid _ s q (ap not c.in_ok-ensure_valid.ensures), e.0, refl),
-      stands-same
+      (represents-valid _ s q (ap not c.in_ok-ensure_valid.ensures), e.0, refl),
+      represents-same
           (tracer_state c.self.inside.tracer) c.self.inside.started c.self.inside.changed_at c.self.inside.ctx c.config_changed.new.self s e.1 q,
     )
 
@@ -50,4 +50,4 @@ pub returns-in_err-ensure_valid : goal.returns-in_err-ensure_valid
 returns-in_err-ensure_valid g c s st =
     let q = rw (← c.self.view_is) at st in
     let refused = invalid-logged c.from_residual.result c.in_err-ensure_valid.field-0.0 c.from_residual.ensures c.in_err-ensure_valid.ensures.0 in
-    (s, subst (λ r. Configures s c.args.update.now r s) (sym refused) (stands-invalid _ s q (ap not c.in_err-ensure_valid.ensures.1), refl), st)
+    (s, subst (λ r. Configures s c.args.update.now r s) (sym refused) (represents-invalid _ s q (ap not c.in_err-ensure_valid.ensures.1), refl), st)

@@ -4,9 +4,9 @@ use Rattle.varisat_solver.specs.promises.States.{Ledger}
 use Rattle.varisat_solver.specs.promises.Summaries.{Summary}
 use Rattle.varisat_solver.specs.promises.Calls.{count_anew}
 use Rattle.varisat_solver.specs.promises.ProofCalls.{EnablesChecking}
-use Rattle.varisat_solver.proofs.calls.CallStates.{stands-valid}
-use Rattle.varisat_solver.proofs.calls.SettingsCalls.{begun-or-on, some-there, logs-checking, some-checking, with_checking, stands-checking}
-use Rattle.varisat_solver.proofs.calls.ChangeEnds.{stands-invalid, invalid-logged}
+use Rattle.varisat_solver.proofs.calls.CallStates.{represents-valid}
+use Rattle.varisat_solver.proofs.calls.SettingsCalls.{begun-or-on, some-there, logs-checking, some-checking, with_checking, represents-checking}
+use Rattle.varisat_solver.proofs.calls.ChangeEnds.{represents-invalid, invalid-logged}
 use Rattle.varisat_solver.proofs.solver.Solver.enable_self_checking.Goals as goal
 
 pub invariant_of-self : goal.invariant_of-self
@@ -29,8 +29,8 @@ returns-clause-call g c s st =
     let fresh = ap (λ (l : Ledger). l.started) q.ledger ∙ c.if-is_late.false in
     let (e, runs) = begun-or-on c.self.inside.tracer.proof c.begin_checking.new.self c.begin_checking.ensures.begun c.begin_checking.ensures.stays in (
       count_anew (with_checking s),
-      (stands-valid _ s q ok, fresh, refl),
-      c.begin_count.ensures.call (with_checking s) (stands-checking c.self.inside.tracer.tables c.self.inside.tracer.proof
+      (represents-valid _ s q ok, fresh, refl),
+      c.begin_count.ensures.call (with_checking s) (represents-checking c.self.inside.tracer.tables c.self.inside.tracer.proof
           c.begin_checking.new.self c.self.inside.started c.self.inside.changed_at c.self.inside.ctx s e
           (some-there c.begin_checking.new.self.checker runs) fresh q),
     )
@@ -44,4 +44,4 @@ pub returns-in_err-ensure_valid-clause-call : goal.returns-in_err-ensure_valid-c
 returns-in_err-ensure_valid-clause-call g c s st =
     let q = rw (← c.self.view_is) at st in
     let refused = invalid-logged c.from_residual.result c.in_err-ensure_valid.field-0.0 c.from_residual.ensures c.in_err-ensure_valid.ensures.0 in
-    (s, subst (λ r. EnablesChecking s r s) (sym refused) (stands-invalid _ s q (ap not c.in_err-ensure_valid.ensures.1), refl), st)
+    (s, subst (λ r. EnablesChecking s r s) (sym refused) (represents-invalid _ s q (ap not c.in_err-ensure_valid.ensures.1), refl), st)

@@ -13,11 +13,11 @@ use Rattle.varisat_solver.proofs.accepting.AcceptClause.{with_tables, ledger-fre
 use Rattle.varisat_search.proofs.variables.KeptNames.{given-keeps}
 use Rattle.varisat_solver.proofs.modes.TableMarks.{is-there, there-is, assumed-keeps, marked-keeps}
 use Rattle.varisat_solver.proofs.modes.VariableMoves.{given-most, tables-in-use}
-use Rattle.varisat_solver.proofs.calls.CallStates.{ledger-is, none-since, stands-valid, proof-fits, flags-started, like-varied, broken, broken-unlogged}
+use Rattle.varisat_solver.proofs.calls.CallStates.{ledger-is, none-since, represents-valid, proof-fits, flags-started, like-varied, broken, broken-unlogged}
 use Rattle.varisat_solver.proofs.entries.OpenProofs.{goes-on-none, fits-alike, lines-of-entries, written-alike}
 use Rattle.varisat_solver.proofs.accepting.Additions.{logged-error}
-use Rattle.varisat_solver.proofs.calls.ChangeEnds.{kept-changed, stands-broken, stands-invalid, invalid-logged}
-use Rattle.varisat_solver.proofs.calls.SettingsCalls.{summary_of, stands-same}
+use Rattle.varisat_solver.proofs.calls.ChangeEnds.{kept-changed, represents-broken, represents-invalid, invalid-logged}
+use Rattle.varisat_solver.proofs.calls.SettingsCalls.{summary_of, represents-same}
 use Rattle.varisat_solver.proofs.calls.SolverCalls.{least-free, named-alone, new-named}
 use Rattle.varisat_solver.proofs.solver.Solver.new_var.Given.{Over}
 use Rattle.varisat_solver.proofs.solver.Solver.new_var.Goals.{In_ok-user, then-index-max_count-via-then-index-max_count, then-index-max_count-via-else-index-max_count+then-global_watermark-max_count}
@@ -89,13 +89,13 @@ returns g c s st =
     let named = with_naming (name_one u s.naming) s in (
       start (with_variables variables named),
       (
-        stands-valid _ s q (ap not c.in_ok-ensure_valid.ensures),
+        represents-valid _ s q (ap not c.in_ok-ensure_valid.ensures),
         least-free old s u f t.least,
         omega
             (arith, same, c.index.ensures.index, c.max_count.ensures, c.if-index-max_count.false),
         like-varied (start named) variables s.words (lines-of-entries s.variables variables s.logged alike),
       ),
-      stands-same (record { tables = new; proof = inside.tracer.proof }) true c.end_change.new.changed_at inside.ctx c.end_change.new.ctx
+      represents-same (record { tables = new; proof = inside.tracer.proof }) true c.end_change.new.changed_at inside.ctx c.end_change.new.ctx
           (start (with_variables variables named)) counted.same (record {
             ledger = ledger-is _ _ _ _ _ _ _ (ap (λ (x : Ledger). x.valid) q.ledger) refl (ap (λ (x : Ledger). x.steps) q.ledger)
                 (none-since c.end_change.new.changed_at inside.ctx.schedule.steps counted.steps)
@@ -125,9 +125,9 @@ returns-in_err-user g c s st =
       broken s.proof words s,
       subst (λ r. MakesVar s r (broken s.proof words s)) (sym refused) (
         (c.next_unmapped_user-next.result, least, omega (arith, c.index.ensures.index, c.max_count.ensures, c.if-index-max_count.false)),
-        broken-unlogged s words (stands-valid _ s q (ap not c.in_ok-ensure_valid.ensures)),
+        broken-unlogged s words (represents-valid _ s q (ap not c.in_ok-ensure_valid.ensures)),
       ),
-      stands-broken (tracer_state inside.tracer) (record { tables = c.new_user_var-made.new.variables; proof = inside.tracer.proof })
+      represents-broken (tracer_state inside.tracer) (record { tables = c.new_user_var-made.new.variables; proof = inside.tracer.proof })
           inside.started inside.changed_at c.end_change.new.changed_at inside.ctx inside.ctx c.end_change.new.ctx s s.proof q made count
           refl refl refl q.same,
     )
@@ -145,7 +145,7 @@ returns-then-index-max_count g c s st =
     let alone = named-alone u s.naming least.0 (omega (arith, near, watermark)) in (
       s,
       (
-        stands-valid _ s q ok,
+        represents-valid _ s q ok,
         (
           u,
           least,
@@ -167,4 +167,4 @@ pub returns-in_err-ensure_valid : goal.returns-in_err-ensure_valid
 returns-in_err-ensure_valid g c s st =
     let q = rw (← c.self.view_is) at st in
     let refused = invalid-logged c.from_residual.result c.in_err-ensure_valid.field-0.0 c.from_residual.ensures c.in_err-ensure_valid.ensures.0 in
-    (s, subst (λ r. MakesVar s r s) (sym refused) (stands-invalid _ s q (ap not c.in_err-ensure_valid.ensures.1), refl), st)
+    (s, subst (λ r. MakesVar s r s) (sym refused) (represents-invalid _ s q (ap not c.in_err-ensure_valid.ensures.1), refl), st)

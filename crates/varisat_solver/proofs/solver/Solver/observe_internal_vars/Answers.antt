@@ -6,9 +6,9 @@ use Rattle.varisat_solver.specs.promises.ReturnedLists.{returned_variables}
 use Rattle.varisat_solver.proofs.accepting.AcceptClause.{ledger-free}
 use Rattle.varisat_solver.proofs.accepting.Additions.{logged-error}
 use Rattle.varisat_solver.proofs.calls.CallStates.{ledger-is, none-since, begins, like-refl, broken, broken-unlogged}
-use Rattle.varisat_solver.proofs.calls.ChangeEnds.{kept-changed, stands-broken, stands-invalid, invalid-logged}
+use Rattle.varisat_solver.proofs.calls.ChangeEnds.{kept-changed, represents-broken, represents-invalid, invalid-logged}
 use Rattle.varisat_solver.proofs.modes.VariableChanges.{turns-stay}
-use Rattle.varisat_solver.proofs.calls.SettingsCalls.{summary_of, stands-same}
+use Rattle.varisat_solver.proofs.calls.SettingsCalls.{summary_of, represents-same}
 use Rattle.varisat_tracer.specs.inside.Tracing.{tracer_state}
 use Rattle.varisat_solver.proofs.modes.VariableStates.{show-state, kept-after}
 use Rattle.varisat_solver.proofs.solver.Solver.observe_internal_vars.Goals as goal
@@ -44,7 +44,7 @@ returns g c s st =
     new k.fits c.prove_linked.ensures kept.bounded all in (
       count_anew (with_naming m s),
       (k.valid, (m, shown, like-refl (count_anew (with_naming m s)))),
-      stands-same (record { tables = new; proof = inside.tracer.proof }) inside.started c.end_change.new.changed_at inside.ctx c.end_change.new.ctx
+      represents-same (record { tables = new; proof = inside.tracer.proof }) inside.started c.end_change.new.changed_at inside.ctx c.end_change.new.ctx
           (count_anew (with_naming m s)) counted.same (record {
             ledger = ledger-is _ _ _ _ _ _ _ (ap (λ (x : Ledger). x.valid) k.ledger) (ap (λ (x : Ledger). x.started) k.ledger)
                 (ap (λ (x : Ledger). x.steps) k.ledger)
@@ -75,7 +75,7 @@ returns-in_err-names g c s st =
     let refused = logged-error c.from_residual-in_err-names.result c.in_err-names.field-0.0 c.from_residual-in_err-names.ensures ∙ ap Err logged in (
       broken s.proof words s,
       subst (λ r. Observes s (returned_variables r) (broken s.proof words s)) (sym refused) (broken-unlogged s words k.valid),
-      stands-broken (tracer_state inside.tracer) (record { tables = c.observe_internal_vars-shown.new.variables; proof = inside.tracer.proof })
+      represents-broken (tracer_state inside.tracer) (record { tables = c.observe_internal_vars-shown.new.variables; proof = inside.tracer.proof })
           inside.started inside.changed_at c.end_change.new.changed_at inside.ctx inside.ctx c.end_change.new.ctx s s.proof q made count
           refl refl refl q.same,
     )
@@ -84,4 +84,4 @@ pub returns-in_err-ensure_valid : goal.returns-in_err-ensure_valid
 returns-in_err-ensure_valid g c s st =
     let q = rw (← c.self.view_is) at st in
     let refused = invalid-logged c.from_residual.result c.in_err-ensure_valid.field-0.0 c.from_residual.ensures c.in_err-ensure_valid.ensures.0 in
-    (s, subst (λ r. Observes s (returned_variables r) s) (sym refused) (stands-invalid _ s q (ap not c.in_err-ensure_valid.ensures.1), refl), st)
+    (s, subst (λ r. Observes s (returned_variables r) s) (sym refused) (represents-invalid _ s q (ap not c.in_err-ensure_valid.ensures.1), refl), st)

@@ -24,23 +24,23 @@ use Rattle.varisat_solver.specs.declared.solver.SolverError.{SolverError}
 use Rattle.varisat_solver.specs.declared.solver.SolverError.TheVariants.{Interrupted, ClauseStoreFull, Invalid}
 use Rattle.varisat_search.specs.StepErrors.{step_faults}
 use Rattle.varisat_solver.specs.promises.Refusals.{step_refusal, returned_faults}
-use Rattle.varisat_solver.proofs.calls.CallStates.{ledger-is, more-since, stands-valid, proof-fits, broken, broken-invalid, searches-broken}
+use Rattle.varisat_solver.proofs.calls.CallStates.{ledger-is, more-since, represents-valid, proof-fits, broken, broken-invalid, searches-broken}
 use Rattle.varisat_solver.proofs.accepting.AcceptClause.{few-made}
 use Rattle.varisat_solver.specs.inside.Changes.{invalidated}
-use Rattle.varisat_solver.proofs.calls.SettingsCalls.{summary_of, stands-same}
+use Rattle.varisat_solver.proofs.calls.SettingsCalls.{summary_of, represents-same}
 use Rattle.varisat_solver.proofs.calls.SolverCalls.{counted-call, was-unknown, sat-model, sat-right, known-logged, false-right, false-core, answered-true, answered-false, answered-none}
 use Rattle.varisat_solver.proofs.entries.LoggedEntries.{lists-ended, lists-on}
 use Rattle.varisat_solver.proofs.steps.SolverSteps.{unknown-undecided, after-solve, flags-after, comes-satisfiable, comes-unsatisfiable, comes-fits, comes-verdict, comes-interrupted, interrupted-still}
 use Rattle.varisat_solver.proofs.solver.Solver.seek.Given.{Over}
 use Rattle.varisat_solver.proofs.solver.Solver.seek.Goals.{In-Ok-Some, In-Ok-None}
-use Rattle.varisat_solver.proofs.calls.ChangeEnds.{stands-invalid, invalid-logged}
+use Rattle.varisat_solver.proofs.calls.ChangeEnds.{represents-invalid, invalid-logged}
 use Rattle.varisat_solver.proofs.solver.Solver.seek.Goals as goal
 
 -- 1. What the search comes to.
 
--- The solver x became y as its tracer p became q, and it stood for the state.
+-- The solver x became y as its tracer p became q, and it represented the state.
 record Sought {A : Type 0} (p q : TracerState) (started : Bool) (changed_at : ℕ) (x y : Context A) (found : Option Bool) (s : State) : Type 0 where
-  stood : Represents (summary_of p started changed_at x) s
+  represents : Represents (summary_of p started changed_at x) s
   valid : not x.solver_state.state_is_invalid ≡ true
   unknown : x.solver_state.sat_state ≡ verdict.Unknown
   finds : FindsVerdict p q x y found
@@ -53,13 +53,13 @@ module _ {A : Type 0} {p q : TracerState} {started : Bool} {changed_at : ℕ} {x
   n = y.schedule.steps
 
   comes : ComesTo (turn_of x) (steps_since x.schedule y.schedule) s p.proof q.proof (spaces_with q.tables q.proof.checker y)
-  comes = d.finds.represents s (subst (λ b. SpacesFit (spaces_of p.tables p.proof.checker (view x) x.assumptions b) s) d.unknown (d.stood.fits d.valid))
+  comes = d.finds.represents s (subst (λ b. SpacesFit (spaces_of p.tables p.proof.checker (view x) x.assumptions b) s) d.unknown (d.represents.fits d.valid))
 
   made : steps_since x.schedule y.schedule ≡ y.schedule.steps - s.ledger.steps
-  made = ap (λ (l : Ledger). y.schedule.steps - l.steps) (sym d.stood.ledger)
+  made = ap (λ (l : Ledger). y.schedule.steps - l.steps) (sym d.represents.ledger)
 
   turn : ((turn_of x).interval ≡ s.ledger.settings.reduce_locals_interval) × ((turn_of x).number ≡ s.ledger.steps)
-  turn = (ap (λ (l : Ledger). l.settings.reduce_locals_interval) (sym d.stood.ledger), ap (λ (l : Ledger). l.steps) (sym d.stood.ledger))
+  turn = (ap (λ (l : Ledger). l.settings.reduce_locals_interval) (sym d.represents.ledger), ap (λ (l : Ledger). l.steps) (sym d.represents.ledger))
 
   still-valid : not y.solver_state.state_is_invalid ≡ true
   still-valid = ap (λ (b : SolverState). not b.state_is_invalid) d.finds.state ∙ d.valid
@@ -67,30 +67,30 @@ module _ {A : Type 0} {p q : TracerState} {started : Bool} {changed_at : ℕ} {x
   since-after : {r : Result Bool SolverError} → CountsSteps (length s.counted) s.ledger.settings.max_steps s.ledger.since s.ledger.steps
       y.schedule.steps r → s.ledger.since + (y.schedule.steps - s.ledger.steps) ≡ y.schedule.steps - changed_at
   since-after k =
-      let since = ap (λ (l : Ledger). l.since) d.stood.ledger in
-      let steps = ap (λ (l : Ledger). l.steps) d.stood.ledger in
+      let since = ap (λ (l : Ledger). l.since) d.represents.ledger in
+      let steps = ap (λ (l : Ledger). l.steps) d.represents.ledger in
       let low = d.low in
       let e = k.count in
       more-since changed_at s.ledger.steps y.schedule.steps s.ledger.since (omega (arith, low, steps)) (omega (arith, e)) (omega (arith, since, steps))
 
   goes-on : (now : Option OpenProof) × GoesOnWriting s.proof now × ProofFits q.proof.opened s.variables comes.logged now
-  goes-on = proof-goes-on p.proof q.proof s.variables s.variables s.logged comes.logged s.proof (proof-fits d.stood d.valid) refl comes.proof
+  goes-on = proof-goes-on p.proof q.proof s.variables s.variables s.logged comes.logged s.proof (proof-fits d.represents d.valid) refl comes.proof
 
   -- the solver represents the state that it came to
-  stands-after : {r : Result Bool SolverError} → CountsSteps (length s.counted) s.ledger.settings.max_steps s.ledger.since s.ledger.steps
+  represents-after : {r : Result Bool SolverError} → CountsSteps (length s.counted) s.ledger.settings.max_steps s.ledger.since s.ledger.steps
       y.schedule.steps r → Represents (summary_of q started changed_at y)
       (after-solve comes.logged comes.verdict y.schedule.steps goes-on.0 (length y.clause_alloc.words) s)
-  stands-after k = record {
-    ledger = ledger-is _ _ _ _ _ _ _ (ap (λ (l : Ledger). l.valid) d.stood.ledger
-        ∙ ap (λ (b : SolverState). not b.state_is_invalid) (sym d.finds.state)) (ap (λ (l : Ledger). l.started) d.stood.ledger) refl (since-after k)
-        (ap (λ (l : Ledger). l.settings) d.stood.ledger ∙ sym d.config)
-        (ap (λ (l : Ledger). l.checking) d.stood.ledger
+  represents-after k = record {
+    ledger = ledger-is _ _ _ _ _ _ _ (ap (λ (l : Ledger). l.valid) d.represents.ledger
+        ∙ ap (λ (b : SolverState). not b.state_is_invalid) (sym d.finds.state)) (ap (λ (l : Ledger). l.started) d.represents.ledger) refl (since-after k)
+        (ap (λ (l : Ledger). l.settings) d.represents.ledger ∙ sym d.config)
+        (ap (λ (l : Ledger). l.checking) d.represents.ledger
         ∙ sym (checked-runs p.proof.checker q.proof.checker d.finds.logged.0 d.finds.logged.1.checked));
     fits = λ _. comes-fits q.tables y comes y.schedule.steps goes-on.0 (length y.clause_alloc.words);
     words = refl;
     same = goes-on.2.same;
     written = λ _. goes-on.2.written;
-    flags = λ _. flags-after s comes.logged comes.verdict y.schedule.steps goes-on.0 (length y.clause_alloc.words) (d.stood.flags d.valid)
+    flags = λ _. flags-after s comes.logged comes.verdict y.schedule.steps goes-on.0 (length y.clause_alloc.words) (d.represents.flags d.valid)
         (lists-on s.logged comes.logged comes.more (lists-ended comes.verdict comes.more.entries comes.ends)) goes-on.1;
     bounded = λ _. d.finds.kept.bounded;
   }
@@ -103,9 +103,9 @@ found-call : {A : Type 0} {p q : TracerState} {started : Bool} {changed_at : ℕ
 found-call {p = p} {q = q} {started = started} {changed_at = changed_at} {x = x} {y = y} {b = b} {s = s} d k = (
   after-solve (comes d).logged (comes d).verdict y.schedule.steps (goes-on d).0 (length y.clause_alloc.words) s,
   comes-verdict q.tables y (comes d) y.schedule.steps (goes-on d).0 (length y.clause_alloc.words) b
-      (stands-valid (summary_of p started changed_at x) s d.stood d.valid)
-      (was-unknown (summary_of p started changed_at x) s d.stood d.valid d.unknown) (turn d) k (sym d.finds.answer) (made d) (goes-on d).1,
-  stands-after d k,
+      (represents-valid (summary_of p started changed_at x) s d.represents d.valid)
+      (was-unknown (summary_of p started changed_at x) s d.represents d.valid d.unknown) (turn d) k (sym d.finds.answer) (made d) (goes-on d).1,
+  represents-after d k,
 )
 
 -- the steps were spent, and some were made
@@ -122,9 +122,9 @@ moved-call {p = p} {q = q} {started = started} {changed_at = changed_at} {x = x}
     (comes-fits q.tables y (comes d) y.schedule.steps (goes-on d).0 (length y.clause_alloc.words))) in (
       after-solve (comes d).logged (comes d).verdict y.schedule.steps (goes-on d).0 (length y.clause_alloc.words) s,
       comes-interrupted q.tables y (comes d) y.schedule.steps (goes-on d).0 (length y.clause_alloc.words)
-          (stands-valid (summary_of p started changed_at x) s d.stood d.valid)
-          (was-unknown (summary_of p started changed_at x) s d.stood d.valid d.unknown) (turn d) k unknown (made d) (λ e. omega (arith, h, e)) (goes-on d).1,
-      stands-after d k,
+          (represents-valid (summary_of p started changed_at x) s d.represents d.valid)
+          (was-unknown (summary_of p started changed_at x) s d.represents d.valid d.unknown) (turn d) k unknown (made d) (λ e. omega (arith, h, e)) (goes-on d).1,
+      represents-after d k,
     )
 
 -- none was made
@@ -133,13 +133,13 @@ still-call : {A : Type 0} {p q : TracerState} {started : Bool} {changed_at : ℕ
     (length s.counted) s.ledger.settings.max_steps s.ledger.since s.ledger.steps y.schedule.steps (Err Interrupted) →
     y.schedule.steps ≡ s.ledger.steps → (t : State) × IsSpent by_state s t × Represents (summary_of q started changed_at y) t
 still-call {A} {p} {q} {started} {changed_at} {x} {y} {s} d k e =
-    let (same, parts) = d.finds.still (e ∙ ap (λ (l : Ledger). l.steps) d.stood.ledger) in (
+    let (same, parts) = d.finds.still (e ∙ ap (λ (l : Ledger). l.steps) d.represents.ledger) in (
       s,
-      interrupted-still s (stands-valid (summary_of p started changed_at x) s d.stood d.valid)
-          (was-unknown (summary_of p started changed_at x) s d.stood d.valid d.unknown)
+      interrupted-still s (represents-valid (summary_of p started changed_at x) s d.represents d.valid)
+          (was-unknown (summary_of p started changed_at x) s d.represents d.valid d.unknown)
           (subst (λ m. CountsSteps (length s.counted) s.ledger.settings.max_steps s.ledger.since s.ledger.steps m (Err Interrupted)) e k),
       subst (λ (z : Context A). Represents (summary_of q started changed_at z) s) (sym same)
-          (subst (λ (t : TracerState). Represents (summary_of t started changed_at x) s) (sym parts) d.stood),
+          (subst (λ (t : TracerState). Represents (summary_of t started changed_at x) s) (sym parts) d.represents),
     )
 
 spent-call : {A : Type 0} {p q : TracerState} {started : Bool} {changed_at : ℕ} {x y : Context A} {s : State}
@@ -157,7 +157,7 @@ sought-some : (g : Over) (c : In-Ok-Some g) (s : State) → Represents
     Sought (tracer_state c.self.inside.tracer) (tracer_state c.find_verdict.new.tracer) c.self.inside.started c.self.inside.changed_at c.self.inside.ctx
     c.find_verdict.new.ctx (Some c.in-Ok-Some.found) s
 sought-some g c s st = record {
-  stood = st;
+  represents = st;
   valid = ap not c.in_ok-ensure_valid.ensures;
   unknown = c.in-Unknown.is;
   finds = rw c.in-Ok-Some.field-0-is at c.in-Ok-Some.ensures.found;
@@ -170,7 +170,7 @@ sought-none : (g : Over) (c : In-Ok-None g) (s : State) → Represents
     Sought (tracer_state c.self.inside.tracer) (tracer_state c.find_verdict.new.tracer) c.self.inside.started c.self.inside.changed_at c.self.inside.ctx
     c.find_verdict.new.ctx None s
 sought-none g c s st = record {
-  stood = st;
+  represents = st;
   valid = ap not c.in_ok-ensure_valid.ensures;
   unknown = c.in-Unknown.is;
   finds = rw c.in-Ok-None.field-0-is at c.in-Ok-None.ensures.found;
@@ -178,7 +178,7 @@ sought-none g c s st = record {
   low = (c.self.invariant c.in_ok-ensure_valid.ensures).counts.low;
 }
 
--- some state stands before the search
+-- some state is represented before the search
 begins : {A : Type 0} (t : Tables) (checker : Option CheckerState) (started : Bool) (x : Context A) → x.solver_state.sat_state ≡ verdict.Unknown →
     RepresentsSome (spaces_with t checker x) started → RepresentsSome (undecided_spaces t checker x) started
 begins t checker started x e f = subst (λ b. RepresentsSome (spaces_of t checker (view x) x.assumptions b) started) e f
@@ -312,10 +312,10 @@ returns-in-Err-clause-call g c s st =
           (searches-broken c.in-Err.error s (broken now words (with_steps n s))
           (λ f. broken-open c.self.inside.tracer.proof c.find_verdict.new.tracer.proof s.variables s.logged s.proof (proof-fits q ok)
           (subst (λ k. BreaksProof c.self.inside.tracer.proof k c.find_verdict.new.tracer.proof) f c.in-Err.ensures.fails.broken)) was counts
-          (broken-invalid (step_faults c.in-Err.error) (with_steps n s) now words (stands-valid _ s q ok) goes)
+          (broken-invalid (step_faults c.in-Err.error) (with_steps n s) now words (represents-valid _ s q ok) goes)
           (λ f. let (room, size) = c.in-Err.ensures.fails.full f in
           let few = few-made (q.fits ok).0 _ s (q.fits ok).1 in omega (arith, room, size, few))),
-      stands-same (tracer_state c.find_verdict.new.tracer) c.self.inside.started c.self.inside.changed_at (invalidated c.find_verdict.new.ctx)
+      represents-same (tracer_state c.find_verdict.new.tracer) c.self.inside.started c.self.inside.changed_at (invalidated c.find_verdict.new.ctx)
           c.invalidate.new.ctx (broken now words (with_steps n s)) c.invalidate.ensures.invalid (record {
             ledger = ledger-is _ _ _ _ _ _ _ refl (ap (λ (x : Ledger). x.started) q.ledger) refl
                 (more-since c.self.inside.changed_at s.ledger.steps n s.ledger.since (omega (arith, low, steps)) (omega (arith, count))
@@ -380,7 +380,7 @@ pub returns-in_err-ensure_valid-clause-call : goal.returns-in_err-ensure_valid-c
 returns-in_err-ensure_valid-clause-call g c s st =
     let q = rw (← c.self.view_is) at st in
     let refused = invalid-logged c.from_residual.result c.in_err-ensure_valid.field-0.0 c.from_residual.ensures c.in_err-ensure_valid.ensures.0 in
-    (s, subst (λ r. Searches s r s) (sym refused) (stands-invalid _ s q (ap not c.in_err-ensure_valid.ensures.1), refl), st)
+    (s, subst (λ r. Searches s r s) (sym refused) (represents-invalid _ s q (ap not c.in_err-ensure_valid.ensures.1), refl), st)
 
 pub returns-in_err-ensure_valid-clause-target : goal.returns-in_err-ensure_valid-clause-target
 returns-in_err-ensure_valid-clause-target g c =

@@ -4,7 +4,7 @@ use Rattle.varisat_names.specs.promises.Settings.{no_update}
 use Rattle.varisat_search.specs.declared.context.Context.{Context}
 use Rattle.varisat_tracer.specs.inside.Tracing.{tracer_state}
 use Rattle.varisat_solver.specs.inside.Representations.{spaces_with, RepresentsSome}
-use Rattle.varisat_solver.proofs.calls.SettingsCalls.{limits-steps, stands-limited, counts-limited, kept-updated}
+use Rattle.varisat_solver.proofs.calls.SettingsCalls.{limits-steps, represents-limited, counts-limited, kept-updated}
 use Rattle.varisat_solver.proofs.solver.Solver.set_max_steps.Goals as goal
 
 pub returns : goal.returns
@@ -14,7 +14,7 @@ returns g c s st =
     let y = c.config_changed.new.self in
     let n = c.args.max_steps in
     let (b, a, e) = limits-steps n x y c.new-update.result c.config_changed.result c.new-update.ensures c.config_changed.ensures.changed in
-    stands-limited (tracer_state c.self.inside.tracer) c.self.inside.started c.self.inside.changed_at n x y b a s e q
+    represents-limited (tracer_state c.self.inside.tracer) c.self.inside.started c.self.inside.changed_at n x y b a s e q
 
 pub invariant_of-self : goal.invariant_of-self
 invariant_of-self g c v =

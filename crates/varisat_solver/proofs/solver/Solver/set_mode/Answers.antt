@@ -10,11 +10,11 @@ use Rattle.varisat_solver.proofs.entries.StepEntries.{leaving-derived}
 use Rattle.varisat_solver.proofs.accepting.AcceptClause.{proof-free}
 use Rattle.varisat_solver.proofs.accepting.Additions.{logged-error}
 use Rattle.varisat_solver.proofs.calls.CallStates.{ledger-is, none-since, begins, broken, broken-unlogged}
-use Rattle.varisat_solver.proofs.calls.ChangeEnds.{kept-changed, stands-broken, stands-invalid, invalid-logged}
+use Rattle.varisat_solver.proofs.calls.ChangeEnds.{kept-changed, represents-broken, represents-invalid, invalid-logged}
 use Rattle.varisat_solver.proofs.entries.LoggedEntries.{lists-derived, lists-on}
 use Rattle.varisat_solver.proofs.modes.ModeChanges.{changed-stays, changed-logs, with_changed, mode-changed, mode-invalid, mode-not-changed, mode-broken}
 use Rattle.varisat_solver.proofs.entries.OpenProofs.{proof-goes-on, lines-of-entries, barred-before, written-alike}
-use Rattle.varisat_solver.proofs.calls.SettingsCalls.{summary_of, stands-same}
+use Rattle.varisat_solver.proofs.calls.SettingsCalls.{summary_of, represents-same}
 use Rattle.varisat_solver.proofs.modes.VariableStates.{unassumed-state, kept-after}
 use Rattle.varisat_solver.proofs.solver.Solver.set_mode.Goals as goal
 
@@ -64,7 +64,7 @@ returns g c s st =
     let may = c.in_ok-check_change.ensures in (
       t,
       m.leads now (lines-of-entries s.variables m.variables s.logged alike) grows k.valid may.in_range (unassumed-state c.args.var k may.unassumed),
-      stands-same q old.started c.end_change.new.changed_at old.ctx c.end_change.new.ctx t counted.same (record {
+      represents-same q old.started c.end_change.new.changed_at old.ctx c.end_change.new.ctx t counted.same (record {
         ledger = ledger-is _ _ _ _ _ _ _ (ap (λ (x : Ledger). x.valid) k.ledger) (ap (λ (x : Ledger). x.started) k.ledger)
             (ap (λ (x : Ledger). x.steps) k.ledger) (none-since c.end_change.new.changed_at old.ctx.schedule.steps counted.steps)
             (ap (λ (x : Ledger). x.settings) k.ledger)
@@ -101,7 +101,7 @@ returns-in_err-end_change g c s st =
       subst (λ r. ChangesMode c.args.mode s c.args.var r (broken s.proof words s)) (sym refused)
           (mode-broken c.args.mode (broken s.proof words s) c.args.var k may.in_range (unassumed-state c.args.var k may.unassumed)
           (rw is at c.change_mode-changed.ensures.free) (broken-unlogged s words k.valid)),
-      stands-broken (tracer_state old.tracer) (tracer_state new) old.started old.changed_at c.end_change.new.changed_at old.ctx old.ctx
+      represents-broken (tracer_state old.tracer) (tracer_state new) old.started old.changed_at c.end_change.new.changed_at old.ctx old.ctx
           c.end_change.new.ctx s s.proof q made count refl refl (ap (λ (p : ProofParts). is_there p.checker) proof)
           (ap (λ (p : ProofParts). p.opened) proof ∙ k.proof.same),
     )
@@ -112,6 +112,6 @@ returns-in_err-ensure_valid g c s st =
     let refused = invalid-logged c.from_residual.result c.in_err-ensure_valid.field-0.0 c.from_residual.ensures c.in_err-ensure_valid.ensures.0 in (
       s,
       subst (λ r. ChangesMode c.args.mode s c.args.var r s) (sym refused) (mode-invalid c.args.mode s c.args.var
-          (stands-invalid _ s q (ap not c.in_err-ensure_valid.ensures.1))),
+          (represents-invalid _ s q (ap not c.in_err-ensure_valid.ensures.1))),
       st,
     )

@@ -8,7 +8,7 @@ use Rattle.varisat_solver.specs.promises.ProofCalls.{with_proof}
 use Rattle.varisat_solver.specs.promises.Summaries.{Summary}
 use Rattle.varisat_solver.specs.inside.Representations.{Represents}
 use Rattle.varisat_solver.proofs.accepting.Additions.{logged-error}
-use Rattle.varisat_solver.proofs.steps.SearchRounds.{solve-ends, solve-fails, stood-before}
+use Rattle.varisat_solver.proofs.steps.SearchRounds.{solve-ends, solve-fails, represents-before}
 use Rattle.varisat_solver.proofs.solver.Solver.solve.Goals as goal
 
 pub returns-in_err-end_search-clause-call : goal.returns-in_err-end_search-clause-call
@@ -28,13 +28,13 @@ returns-clause-call g c s st =
 pub returns-clause-model : goal.returns-clause-model
 returns-clause-model g c e s st =
     let valid = subst (λ (x : Summary). x.ledger.valid ≡ true) c.self.view_is (ap not c.if-self.false) in
-    let (proof, q) = stood-before c.seek-found.new.self s valid (subst (λ (x : Summary). Represents x s) c.in_ok-end_search.ensures st) in
+    let (proof, q) = represents-before c.seek-found.new.self s valid (subst (λ (x : Summary). Represents x s) c.in_ok-end_search.ensures st) in
     c.seek-found.ensures.model e (with_proof proof s) q
 
 pub returns-clause-core : goal.returns-clause-core
 returns-clause-core g c e s st =
     let valid = subst (λ (x : Summary). x.ledger.valid ≡ true) c.self.view_is (ap not c.if-self.false) in
-    let (proof, q) = stood-before c.seek-found.new.self s valid (subst (λ (x : Summary). Represents x s) c.in_ok-end_search.ensures st) in
+    let (proof, q) = represents-before c.seek-found.new.self s valid (subst (λ (x : Summary). Represents x s) c.in_ok-end_search.ensures st) in
     c.seek-found.ensures.core e (with_proof proof s) q
 
 pub returns-then-self-clause-target : goal.returns-then-self-clause-target

@@ -6,10 +6,10 @@ use Rattle.varisat_solver.specs.promises.States.{Ledger}
 use Rattle.varisat_solver.specs.inside.Representations.{spaces_with, RepresentsSome}
 use Rattle.varisat_solver.specs.promises.Calls.{count_anew}
 use Rattle.varisat_solver.specs.promises.ProofCalls.{with_proof, OpensProof}
-use Rattle.varisat_solver.proofs.calls.ChangeEnds.{stands-invalid}
-use Rattle.varisat_solver.proofs.calls.CallStates.{stands-valid}
+use Rattle.varisat_solver.proofs.calls.ChangeEnds.{represents-invalid}
+use Rattle.varisat_solver.proofs.calls.CallStates.{represents-valid}
 use Rattle.varisat_solver.proofs.entries.OpenProofs.{first-same, first-written, none-there}
-use Rattle.varisat_solver.proofs.calls.SettingsCalls.{stands-with-proof}
+use Rattle.varisat_solver.proofs.calls.SettingsCalls.{represents-with-proof}
 use Rattle.varisat_solver.proofs.entries.LoggedJournals.{left-alone}
 use Rattle.varisat_solver.proofs.solver.Solver.write_proof.Goals as goal
 
@@ -32,8 +32,8 @@ returns g c s st =
     let first = first_proof c.args.format (g.W.ProofTarget.taken c.args.target) in
     let fresh = ap (λ (l : Ledger). l.started) q.ledger ∙ c.if-self.false in (
       count_anew (with_proof (Some first) s),
-      (stands-valid _ s q ok, none-there _ s.proof q.same closed, fresh, refl),
-      c.begin_count.ensures.call (with_proof (Some first) s) (stands-with-proof c.self.inside.tracer.tables c.self.inside.tracer.proof
+      (represents-valid _ s q ok, none-there _ s.proof q.same closed, fresh, refl),
+      c.begin_count.ensures.call (with_proof (Some first) s) (represents-with-proof c.self.inside.tracer.tables c.self.inside.tracer.proof
           c.write_proof.new.self c.self.inside.started c.self.inside.changed_at c.self.inside.ctx s (Some first)
           (ap (λ (p : ProofParts). p.checker) c.write_proof.ensures)
           (ap (λ (p : ProofParts). p.opened) c.write_proof.ensures ∙ first-same c.args.format (g.W.ProofTarget.taken c.args.target))
@@ -44,7 +44,7 @@ returns g c s st =
 pub returns-in-Err : goal.returns-in-Err
 returns-in-Err g c s st =
     let q = rw (← c.self.view_is) at st in
-    let invalid = stands-invalid _ s q (ap not c.in-Err.ensures.1) in (
+    let invalid = represents-invalid _ s q (ap not c.in-Err.ensures.1) in (
       s,
       subst (λ e. OpensProof g.W.ProofTarget.taken c.args.target c.args.format s (Err (e, c.args.target)) s) (sym c.in-Err.ensures.0)
           (refl, (invalid, refl)),

@@ -172,8 +172,8 @@ impl SolverConfig {
         self.luby_restart_interval_scale
     }
 
-    /// Above how many hundredths of the usual glue that of the last learned clauses has to be for a due restart to be made.
-    /// At 0 each is made.
+    /// Above how many hundredths of the usual glue that of the last learned clauses has to be in focused mode for a due
+    /// restart to be made. At 0 there are no modes, and each is made.
     pub fn restart_glue(&self) -> u64
         ensures value { result ≡ self.now.restart_glue }
         ensures range { result ≤ 1000 }

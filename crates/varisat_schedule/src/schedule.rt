@@ -55,6 +55,13 @@ impl Schedule {
         self.steps
     }
 
+    /// How many steps there are from here to the next that begins with a restart.
+    pub fn steps_to_restart(&self) -> u64
+        ensures { result ≡ self.now.next_restart - self.now.steps }
+    {
+        self.next_restart - self.steps
+    }
+
     /// Begins a step, and returns whether it begins with a restart. If so, the next restart is later by the scale times
     /// the next term of the sequence, and stays at 2^64-1 once it is there.
     pub fn begin_step(&mut self, scale: u64) -> bool

@@ -24,13 +24,32 @@ pub use varisat_schedule::luby::LubySequence;
 pub use varisat_schedule::schedule::Schedule;
 use varisat_steps::{ProofTracer, TraceError};
 
+// At how many conflicts a search leaves stable mode first. Many satisfiable formulas are decided before.
+const STABLE_CONFLICTS: u64 = 4096;
+
+// A restart is made in stable mode where the next one is as many steps away or more.
+const STABLE_INTERVAL: u64 = 32;
+
+/// Whether a search that had so many conflicts is in stable mode, where restarts are few, or else in focused mode. It
+/// begins stable, and changes its mode at `STABLE_CONFLICTS` and each time that conflicts have doubled since.
+fn is_stable(conflicts: u64) -> bool {
+    (conflicts / STABLE_CONFLICTS).leading_zeros() % 2 == 0
+}
+
 /// The policy: whether a restart that is due is made. The bound on steps needs no restart, so any answer would do. At the
-/// setting 0 each is made; else those where the glue of the last learned clauses is high, as where a search got stuck.
+/// setting 0 each is made. Else those are made before a long interval, in stable mode, or where the glue of the last
+/// learned clauses is high, as where a search got stuck.
 fn is_restart_wanted<A: Allocator + Copy>(ctx: &Context<A>) -> bool
     ensures { ctx.now.solver_config.restart_glue ≡ 0 → IsTrue result }
 {
     let hundredths = ctx.solver_config.restart_glue();
-    hundredths == 0 || ctx.counters.is_glue_high(hundredths)
+    if hundredths == 0 {
+        return true;
+    }
+    if is_stable(ctx.counters.conflicts) {
+        return ctx.schedule.steps_to_restart() >= STABLE_INTERVAL;
+    }
+    ctx.counters.is_glue_high(hundredths)
 }
 
 /// Begins a step of the schedule, which restarts the search where a restart is due. Assumptions keep their levels.

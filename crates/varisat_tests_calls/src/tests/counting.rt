@@ -41,7 +41,7 @@ fn searches_are_counted(rt: HostRuntime) {
     );
 }
 
-// No clause was learned whose glue is high.
+// The next restart is due a step later.
 #[test]
 fn due_restarts_are_passed_over(rt: HostRuntime) {
     let Ok(counters) = counted(rt.alloc(), 100, "1 2 0\n") else {

@@ -1,19 +1,25 @@
-use Rattle.std.proofs.Common.{◌∙◌, inl, inr, refl, not, sym, subst, ap, arith, true, length, Err}
+use Rattle.std.proofs.Common.{◌≡◌, ◌<◌, ◌∙◌, ℕ, Bool, Ok, inl, inr, refl, not, sym, subst, ap, arith, true, length, Err}
 use Rattle.varisat_theory.specs.promises.Literals.{variable_of}
+use Rattle.varisat_literals.specs.promises.Numbers.{variable_limit}
 use Rattle.varisat_names.specs.promises.VarMap.{at}
+use Rattle.varisat_names.specs.promises.Variables.{Tables}
+use Rattle.varisat_search.specs.declared.context.Context.{Context}
 use Rattle.varisat_search.specs.Contexts.{view}
 use Rattle.varisat_names.proofs.NamedVariables.{unmapped-near, unmapped-same}
-use Rattle.varisat_tracer.specs.inside.Tracing.{tracer_state}
-use Rattle.varisat_solver.specs.inside.Representations.{spaces}
-use Rattle.varisat_solver.specs.promises.States.{Ledger, with_variables}
-use Rattle.varisat_solver.specs.promises.Names.{Naming, name_one}
+use Rattle.varisat_tracer.specs.inside.Tracing.{TracerState, tracer_state}
+use Rattle.varisat_solver.specs.promises.OpenProofs.{entries_over}
+use Rattle.varisat_solver.specs.inside.Changes.{CountsAnew}
+use Rattle.varisat_solver.specs.inside.Spaces.{FitWithNew}
+use Rattle.varisat_solver.specs.inside.Representations.{Represents, spaces}
+use Rattle.varisat_solver.specs.promises.States.{State, Ledger, with_variables}
+use Rattle.varisat_solver.specs.promises.Names.{Naming, name_one, IsLeastFree}
 use Rattle.varisat_solver.specs.promises.Calls.{with_naming, start, MakesVar}
 use Rattle.varisat_solver.specs.inside.Accepting.{AreBounded}
 use Rattle.varisat_solver.proofs.accepting.AcceptClause.{with_tables, ledger-free}
 use Rattle.varisat_search.proofs.variables.KeptNames.{given-keeps}
 use Rattle.varisat_solver.proofs.modes.TableMarks.{is-there, there-is, assumed-keeps, marked-keeps}
 use Rattle.varisat_solver.proofs.modes.VariableMoves.{given-most, tables-in-use}
-use Rattle.varisat_solver.proofs.calls.CallStates.{ledger-is, none-since, represents-valid, proof-fits, flags-started, like-varied, broken, broken-unlogged}
+use Rattle.varisat_solver.proofs.calls.CallStates.{Begins, begins, ledger-is, none-since, represents-valid, flags-started, like-varied, broken, broken-unlogged}
 use Rattle.varisat_solver.proofs.entries.OpenProofs.{goes-on-none, fits-alike, lines-of-entries, written-alike}
 use Rattle.varisat_solver.proofs.accepting.Additions.{logged-error}
 use Rattle.varisat_solver.proofs.calls.ChangeEnds.{kept-changed, represents-broken, represents-invalid, invalid-logged}
@@ -72,45 +78,64 @@ invariant_of-self-2 g c v =
     (_, fits, λ e. absurd cc)
     )
 
+-- the name is below the limit
+small-name : (u v index limit : ℕ) → u ≡ v → index ≡ v → limit ≡ variable_limit → index < limit → u < variable_limit
+small-name u v index limit same is most below = omega (arith, same, is, most, below)
+
+-- What the solver represents once the name is in use, over plain values.
+module _ {A : Type 0} (o : TracerState) (new : Tables) (started : Bool) (changed_at now : ℕ) (x : Context A) (s : State) (u : ℕ)
+    (k : Begins (summary_of o started changed_at x) s)
+    (fit : FitWithNew (spaces (with_tables new (summary_of o started changed_at x))) s (with_naming (name_one u s.naming) s)) where
+  abbrev named : State
+  named = with_naming (name_one u s.naming) s
+
+  abbrev after : State
+  after = start (with_variables fit.0 named)
+
+  represents : now ≡ x.schedule.steps → AreBounded new → entries_over fit.0 s.logged ≡ entries_over s.variables s.logged →
+      Represents (summary_of (record { tables = new; proof = o.proof }) true now x) after
+  represents steps bounded alike = record {
+    ledger = ledger-is _ _ _ _ _ _ _ (ap (λ (l : Ledger). l.valid) k.ledger) refl (ap (λ (l : Ledger). l.steps) k.ledger)
+        (none-since now x.schedule.steps steps) (ap (λ (l : Ledger). l.settings) k.ledger) (ap (λ (l : Ledger). l.checking) k.ledger);
+    fits = λ _. let (variables, keep, (w, n)) = fit in (
+      w,
+      ledger-free w (spaces (with_tables new (summary_of o started changed_at x))) (with_variables variables named)
+          (record s.ledger { started = true; since = 0 }) n,
+    );
+    words = k.words;
+    same = k.proof.same;
+    written = λ _. (fits-alike _ s.variables fit.0 s.logged s.proof alike k.proof).written;
+    bounded = λ _. bounded;
+    flags = λ _. flags-started s after k.flags refl refl (goes-on-none s.proof);
+  }
+
+  named-call : (y : Context A) → CountsAnew x y now → AreBounded new → IsLeastFree s.naming u → u < variable_limit →
+      (t : State) × MakesVar s (Ok u) t × Represents (summary_of (record { tables = new; proof = o.proof }) true now y) t
+  named-call y counted bounded least room =
+      let (before, links) = k.fits in
+      let (variables, keep, stand) = fit in
+      let alike = written-alike before _ s links variables keep in (
+        after,
+        (k.valid, least, room, like-varied (start named) variables s.words (lines-of-entries s.variables variables s.logged alike)),
+        represents-same (record { tables = new; proof = o.proof }) true now x y after counted.same (represents counted.steps bounded alike),
+      )
+
 pub returns : goal.returns
 returns g c s st =
     let (is, counted) = c.in_ok-user.ensures in
-    let q = rw (← c.self.view_is) at st in
+    let k = begins (rw (← c.self.view_is) at st) (ap not c.in_ok-ensure_valid.ensures) in
     let inside = c.self.inside in
     let old = summary_of (tracer_state inside.tracer) inside.started inside.changed_at inside.ctx in
-    let f = q.fits (ap not c.in_ok-ensure_valid.ensures) in
     let u = c.in_ok-user.user in
     let new = c.new_user_var-made.new.variables in
     let t = rw is at c.new_user_var-made.ensures.given in
     let same = unmapped-same old.tables.users.forward u c.next_unmapped_user-next.result t.least c.next_unmapped_user-next.ensures.least in
-    let (before, links) = f in
-    let (variables, keep, (w, n)) = new-named old s new u t.global f t.least (unmapped-near old.tables.users.forward u t.least) t.given in
-    let alike = written-alike before _ s links variables keep in
-    let named = with_naming (name_one u s.naming) s in (
-      start (with_variables variables named),
-      (
-        represents-valid _ s q (ap not c.in_ok-ensure_valid.ensures),
-        least-free old s u f t.least,
-        omega
-            (arith, same, c.index.ensures.index, c.max_count.ensures, c.if-index-max_count.false),
-        like-varied (start named) variables s.words (lines-of-entries s.variables variables s.logged alike),
-      ),
-      represents-same (record { tables = new; proof = inside.tracer.proof }) true c.end_change.new.changed_at inside.ctx c.end_change.new.ctx
-          (start (with_variables variables named)) counted.same (record {
-            ledger = ledger-is _ _ _ _ _ _ _ (ap (λ (x : Ledger). x.valid) q.ledger) refl (ap (λ (x : Ledger). x.steps) q.ledger)
-                (none-since c.end_change.new.changed_at inside.ctx.schedule.steps counted.steps)
-                (ap (λ (x : Ledger). x.settings) q.ledger) (ap (λ (x : Ledger). x.checking) q.ledger);
-            fits = λ _. (
-              w,
-              ledger-free w (spaces (with_tables new old)) (with_variables variables named) (record s.ledger { started = true; since = 0 }) n,
-            );
-            words = q.words;
-            same = q.same;
-            written = λ v. (fits-alike _ s.variables variables s.logged s.proof alike (proof-fits q v)).written;
-            bounded = λ _. still-bounded g (goal.at.returns g c).In_ok-user;
-            flags = λ v. flags-started s (start (with_variables variables named)) (q.flags v) refl refl (goes-on-none s.proof);
-          }),
-    )
+    let small = small-name u c.next_unmapped_user-next.result c.index.result c.max_count.result same c.index.ensures.index c.max_count.ensures
+    c.if-index-max_count.false in
+    named-call (tracer_state inside.tracer) new inside.started inside.changed_at c.end_change.new.changed_at inside.ctx s u k
+    (new-named old s new u t.global k.fits t.least (unmapped-near old.tables.users.forward u t.least) t.given)
+    c.end_change.new.ctx counted (still-bounded g (goal.at.returns g c).In_ok-user) (least-free old s u k.fits t.least)
+    small
 
 pub returns-in_err-user : goal.returns-in_err-user
 returns-in_err-user g c s st =

@@ -7,21 +7,22 @@ use Rattle.varisat_search.specs.Contexts.{view}
 use Rattle.varisat_schedule.specs.CallSteps.{steps_since}
 use Rattle.varisat_tracer.specs.inside.TracerLaws.{checked-runs}
 use Rattle.varisat_solver.specs.promises.Budgets.{returned_verdict, CountsSteps}
-use Rattle.varisat_solver.specs.promises.States.{State, Ledger}
+use Rattle.varisat_solver.specs.promises.States.{State, Ledger, Unknown}
 use Rattle.varisat_tracer.specs.inside.Tracing.{TracerState, tracer_state, BreaksProof}
-use Rattle.varisat_solver.specs.promises.OpenProofs.{OpenProof, ProofFits, GoesOnWriting}
+use Rattle.varisat_solver.specs.promises.OpenProofs.{OpenProof, ProofFits, GoesOnWriting, GoesOnFailing, opened_state}
 use Rattle.varisat_solver.specs.promises.Targets.{WritesUpTo}
 use Rattle.varisat_solver.proofs.entries.Targets.{writes-nothing, refused-unwritten, logs-writes, logs-refused, breaks-writes, refused-full, same-error}
 use Rattle.varisat_solver.proofs.entries.OpenProofs.{proof-goes-on, broken-open, broken-on}
-use Rattle.varisat_solver.specs.inside.Searches.{answer_at, Turn, turn_of, ComesTo, ComesOn, FindsVerdict}
+use Rattle.varisat_solver.specs.inside.Searches.{answer_at, Turn, turn_of, ComesTo, ComesOn, FindsVerdict, FailsStep}
 use Rattle.varisat_names.specs.promises.Variables.{Tables}
 use Rattle.varisat_proof.specs.promises.Calls.{CheckerState}
 use Rattle.varisat_proof.specs.promises.Proving.{ProofParts}
 use Rattle.varisat_solver.specs.inside.Spaces.{Spaces, SpacesFit}
 use Rattle.varisat_solver.specs.inside.Representations.{Represents, RepresentsSome, spaces_of, spaces_with, undecided_spaces}
-use Rattle.varisat_solver.specs.promises.Calls.{by_state, with_steps, Searches, IsSpent, ReturnsVerdict}
+use Rattle.varisat_solver.specs.promises.Calls.{by_state, with_steps, Searches, IsSpent, IsValid, ReturnsVerdict}
 use Rattle.varisat_solver.specs.declared.solver.SolverError.{SolverError}
 use Rattle.varisat_solver.specs.declared.solver.SolverError.TheVariants.{Interrupted, ClauseStoreFull, Invalid}
+use Rattle.varisat_search.specs.declared.error.StepError.{StepError}
 use Rattle.varisat_search.specs.StepErrors.{step_faults}
 use Rattle.varisat_solver.specs.promises.Refusals.{step_refusal, returned_faults}
 use Rattle.varisat_solver.proofs.calls.CallStates.{ledger-is, more-since, represents-valid, proof-fits, broken, broken-invalid, searches-broken}
@@ -76,56 +77,82 @@ module _ {A : Type 0} {p q : TracerState} {started : Bool} {changed_at : ℕ} {x
   goes-on : (now : Option OpenProof) × GoesOnWriting s.proof now × ProofFits q.proof.opened s.variables comes.logged now
   goes-on = proof-goes-on p.proof q.proof s.variables s.variables s.logged comes.logged s.proof (proof-fits d.represents d.valid) refl comes.proof
 
+-- The same over plain values: what the search came to, and the proof with further bytes.
+module _ {A : Type 0} {p q : TracerState} {started : Bool} {changed_at : ℕ} {x y : Context A} {found : Option Bool} {s : State}
+    (d : Sought p q started changed_at x y found s)
+    (reached : ComesTo (turn_of x) (steps_since x.schedule y.schedule) s p.proof q.proof (spaces_with q.tables q.proof.checker y))
+    (now : Option OpenProof) (grows : GoesOnWriting s.proof now) (fit : ProofFits q.proof.opened s.variables reached.logged now) where
+  abbrev after : State
+  after = after-solve reached.logged reached.verdict y.schedule.steps now (length y.clause_alloc.words) s
+
+  was-valid : IsValid s
+  was-valid = represents-valid (summary_of p started changed_at x) s d.represents d.valid
+
+  was-undecided : s.verdict ≡ Unknown
+  was-undecided = was-unknown (summary_of p started changed_at x) s d.represents d.valid d.unknown
+
   -- the solver represents the state that it came to
   represents-after : {r : Result Bool SolverError} → CountsSteps (length s.counted) s.ledger.settings.max_steps s.ledger.since s.ledger.steps
-      y.schedule.steps r → Represents (summary_of q started changed_at y)
-      (after-solve comes.logged comes.verdict y.schedule.steps goes-on.0 (length y.clause_alloc.words) s)
+      y.schedule.steps r → Represents (summary_of q started changed_at y) after
   represents-after k = record {
     ledger = ledger-is _ _ _ _ _ _ _ (ap (λ (l : Ledger). l.valid) d.represents.ledger
-        ∙ ap (λ (b : SolverState). not b.state_is_invalid) (sym d.finds.state)) (ap (λ (l : Ledger). l.started) d.represents.ledger) refl (since-after k)
+        ∙ ap (λ (b : SolverState). not b.state_is_invalid) (sym d.finds.state)) (ap (λ (l : Ledger). l.started) d.represents.ledger) refl (since-after d k)
         (ap (λ (l : Ledger). l.settings) d.represents.ledger ∙ sym d.config)
         (ap (λ (l : Ledger). l.checking) d.represents.ledger
         ∙ sym (checked-runs p.proof.checker q.proof.checker d.finds.logged.0 d.finds.logged.1.checked));
-    fits = λ _. comes-fits q.tables y comes y.schedule.steps goes-on.0 (length y.clause_alloc.words);
+    fits = λ _. comes-fits q.tables y reached y.schedule.steps now (length y.clause_alloc.words);
     words = refl;
-    same = goes-on.2.same;
-    written = λ _. goes-on.2.written;
-    flags = λ _. flags-after s comes.logged comes.verdict y.schedule.steps goes-on.0 (length y.clause_alloc.words) (d.represents.flags d.valid)
-        (lists-on s.logged comes.logged comes.more (lists-ended comes.verdict comes.more.entries comes.ends)) goes-on.1;
+    same = fit.same;
+    written = λ _. fit.written;
+    flags = λ _. flags-after s reached.logged reached.verdict y.schedule.steps now (length y.clause_alloc.words) (d.represents.flags d.valid)
+        (lists-on s.logged reached.logged reached.more (lists-ended reached.verdict reached.more.entries reached.ends)) grows;
     bounded = λ _. d.finds.kept.bounded;
   }
+
+found-with : {A : Type 0} {p q : TracerState} {started : Bool} {changed_at : ℕ} {x y : Context A} {b : Bool} {s : State}
+    (d : Sought p q started changed_at x y (Some b) s)
+    (reached : ComesTo (turn_of x) (steps_since x.schedule y.schedule) s p.proof q.proof (spaces_with q.tables q.proof.checker y))
+    (now : Option OpenProof) (grows : GoesOnWriting s.proof now) (fit : ProofFits q.proof.opened s.variables reached.logged now) →
+    CountsSteps (length s.counted) s.ledger.settings.max_steps s.ledger.since s.ledger.steps y.schedule.steps (Ok b) → (t : State)
+    × ReturnsVerdict by_state s b t × Represents (summary_of q started changed_at y) t
+found-with {q = q} {y = y} {b = b} d reached now grows fit k = (
+  after d reached now grows fit,
+  comes-verdict q.tables y reached y.schedule.steps now (length y.clause_alloc.words) b (was-valid d reached now grows fit) (was-undecided d reached now grows fit)
+      (turn d) k (sym d.finds.answer) (made d) grows,
+  represents-after d reached now grows fit k,
+)
 
 -- a verdict was found
 found-call : {A : Type 0} {p q : TracerState} {started : Bool} {changed_at : ℕ} {x y : Context A} {b : Bool} {s : State}
     (d : Sought p q started changed_at x y (Some b) s) → CountsSteps
     (length s.counted) s.ledger.settings.max_steps s.ledger.since s.ledger.steps y.schedule.steps (Ok b) → (t : State) × ReturnsVerdict by_state s b t
     × Represents (summary_of q started changed_at y) t
-found-call {p = p} {q = q} {started = started} {changed_at = changed_at} {x = x} {y = y} {b = b} {s = s} d k = (
-  after-solve (comes d).logged (comes d).verdict y.schedule.steps (goes-on d).0 (length y.clause_alloc.words) s,
-  comes-verdict q.tables y (comes d) y.schedule.steps (goes-on d).0 (length y.clause_alloc.words) b
-      (represents-valid (summary_of p started changed_at x) s d.represents d.valid)
-      (was-unknown (summary_of p started changed_at x) s d.represents d.valid d.unknown) (turn d) k (sym d.finds.answer) (made d) (goes-on d).1,
-  represents-after d k,
-)
+found-call d k = found-with d (comes d) (goes-on d).0 (goes-on d).1 (goes-on d).2 k
+
+moved-with : {A : Type 0} {p q : TracerState} {started : Bool} {changed_at : ℕ} {x y : Context A} {s : State}
+    (d : Sought p q started changed_at x y None s)
+    (reached : ComesTo (turn_of x) (steps_since x.schedule y.schedule) s p.proof q.proof (spaces_with q.tables q.proof.checker y))
+    (now : Option OpenProof) (grows : GoesOnWriting s.proof now) (fit : ProofFits q.proof.opened s.variables reached.logged now) →
+    CountsSteps (length s.counted) s.ledger.settings.max_steps s.ledger.since s.ledger.steps y.schedule.steps (Err Interrupted) →
+    s.ledger.steps < y.schedule.steps → (t : State) × IsSpent by_state s t × Represents (summary_of q started changed_at y) t
+moved-with {q = q} {y = y} {s = s} d reached now grows fit k h =
+    let t : State = after d reached now grows fit in
+    let unknown = unknown-undecided q.tables q.proof.checker y t
+    (subst (λ b. SpacesFit (spaces_of q.tables q.proof.checker (view y) y.assumptions b) t)
+    (answered-none y.solver_state.sat_state (sym d.finds.answer))
+    (comes-fits q.tables y reached y.schedule.steps now (length y.clause_alloc.words))) in (
+      t,
+      comes-interrupted q.tables y reached y.schedule.steps now (length y.clause_alloc.words) (was-valid d reached now grows fit) (was-undecided d reached now grows fit)
+          (turn d) k unknown (made d) (λ e. omega (arith, h, e)) grows,
+      represents-after d reached now grows fit k,
+    )
 
 -- the steps were spent, and some were made
 moved-call : {A : Type 0} {p q : TracerState} {started : Bool} {changed_at : ℕ} {x y : Context A} {s : State}
     (d : Sought p q started changed_at x y None s) → CountsSteps
     (length s.counted) s.ledger.settings.max_steps s.ledger.since s.ledger.steps y.schedule.steps (Err Interrupted) →
     s.ledger.steps < y.schedule.steps → (t : State) × IsSpent by_state s t × Represents (summary_of q started changed_at y) t
-moved-call {p = p} {q = q} {started = started} {changed_at = changed_at} {x = x} {y = y} {s = s} d k h =
-    let last = answered-none y.solver_state.sat_state (sym d.finds.answer) in
-    let unknown = unknown-undecided q.tables q.proof.checker y
-    (after-solve (comes d).logged (comes d).verdict y.schedule.steps (goes-on d).0 (length y.clause_alloc.words) s)
-    (subst (λ b. SpacesFit (spaces_of q.tables q.proof.checker (view y) y.assumptions b)
-    (after-solve (comes d).logged (comes d).verdict y.schedule.steps (goes-on d).0 (length y.clause_alloc.words) s)) last
-    (comes-fits q.tables y (comes d) y.schedule.steps (goes-on d).0 (length y.clause_alloc.words))) in (
-      after-solve (comes d).logged (comes d).verdict y.schedule.steps (goes-on d).0 (length y.clause_alloc.words) s,
-      comes-interrupted q.tables y (comes d) y.schedule.steps (goes-on d).0 (length y.clause_alloc.words)
-          (represents-valid (summary_of p started changed_at x) s d.represents d.valid)
-          (was-unknown (summary_of p started changed_at x) s d.represents d.valid d.unknown) (turn d) k unknown (made d) (λ e. omega (arith, h, e)) (goes-on d).1,
-      represents-after d k,
-    )
+moved-call d k h = moved-with d (comes d) (goes-on d).0 (goes-on d).1 (goes-on d).2 k h
 
 -- none was made
 still-call : {A : Type 0} {p q : TracerState} {started : Bool} {changed_at : ℕ} {x y : Context A} {s : State}
@@ -290,45 +317,62 @@ returns-in-Ok-None-clause-call g c s st =
     (ap not c.in_ok-ensure_valid.ensures) c.max_steps-max_steps.ensures (ap returned_verdict (c.in-Ok-None.is ∙ ap Ok c.in-Ok-None.field-0-is))
     (λ m h. c.find_verdict.ensures.counted m c.self.inside.changed_at h (c.self.invariant c.in_ok-ensure_valid.ensures).counts))
 
+-- What the solver represents once the search broke off, over plain values.
+module _ {A : Type 0} (p q : TracerState) (started : Bool) (changed_at : ℕ) (x y : Context A) (s : State) (error : StepError)
+    (st : Represents (summary_of p started changed_at x) s) (valid : (summary_of p started changed_at x).ledger.valid ≡ true)
+    (low : changed_at ≤ x.schedule.steps) (fails : FailsStep p.proof q.proof x y error)
+    (counts : CountsSteps (length s.counted) s.ledger.settings.max_steps s.ledger.since s.ledger.steps y.schedule.steps (Err (step_refusal error))) where
+  abbrev stopped : Option OpenProof → State
+  stopped now = broken now (length y.clause_alloc.words) (with_steps y.schedule.steps s)
+
+  represents : y.solver_config ≡ x.solver_config → (now : Option OpenProof) → q.proof.opened ≡ opened_state now →
+      Represents (summary_of q started changed_at (invalidated y)) (stopped now)
+  represents config now same =
+      let before = ap (λ (l : Ledger). l.since) st.ledger in
+      let steps = ap (λ (l : Ledger). l.steps) st.ledger in
+      let count = counts.count in
+      record {
+        ledger = ledger-is _ _ _ _ _ _ _ refl (ap (λ (l : Ledger). l.started) st.ledger) refl
+            (more-since changed_at s.ledger.steps y.schedule.steps s.ledger.since (omega (arith, low, steps)) (omega (arith, count))
+            (omega (arith, before, steps))) (ap (λ (l : Ledger). l.settings) st.ledger ∙ sym config)
+            (ap (λ (l : Ledger). l.checking) st.ledger ∙ sym fails.broken.2);
+        words = refl;
+        same = same;
+        fits = λ e. absurd cc;
+        written = λ e. absurd cc;
+        flags = λ e. absurd cc;
+        bounded = λ e. absurd cc;
+      }
+
+  searches : s.verdict ≡ Unknown → (now : Option OpenProof) → GoesOnFailing (step_faults error) s.proof now →
+      Searches s (Err (step_refusal error)) (stopped now)
+  searches unknown now goes = searches-broken error s (stopped now)
+      (λ f. broken-open p.proof q.proof s.variables s.logged s.proof (proof-fits st valid) (subst (λ k. BreaksProof p.proof k q.proof) f fails.broken))
+      unknown counts
+      (broken-invalid (step_faults error) (with_steps y.schedule.steps s) now (length y.clause_alloc.words) (represents-valid _ s st valid) goes)
+      (λ f. let (room, size) = fails.full f in let few = few-made (st.fits valid).0 _ s (st.fits valid).1 in omega (arith, room, size, few))
+
+  broken-call : y.solver_config ≡ x.solver_config → s.verdict ≡ Unknown → (z : Context A) → z ≡ invalidated y → (e : SolverError) →
+      e ≡ step_refusal error → (t : State) × Searches s (Err e) t × Represents (summary_of q started changed_at z) t
+  broken-call config unknown z is e refusal =
+      let (now, goes, same) = broken-on p.proof q.proof (step_faults error) s.proof st.same fails.broken in (
+        stopped now,
+        subst (λ r. Searches s (Err r) (stopped now)) (sym refusal) (searches unknown now goes),
+        represents-same q started changed_at (invalidated y) z (stopped now) is (represents config now same),
+      )
+
 pub returns-in-Err-clause-call : goal.returns-in-Err-clause-call
 returns-in-Err-clause-call g c s st =
     let q = rw (← c.self.view_is) at st in
     let ok = ap not c.in_ok-ensure_valid.ensures in
-    let was = was-unknown _ s q ok c.in-Unknown.is in
-    let n = c.find_verdict.new.ctx.schedule.steps in
     let since = (c.self.invariant c.in_ok-ensure_valid.ensures).counts in
-    let counts = counted-call _ s c.max_steps-max_steps.result n (returned_verdict c.find_verdict.result)
+    let counts = counted-call _ s c.max_steps-max_steps.result c.find_verdict.new.ctx.schedule.steps (returned_verdict c.find_verdict.result)
     (Err (step_refusal c.in-Err.error)) q ok c.max_steps-max_steps.ensures (ap returned_verdict c.in-Err.is)
     (λ m h. c.find_verdict.ensures.counted m c.self.inside.changed_at h since) in
-    let low = since.low in
-    let before = ap (λ (x : Ledger). x.since) q.ledger in
-    let steps = ap (λ (x : Ledger). x.steps) q.ledger in
-    let count = counts.count in
-    let words = length c.find_verdict.new.ctx.clause_alloc.words in
-    let (now, goes, same) = broken-on c.self.inside.tracer.proof c.find_verdict.new.tracer.proof (step_faults c.in-Err.error) s.proof q.same
-    c.in-Err.ensures.fails.broken in (
-      broken now words (with_steps n s),
-      subst (λ e. Searches s (Err e) (broken now words (with_steps n s))) (sym c.invalidate.ensures.logged)
-          (searches-broken c.in-Err.error s (broken now words (with_steps n s))
-          (λ f. broken-open c.self.inside.tracer.proof c.find_verdict.new.tracer.proof s.variables s.logged s.proof (proof-fits q ok)
-          (subst (λ k. BreaksProof c.self.inside.tracer.proof k c.find_verdict.new.tracer.proof) f c.in-Err.ensures.fails.broken)) was counts
-          (broken-invalid (step_faults c.in-Err.error) (with_steps n s) now words (represents-valid _ s q ok) goes)
-          (λ f. let (room, size) = c.in-Err.ensures.fails.full f in
-          let few = few-made (q.fits ok).0 _ s (q.fits ok).1 in omega (arith, room, size, few))),
-      represents-same (tracer_state c.find_verdict.new.tracer) c.self.inside.started c.self.inside.changed_at (invalidated c.find_verdict.new.ctx)
-          c.invalidate.new.ctx (broken now words (with_steps n s)) c.invalidate.ensures.invalid (record {
-            ledger = ledger-is _ _ _ _ _ _ _ refl (ap (λ (x : Ledger). x.started) q.ledger) refl
-                (more-since c.self.inside.changed_at s.ledger.steps n s.ledger.since (omega (arith, low, steps)) (omega (arith, count))
-                (omega (arith, before, steps))) (ap (λ (x : Ledger). x.settings) q.ledger ∙ sym c.find_verdict.ensures.config)
-                (ap (λ (x : Ledger). x.checking) q.ledger ∙ sym c.in-Err.ensures.fails.broken.2);
-            words = refl;
-            same = same;
-            fits = λ e. absurd cc;
-            written = λ e. absurd cc;
-            flags = λ e. absurd cc;
-            bounded = λ e. absurd cc;
-          }),
-    )
+    broken-call (tracer_state c.self.inside.tracer) (tracer_state c.find_verdict.new.tracer) c.self.inside.started c.self.inside.changed_at
+    c.self.inside.ctx c.find_verdict.new.ctx s c.in-Err.error q ok since.low c.in-Err.ensures.fails counts
+    c.find_verdict.ensures.config (was-unknown _ s q ok c.in-Unknown.is)
+    c.invalidate.new.ctx c.invalidate.ensures.invalid c.invalidate.result c.invalidate.ensures.logged
 
 -- 3. What the target took.
 pub returns-in-Sat-clause-target : goal.returns-in-Sat-clause-target

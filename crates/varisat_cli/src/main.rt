@@ -553,6 +553,3 @@ fn print_file_fault<E: Write, F: Display>(err: &mut E, path: &str, fault: &F) ->
     let _ = writeln!(err, "error: '{path}': {fault}");
     STATUS_FAULT
 }
-
-#[cfg(test)]
-mod tests;

@@ -68,12 +68,17 @@ pub const MODE_SESSIONS: [Exchange; 12] = [
 ];
 
 /// Sessions that bring hidden variables back.
-pub const OBSERVING_SESSIONS: [Exchange; 6] = [
+pub const OBSERVING_SESSIONS: [Exchange; 7] = [
     ("observe\nhide 1\nobserve\n", "ok 0\nok\nok 0\n"),
     // One whose value follows from the clauses alone leaves in a step, and does not come back.
     (
         "add 1 2\nhide 1\nadd -2\nsolve\nobserve\n",
         "ok\nok\nok\nok true\nok 0\n",
+    ),
+    // One whose only clause is satisfied leaves too, and comes back, as its value is open.
+    (
+        "add 1 2\nhide 1\nadd 2\nsolve\nobserve\nsample 1\nadd -1\nsolve\nmodel\n",
+        "ok\nok\nok\nok true\nok 1 0\nok\nok\nok true\nok -1 2 0\n",
     ),
     // A variable that comes back is a witness.
     (

@@ -1,10 +1,9 @@
 //! The tests, a file for each subject.
 
-mod assignments;
+mod calls;
+mod checking;
+mod counting;
 mod hiding;
 mod lines;
-mod plain_states;
+mod paths;
 mod programs;
-mod proofs;
-mod random_modes;
-mod random_proofs;

@@ -87,6 +87,7 @@ const DRAT_ROW: Row = (
 #[derive(Clone, Copy)]
 struct Command {
     row: Row,
+    max_steps: Option<u64>,
     is_check: bool,
     is_drat: bool,
     has_checker: bool,
@@ -112,7 +113,7 @@ fn decide<A: Allocator + Copy>(
     let (text, _, format, _, _) = command.row;
     let options = SolveOptions {
         check: command.has_checker,
-        max_steps: None,
+        max_steps: command.max_steps,
         progress: None,
         format,
     };
@@ -286,6 +287,7 @@ fn each_fault_of_a_command_is_told(rt: HostRuntime) {
         for (is_check, has_checker) in COMMANDS {
             let command = Command {
                 row,
+                max_steps: None,
                 is_check,
                 is_drat: false,
                 has_checker,
@@ -301,6 +303,7 @@ fn each_fault_of_a_command_is_told(rt: HostRuntime) {
 fn each_fault_of_a_check_with_rat_lines_is_told(rt: HostRuntime) {
     let command = Command {
         row: DRAT_ROW,
+        max_steps: None,
         is_check: true,
         is_drat: true,
         has_checker: false,
@@ -308,4 +311,64 @@ fn each_fault_of_a_check_with_rat_lines_is_told(rt: HostRuntime) {
     let swept = sweep(rt.alloc(), command);
     assert!(rt; swept.is_some());
     println!(rt; "{swept:?}").unwrap_or(());
+}
+
+const UNKNOWN: Printed = ("s UNKNOWN\n", 0);
+
+const FAULT: Printed = ("", 2);
+
+const FULL: &str = "error: Error writing proof file: ";
+
+const BAD_LINE: &str = "error: Error in DIMACS input: line 3: UnexpectedInput\n";
+
+/// A text, how many steps may be made, which `put` and which `flush` fails, if any does, what is printed then, and how the
+/// fault begins that is reported. A proof is flushed as the search ends and as it is closed.
+type TargetRow = (&'static str, Option<u64>, u64, u64, Printed, &'static str);
+
+const TARGETS: [TargetRow; 12] = [
+    (SQUARE, None, 0, 3, UNSATISFIABLE, ""),
+    // A satisfied clause is deleted as it is loaded.
+    (
+        "1 0\n2 1 2 0\n",
+        None,
+        2,
+        3,
+        ("s SATISFIABLE\nv 1 -2 0\n", 10),
+        "",
+    ),
+    ("1 0\n2 1 2 0\n", None, 1, 0, FAULT, FULL),
+    // A fault of the text stands behind the clauses before it.
+    ("1 0\n2 1 2 0\nx\n", None, 1, 0, FAULT, FULL),
+    ("1 0\n2 1 2 0\nx\n", None, 2, 0, FAULT, BAD_LINE),
+    (SQUARE, None, 1, 0, FAULT, FULL),
+    (SQUARE, None, 2, 0, FAULT, FULL),
+    (SQUARE, None, 0, 1, FAULT, FULL),
+    (SQUARE, None, 0, 2, FAULT, FULL),
+    ("1 0\n", None, 1, 3, ("s SATISFIABLE\nv 1 0\n", 10), ""),
+    ("1 0\n", Some(0), 1, 3, UNKNOWN, ""),
+    ("1 0\n", Some(0), 0, 1, FAULT, FULL),
+];
+
+#[test]
+fn faults_of_targets_are_told(rt: HostRuntime) {
+    for (text, max_steps, put, flush, printed, fault) in TARGETS {
+        for has_checker in [false, true] {
+            let command = Command {
+                row: (text, b"", ProofFormat::Drat, printed, printed),
+                max_steps,
+                is_check: false,
+                is_drat: false,
+                has_checker,
+            };
+            let mut failing = NONE;
+            failing.put = put;
+            failing.flush = flush;
+            let outcome = run(rt.alloc(), rt.alloc(), command, failing);
+            let is_right = (outcome.out.bytes() == printed.0.as_bytes())
+                & (outcome.status == printed.1)
+                & outcome.err.starts_with(fault.as_bytes())
+                & (outcome.err.is_empty() == fault.is_empty());
+            assert!(rt; is_right, "{text}");
+        }
+    }
 }

@@ -13,8 +13,24 @@ const EPILOGUE: &str =
     "solve\nmodel\ncore\nmodel\ncore\nsteps\nsince\nnew\nadd 1\nassume 1\nformula 1 2 0 -1 3 0\ndimacs 1 -2 0 4 0\nsample 1\nwitness 1\nhide 1\nobserve\nconfig max_steps 1\nproof text\nproof binary\nproof marked\nselfcheck\nsolve\nclose\nclose\nsteps\nsince\nmodel\ncore\n";
 
 /// Sessions of calls that no line of a session makes, and of a clause of forty literals, whose model is open.
-const OTHER_SESSIONS: [Exchange; 4] = [
+const OTHER_SESSIONS: [Exchange; 8] = [
     ("dimacs 1 -2 0 2\nsolve\nmodel\ndimacs 1 0 p cnf 1 1\n", ""),
+    // The first text takes no memory for its own: the room suffices that the clause before it left.
+    ("add 1 2 -3\ndimacs 1 -2 0 3 0\nsolve\n", ""),
+    (
+        "add 1 2 -3\ndimacs 1 -2 0 3 0 4 5 6 7 8 9 10 11 12 13 14 15 16 17 18 19 20 0\nsolve\n",
+        "",
+    ),
+    // So it is of these, of which the third clause is deleted as it is loaded. By the unit the clause before the text loses a
+    // literal.
+    (
+        "proof text\nadd 1 2 -3\ndimacs 1 -2 0 3 0 4 3 0\nsolve\n",
+        "",
+    ),
+    (
+        "proof text\nadd 1 2 -3\ndimacs 1 -2 0 3 0 5 3 0\nsolve\n",
+        "",
+    ),
     ("formula 1 -2 0 3 0\nsolve\nmodel\n", ""),
     (
         "proof marked\nformula 1 2 0 -1 3 0\nsolve\nassume -2 3 -2\nsolve\nadd 2 -3\ndimacs -1 0 -2 0 3 3 0\nassume 3 2\nsolve\n",

@@ -2,8 +2,6 @@
 ghost use Rattle.std.specs.Prelude.{IfSome};
 ghost use Rattle.varisat.specs.promises.Runs.{AreReady};
 
-use crate::readers::in_pieces;
-use crate::settings::rare_and_frequent;
 use std::alloc::{AllocError, Global};
 use std::io::{self, ErrorKind, Write};
 use varisat::line::write_answer;
@@ -16,11 +14,18 @@ use varisat_formula::io::{CutSource, MemoryTarget, ReadSource};
 use varisat_literals::lits;
 use varisat_names::config::{ConfigField, SolverConfigUpdate};
 
+/// The text in pieces of at most so many bytes, as a reader that fails or ends behind them.
+pub fn in_pieces(text: &'static [u8], size: usize, fails: bool) -> CutSource<'static> {
+    let pieces = text.len().div_ceil(size.max(1)) as u64;
+    let failing = if fails { pieces.saturating_add(1) } else { 0 };
+    CutSource::new(text).in_pieces(0, size).failing_at(failing)
+}
+
 // A call on a text.
 type TextCall = Call<MemoryTarget<Global>, ReadSource<CutSource<'static>>, Global>;
 
-// An answer of such a call.
-type TextAnswer = Answer<MemoryTarget<Global>, ReadSource<CutSource<'static>>, Global>;
+/// An answer of such a call.
+pub type TextAnswer = Answer<MemoryTarget<Global>, ReadSource<CutSource<'static>>, Global>;
 
 // Writes a line for each answer.
 fn write_answers(out: &mut Vec<u8>, answers: &[TextAnswer]) -> io::Result<()> {
@@ -96,20 +101,6 @@ fn refused_calls(alloc: Global, settings: SolverConfigUpdate) -> Option<Vec<Text
     Vec::from_array(alloc, calls).ok()
 }
 
-// A formula by the macro, and the question, behind settings.
-fn formula_calls(alloc: Global, settings: SolverConfigUpdate) -> Option<Vec<TextCall>>
-    ensures { IfSome result (λ calls. AreReady (λ s. s) (λ t. t) calls.items) }
-{
-    let formula = cnf_formula!(in alloc; 1, -2; 3;).ok()?;
-    let calls = [
-        Call::Config(settings),
-        Call::AddFormula(formula),
-        Call::Solve,
-        Call::Model,
-    ];
-    Vec::from_array(alloc, calls).ok()
-}
-
 // Whether the solver gives the calls these answers.
 fn runs(
     solver: &mut Solver<MemoryTarget<Global>, Global>,
@@ -141,28 +132,17 @@ fn answers_refused_calls(
     Some(are_lines(alloc, &answers, wanted))
 }
 
-// Whether a new solver gives the calls on the formula these answers.
-fn answers_formula_calls(
-    alloc: Global,
-    settings: SolverConfigUpdate,
-    wanted: &[u8],
-) -> Option<bool> {
-    let calls = formula_calls(alloc, settings)?;
-    let answers = answers_of::<MemoryTarget<Global>, ReadSource<CutSource<'static>>, Global>(
-        calls,
-    ).ok()?;
-    Some(are_lines(alloc, &answers, wanted))
-}
-
 #[test]
 fn calls_are_answered(rt: HostRuntime) {
     let answers =
         b"ok\nok\nok\nok\nerr 13\nok 7\nok\nok true\nok 1\nok -1 -2 -3 -4 -5 6 -7 0\nok true\nok none\n";
     let refused =
         b"ok\nerr 13\nerr 11\nok\nok true\nok 1 -2 3 0\nerr 7\nerr 12\nok true\nok 1 2 3 0\n";
-    let of_formula = b"ok\nok\nok true\nok -1 -2 3 0\n";
-    for settings in rare_and_frequent() {
-        assert!(rt; answers_formula_calls(rt.alloc(), settings, of_formula) == Some(true));
+    // Learned clauses are reduced rarely, and at each step.
+    let mut frequent = SolverConfigUpdate::new();
+    frequent.reduce_locals_interval = Some(1);
+    frequent.reduce_mids_interval = Some(1);
+    for settings in [SolverConfigUpdate::new(), frequent] {
         assert!(rt; runs_in_new(rt.alloc(), settings, answers) == Some(true));
         assert!(rt; answers_refused_calls(rt.alloc(), settings, refused) == Some(true));
     }

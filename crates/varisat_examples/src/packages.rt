@@ -1,7 +1,5 @@
 //! Package versions that conflict, and why. Each rule is a clause group of its own, whose literal is assumed. Where the rules
 //! fail together, the failed core names those that do; the least wanted of them goes, and the others are tried again.
-#![tactic(auto)]
-
 ghost use Rattle.std.specs.Prelude.{◌<◌};
 
 use anyhow::Result;
@@ -39,9 +37,10 @@ const RULES: [Rule; 9] = [
 /// A solver whose proofs, if it wrote any, would be kept in memory.
 type PackageSolver = Solver<MemoryTarget<Global>, Global>;
 
-fn main(rt: HostRuntime) -> Result<()> {
+/// Runs the example.
+pub fn run(rt: &HostRuntime) -> Result<()> {
     let mut solver = Solver::new_in(rt.alloc());
-    let resolved = resolve(&rt, &mut solver);
+    let resolved = resolve(rt, &mut solver);
     drop(solver);
     resolved
 }

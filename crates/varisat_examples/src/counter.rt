@@ -1,7 +1,5 @@
 //! Bounded model checking with one solver. A counter of three bits begins at 0, and each step either adds 1 or doubles it,
 //! whichever it likes. After how many steps can it first be 6?
-#![tactic(auto)]
-
 ghost use Rattle.std.specs.Prelude.{◌≤◌};
 
 use std::alloc::Global;
@@ -28,9 +26,10 @@ const GROUP: u8 = 4;
 /// A solver whose proofs, if it wrote any, would be kept in memory.
 type CounterSolver = Solver<MemoryTarget<Global>, Global>;
 
-fn main(rt: HostRuntime) -> io::Result<()> {
+/// Runs the example.
+pub fn run(rt: &HostRuntime) -> io::Result<()> {
     let mut solver = Solver::new_in(rt.alloc());
-    let written = print_answer(&rt, &mut solver);
+    let written = print_answer(rt, &mut solver);
     drop(solver);
     written
 }

@@ -1,8 +1,6 @@
 //! Bounded model checking of a step that is simplified once. A counter of six bits begins at 3, and each step adds 1 or doubles
 //! it. After how many steps can it first be 45? The gates of a step are resolved away, its states are frozen, and each moment
 //! gets a copy of what is left.
-#![tactic(auto)]
-
 ghost use Rattle.std.specs.Prelude.{◌<◌, ◌≤◌};
 
 use anyhow::Result;
@@ -44,9 +42,10 @@ const WIDTH: usize = 26;
 /// A solver whose proofs, if it wrote any, would be kept in memory.
 type UnrollingSolver = Solver<MemoryTarget<Global>, Global>;
 
-fn main(rt: HostRuntime) -> Result<()> {
+/// Runs the example.
+pub fn run(rt: &HostRuntime) -> Result<()> {
     let mut solver = Solver::new_in(rt.alloc());
-    let told = print_answer(&rt, &mut solver);
+    let told = print_answer(rt, &mut solver);
     drop(solver);
     told
 }

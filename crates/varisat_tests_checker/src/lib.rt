@@ -1,5 +1,5 @@
-//! Tests of what no contract says, over proofs, their bytes and their checker: worked examples, printed texts, each growth
-//! refused, sources that fail.
+//! Tests of what no contract says, over literals, formulas, texts, proofs and their checker: worked examples, printed texts,
+//! each growth refused, sources and targets that fail.
 #![tactic(auto)]
 
 #[cfg(test)]

@@ -2,9 +2,13 @@
 
 mod checks;
 mod faults;
+mod formulas;
+mod literals;
 mod marked;
 mod programs;
 mod proofs;
 mod random;
 mod random_marked;
 mod steps;
+mod targets;
+mod texts;

@@ -9,7 +9,7 @@ use std::process::ExitCode;
 use std::{env, fs};
 use varisat::line::parse_number;
 use varisat_formula::io::IoTarget;
-use varisat_maxsat::program::{solve_lines, tell};
+use varisat_wcnf::program::{solve_lines, tell};
 
 /// What `--help` prints.
 const HELP: &str = "maxsat FILE [--max-steps N]

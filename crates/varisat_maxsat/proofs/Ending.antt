@@ -5,7 +5,7 @@ use Rattle.varisat_theory.specs.promises.Membership.{◌∈◌, ◌⊆◌}
 use Rattle.varisat_theory.specs.promises.Literals.{Literal, Clause, Assignment, variable_of, opposite, value, SatisfiesAll, MakesTrue, IsSatisfiable}
 use Rattle.varisat_theory.proofs.clauses.Values.{value-opposite, not_both, parity}
 use Rattle.varisat_maxsat.specs.promises.Problems.{Soft, cost, assignment_of, IsSolution, IsOptimum}
-use Rattle.varisat_maxsat.specs.inside.Charges.{charged, AgreeBelow, Reduces, AreAssumed, AreValues}
+use Rattle.varisat_maxsat.specs.inside.Charges.{charged, AgreeBelow, ClausesAreBelow, Reduces, AreAssumed, AreValues}
 use Rattle.varisat_maxsat.specs.declared.charge.Charge.{Charge}
 use Rattle.varisat_maxsat.proofs.Agreeing.{cost-agree, all-agree, value-positive, opposite-variable}
 
@@ -50,20 +50,25 @@ values-true {m} {model} {vs} a t r l i h =
 taken-agree : (n : ℕ) (vs : List Bool) → AgreeBelow n (assignment_of vs) (assignment_of (take n vs))
 taken-agree n vs v h = get_or-take n vs v false h
 
-satisfied-by : {H : List Clause} {S : List Soft} {n m k : ℕ} {P : List Clause} {cs : List Charge} {model : List Literal} {vs : List Bool} →
-    Reduces H S n m P cs [] 0 k → (a : Assignment) → MakesTrue a model → ((c : Clause) → c ∈ P → (l : Literal) × (l ∈ c) × (l ∈ model)) → AreValues m model vs →
-    SatisfiesAll (assignment_of vs) P
-satisfied-by r a t each vals c i = let (l, j, g) = each c i in (l, j, values-true a t vals l g (r.clauses_below c i l j))
+satisfied-by : (m : ℕ) (P : List Clause) (model : List Literal) (vs : List Bool) → ClausesAreBelow m P → (a : Assignment) → MakesTrue a model →
+    ((c : Clause) → c ∈ P → (l : Literal) × (l ∈ c) × (l ∈ model)) → AreValues m model vs → SatisfiesAll (assignment_of vs) P
+satisfied-by m P model vs below a t each vals c i = let (l, j, g) = each c i in (l, j, values-true a t vals l g (below c i l j))
+
+pub solution-of : (H : List Clause) (n m : ℕ) (P : List Clause) (model : List Literal) (vs : List Bool) (S : List Soft) → n ≤ m → ClausesAreBelow n H →
+    ClausesAreBelow m P → ((a : Assignment) → SatisfiesAll a P → SatisfiesAll a H) → (a : Assignment) → MakesTrue a model →
+    ((c : Clause) → c ∈ P → (l : Literal) × (l ∈ c) × (l ∈ model)) → AreValues m model vs →
+    IsSolution (record { variables = n; hard = H; soft = S }) (cost (assignment_of (take n vs)) S) (take n vs)
+solution-of H n m P model vs S named hard_below below upper a t each vals = record {
+  each = let e = vals.each in length-take-le n vs (omega arith);
+  satisfied = all-agree n (assignment_of vs) (assignment_of (take n vs)) H (taken-agree n vs) hard_below (upper (assignment_of vs) (satisfied-by m P model vs below a t each vals));
+  costs = refl;
+}
 
 pub solution : {H : List Clause} {S : List Soft} {n m k : ℕ} {P : List Clause} {cs : List Charge} {model : List Literal} {vs : List Bool} →
     Reduces H S n m P cs [] 0 k → (a : Assignment) → MakesTrue a model → ((c : Clause) → c ∈ P → (l : Literal) × (l ∈ c) × (l ∈ model)) → AreValues m model vs →
     IsSolution (record { variables = n; hard = H; soft = S }) (cost (assignment_of (take n vs)) S) (take n vs)
-solution {H} {S} {n} {m} {k} {P} {cs} {model} {vs} r a t each vals = record {
-  each = let e = vals.each in let h = r.named in length-take-le n vs (omega arith);
-  satisfied = all-agree n (assignment_of vs) (assignment_of (take n vs)) H (taken-agree n vs) r.hard_below
-      (r.upper (assignment_of vs) (satisfied-by r a t each vals)).0;
-  costs = refl;
-}
+solution {H} {S} {n} {m} {k} {P} {cs} {model} {vs} r a t each vals =
+    solution-of H n m P model vs S r.named r.hard_below r.clauses_below (λ b s. (r.upper b s).0) a t each vals
 
 pub optimum : {H : List Clause} {S : List Soft} {n m k : ℕ} {P : List Clause} {cs : List Charge} {assumed model : List Literal} {vs : List Bool} →
     Reduces H S n m P cs [] 0 k → AreAssumed 0 cs assumed → (a : Assignment) → MakesTrue a model →
@@ -98,7 +103,7 @@ optimum {H} {S} {n} {m} {k} {P} {cs} {assumed} {model} {vs} r q a t each sub val
         turn false e = refl
 
     no_more : cost whole S ≤ k
-    no_more = let e = (r.upper whole (satisfied-by r a t each vals)).1 in let g = charged-none whole cs uncharged in omega arith
+    no_more = let e = (r.upper whole (satisfied-by m P model vs r.clauses_below a t each vals)).1 in let g = charged-none whole cs uncharged in omega arith
 
     least : (b : Assignment) → SatisfiesAll b H → k ≤ cost b S
     least b h = let (d, o, s, e) = r.lower b h in omega arith

@@ -12,7 +12,7 @@ use Rattle.varisat_client.specs.inside.Clients.{Client, RepresentsPast}
 use Rattle.varisat_client.specs.declared.client.SearchEnd.{SearchEnd}
 use Rattle.varisat_client.specs.declared.client.SearchEnd.TheVariants as end
 use Rattle.varisat_maxsat.specs.inside.Charges.{AreAssumed, IsSplit, AreValues}
-use Rattle.varisat_maxsat.specs.inside.Reductions.{IsReady, HasBegun, FindsModel, FindsCore, GivesSoFar, AssumesSoFar}
+use Rattle.varisat_maxsat.specs.inside.Reductions.{IsReady, HasBegun, FindsModel, FindsCore, IsReadyWith, GivesSoFar, AssumesSoFar}
 use Rattle.varisat_maxsat.specs.declared.charge.Charge.{Charge}
 use Rattle.varisat_maxsat.proofs.Taking.{take-item, assumes-none, assumes-one, assumes-not, splits-failed, splits-kept}
 
@@ -160,6 +160,23 @@ search-fails r p q t cs h ls e (past.Unsatisfiable o n m few f) st from eq cl su
   failed = subst (λ x. IsFailedCore p.clauses x q.core) eq m;
 }
 
+pub search-stops : (r : SearchEnd) (p q : Past) (h : Client) → r ≡ end.Interrupted → IsSearchEnd r p q → RepresentsPast h q → p.clause ≡ [] → p.assumptions ≡ [] →
+    IsReadyWith p.clauses h
+search-stops r p q h e (past.Refused o f) st cl su = let z = sym o ∙ e in absurd cc
+search-stops r p q h e (past.Satisfiable o n m few f) st cl su = let z = sym o ∙ e in absurd cc
+search-stops r p q h e (past.Unsatisfiable o n m few f) st cl su = let z = sym o ∙ e in absurd cc
+search-stops r p q h e (past.Interrupted o n m few f) st cl su = record {
+  past = q;
+  ready = record { stands = st; refusal = ap (λ (x : Past). x.refusal) f ∙ n; clause = ap (λ (x : Past). x.clause) f ∙ cl; assumptions = ap (λ (x : Past). x.assumptions) f ∙ su };
+  clauses = ap (λ (x : Past). x.clauses) f;
+}
+
+pub begun-stops : (t : ℕ) (cs : List Charge) (p : Past) (g h : Client) (r : SearchEnd) → r ≡ end.Interrupted → HasBegun t cs p g →
+    ((p : Past) → RepresentsPast g p → (q : Past) × IsSearchEnd r p q × RepresentsPast h q) → IsReadyWith p.clauses h
+begun-stops t cs p g h r e b moves =
+    let (q, m, st) = moves (record (count b.assumed p) { assumed = b.assumed }) b.ready.stands in
+    search-stops r (record (count b.assumed p) { assumed = b.assumed }) q h e m st b.ready.clause b.ready.assumptions
+
 pub begun-finds : (t : ℕ) (cs : List Charge) (p : Past) (g h : Client) (r : SearchEnd) → r ≡ end.Satisfiable → HasBegun t cs p g →
     ((p : Past) → RepresentsPast g p → (q : Past) × IsSearchEnd r p q × RepresentsPast h q) → FindsModel t cs p.clauses h
 begun-finds t cs p g h r e b moves =
@@ -236,9 +253,6 @@ value-appended k model vs x r h = record {
     last v e =
         let f = get_or_push vs x false v (r.each ∙ sym e) in
         (λ g. subst (λ n. 2 * n ∈ model) (sym e) (h.0 (sym f ∙ g)), λ j. f ∙ h.1 (subst (λ n. 2 * n ∈ model) e j))
-
-pub values-start : (g : Client) (p : Past) → IsReady g p → (a : Assignment) → MakesTrue a p.model → AreValues 0 p.model []
-values-start g p r a t = record { each = refl; read = λ v h. absurd (omega arith) }
 
 pub values-next : (g : Client) (k : ℕ) (n r : ℤ) (x : Bool) (vs : List Bool) → literal_numbered n ≡ 2 * k → n ≢ pos 0 → (x ≡ true) ↔ (r ≡ n) →
     ((p : Past) → RepresentsPast g p → ReturnsValue n r p) → ((p : Past) → IsReady g p → (a : Assignment) → MakesTrue a p.model → AreValues k p.model vs) →

@@ -1,9 +1,12 @@
 pub mod Agreeing
 pub mod Adding
 pub mod Taking
+pub mod Exchanging
 pub mod Joining
 pub mod Ending
+pub mod Counting
 pub mod Given
 pub mod Standing
-pub mod Reading
-pub mod Printing
+pub mod Lightening
+pub mod Below
+pub mod Improving

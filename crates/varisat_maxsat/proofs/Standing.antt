@@ -7,14 +7,14 @@ use Rattle.varisat_theory.specs.promises.Membership.{◌∈◌}
 use Rattle.varisat_theory.specs.promises.Literals.{Literal, Clause, Assignment, opposite, MakesTrue, IsSatisfiable}
 use Rattle.varisat_client.specs.promises.Pasts.{Past, empty_past, count, LimitsSteps, Refused, Limited}
 use Rattle.varisat_client.specs.inside.Clients.{Client, RepresentsPast, Moves}
-use Rattle.varisat_maxsat.specs.promises.Problems.{Problem, with_hard, with_soft, paired, problem_of, cost, is_satisfied, assignment_of, IsSolution, IsOptimum}
+use Rattle.varisat_maxsat.specs.promises.Problems.{Problem, with_hard, with_soft, paired, problem_of, cost, is_satisfied, IsOptimum}
 use Rattle.varisat_maxsat.specs.inside.Charges.{AreBelow, Reduces, IsSplit, TakesWeight, AreValues, IsPending}
-use Rattle.varisat_maxsat.specs.inside.Reductions.{IsReady, Finds, FindsModel, FindsCore, Reduction, ReducesTo, ReducesToWith, ReducesToAfter}
+use Rattle.varisat_maxsat.specs.inside.Reductions.{IsReady, FindsModel, FindsCore, Reduction, ReducesTo, ReducesToWith, ReducesToAfter}
 use Rattle.varisat_maxsat.specs.declared.charge.Charge.{Charge}
 use Rattle.varisat_maxsat.proofs.Adding.{nothing-added, hard-added, weightless-soft-added, soft-literal-added, soft-clause-added}
 use Rattle.varisat_maxsat.proofs.Taking.{core-charge, core-pending, core-taken}
 use Rattle.varisat_maxsat.proofs.Joining.{gate, joined, joined-pending, settled}
-use Rattle.varisat_maxsat.proofs.Ending.{unsatisfiable, solution, optimum}
+use Rattle.varisat_maxsat.proofs.Ending.{unsatisfiable, optimum}
 use Rattle.varisat_maxsat.proofs.Agreeing.{cost-append}
 
 -- a clause is given
@@ -65,19 +65,6 @@ stands-clause p r s c w b gives e st = subst (ReducesTo (with_soft w c p)) (sym 
   ready = gives st.past st.ready;
   variables = st.variables;
   reduces = soft-clause-added c w (subst (λ n. AreBelow n c) st.variables b) st.reduces;
-})
-
-finds-moves : (b : Bool) (t : ℕ) (cs : List Charge) (P : List Clause) (g h : Client) → ((q : Past) → IsReady g q → Finds b t cs q.clauses h) → (q : Past) →
-    IsReady g q → q.clauses ≡ P → Finds b t cs P h
-finds-moves b t cs P g h f q r e = subst (λ x. Finds b t cs x h) e (f q r)
-
-pub stands-after : (p : Problem) (r s : Reduction) (b : Bool) (t : ℕ) → ((q : Past) → IsReady r.client q → Finds b t r.charges q.clauses s.client) →
-    s ≡ record r { client = s.client } → ReducesTo p r → ReducesToAfter b t p s
-stands-after p r s b t f e st = subst (ReducesToAfter b t p) (sym e) (record {
-  clauses = st.past.clauses;
-  finds = f st.past st.ready;
-  variables = st.variables;
-  reduces = st.reduces;
 })
 
 -- a core that names no charge
@@ -146,17 +133,6 @@ stands-none p r w st = record {
     upper = st.reduces.upper;
   };
 }
-
--- a model satisfies the hard clauses
-pub stands-solution : (p : Problem) (r : Reduction) (n : ℕ) (vs short : List Bool) →
-    ((q : Past) → IsReady r.client q → (a : Assignment) → MakesTrue a q.model → AreValues n q.model vs) → n ≡ r.named → short ≡ take r.variables vs →
-    (t : ℕ) → ReducesToAfter true t p r → IsSolution p (cost (assignment_of short) p.soft) short
-stands-solution p r n vs short values m e t st =
-    let f : FindsModel t r.charges st.clauses r.client = st.finds in
-    let (a, makes, all, assumes) = f.found.satisfied in
-    let v : AreValues r.named f.past.model vs = subst (λ x. AreValues x f.past.model vs) m (values f.past f.ready a makes) in
-    subst (λ xs. IsSolution p (cost (assignment_of xs) p.soft) xs) (ap (λ x. take x vs) (sym st.variables) ∙ sym e)
-    (solution st.reduces a makes f.found.each v)
 
 -- no charge is due in the model
 pub stands-optimal : (p : Problem) (r : Reduction) (n : ℕ) (vs short : List Bool) →
@@ -228,10 +204,6 @@ pub relax-step : (p : Problem) (r : Reduction) (t w : ℕ) (kept failed after : 
     ((q : Past) → IsReady r.client q → IsSplit q.core r.charges kept failed) → TakesWeight w failed kept after pending →
     ReducesToAfter false t p r → ReducesToWith p pending w (record r { charges = after })
 relax-step p r t w kept failed after pending split takes st = core-relaxes p r (record r { charges = after }) t w kept failed after pending split takes refl st
-
-pub search-step : (p : Problem) (r : Reduction) (h : Client) (b : Bool) (t : ℕ) → ((q : Past) → IsReady r.client q → Finds b t r.charges q.clauses h) →
-    ReducesTo p r → ReducesToAfter b t p (record r { client = h })
-search-step p r h b t f st = stands-after p r (record r { client = h }) b t f refl st
 
 -- what a queue gives that has nothing more
 pub empty-by : (xs ys : List ℕ) → xs ≡ ys → ys ≡ drop 1 xs → xs ≡ []

@@ -26,10 +26,10 @@ split-weight : (b : Bool) (w v : ℕ) → w < v → (if b then v else 0) ≡ (if
 split-weight true w v h = omega arith
 split-weight false w v h = omega arith
 
-fewer-below : (n : ℕ) (cs : List Charge) (c : Charge) → ChargesAreBelow n (cs ++ c ∷ []) → ChargesAreBelow n cs
+pub fewer-below : (n : ℕ) (cs : List Charge) (c : Charge) → ChargesAreBelow n (cs ++ c ∷ []) → ChargesAreBelow n cs
 fewer-below n cs c h d i = h d (∈-append_left d cs (c ∷ []) i)
 
-last-below : (n : ℕ) (cs : List Charge) (c : Charge) → ChargesAreBelow n (cs ++ c ∷ []) → variable_of c.literal < n
+pub last-below : (n : ℕ) (cs : List Charge) (c : Charge) → ChargesAreBelow n (cs ++ c ∷ []) → variable_of c.literal < n
 last-below n cs c h = h c (∈-append_right c cs (c ∷ []) (inl refl))
 
 pending-all : (cs : List Charge) (pending : List Literal) (c : Charge) → ((d : Charge) → d ∈ cs → d.literal ∈ pending) →
@@ -37,15 +37,6 @@ pending-all : (cs : List Charge) (pending : List Literal) (c : Charge) → ((d :
 pending-all cs pending c h d i =
     ⊎_elim (λ j. ∈-append_left d.literal pending (c.literal ∷ []) (h d j))
     (λ e. ∈-append_right d.literal pending (c.literal ∷ []) (inl (ap (λ (x : Charge). x.literal) e))) (last-cases d cs c i)
-
--- no charge yet
-pub takes-none : (w : ℕ) (kept : List Charge) → TakesWeight w [] kept kept []
-takes-none w kept = record {
-  same = λ a. refl;
-  below = λ n h k. k;
-  pending_below = λ n h l i. absurd i;
-  all = λ c i. absurd i;
-}
 
 -- of a charge something is left
 pub takes-part : {w : ℕ} {cs kept after : List Charge} {pending : List Literal} (c : Charge) → w < c.weight → TakesWeight w cs kept after pending →
@@ -99,14 +90,6 @@ pub item-∈ : {X : Type 0} (xs : List X) (i : ℕ) (v : X) → i < length xs �
 item-∈ {X} xs i v h e = subst (λ x. x ∈ xs) (sym e) (∈-get_or xs i v h)
 
 -- charges that a core divides, one at a time
-pub splits-none : (core : List Literal) → IsSplit core [] [] []
-splits-none core = record {
-  same = λ a. refl;
-  below = λ n h c i. absurd i;
-  failed_below = λ n h c i. absurd i;
-  all = λ c i. absurd i;
-}
-
 pub splits-failed : {core : List Literal} {cs kept failed : List Charge} (c : Charge) → IsSplit core cs kept failed →
     IsSplit core (cs ++ c ∷ []) kept (failed ++ c ∷ [])
 splits-failed {core} {cs} {kept} {failed} c t = record {

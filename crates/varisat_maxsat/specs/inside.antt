@@ -1,5 +1,3 @@
 -- What contracts inside of the program cite. No promise to users rests on these definitions.
 pub mod Charges
 pub mod Reductions
-pub mod Texts
-pub mod Printed

@@ -1,11 +1,11 @@
 //! What is given to a client, and what it is asked.
-ghost use Rattle.std.specs.Prelude.{◌≡◌, ◌≢◌, ◌++◌, ◌∷◌, [], pos, None, OnOk, IfOk};
-ghost use Rattle.varisat_theory.specs.promises.Literals.{Assignment, MakesTrue};
+ghost use Rattle.std.specs.Prelude.{◌≡◌, ◌≢◌, ◌++◌, ◌∷◌, [], List, pos, None, OnOk, IfOk, MatchOption};
+ghost use Rattle.varisat_theory.specs.promises.Literals.{Clause, Assignment, SatisfiesAll, MakesTrue};
 ghost use Rattle.varisat_literals.specs.promises.Numbers.{literal_numbered};
 ghost use Rattle.varisat_client.specs.promises.Pasts.{Past, count};
 ghost use Rattle.varisat_client.specs.inside.Clients.{RepresentsPast};
 ghost use Rattle.varisat_maxsat.specs.inside.Charges.{AreBelow, IsSplit, AreValues};
-ghost use Rattle.varisat_maxsat.specs.inside.Reductions.{IsReady, HasBegun, Finds};
+ghost use Rattle.varisat_maxsat.specs.inside.Reductions.{IsReady, HasBegun, FindsCore, FindsWithin, GivesUp, KeepsParted, FindsLightly};
 
 use crate::charge::Charge;
 use crate::refusal::MaxSatError;
@@ -94,15 +94,15 @@ pub(crate) fn search<A: Allocator + Copy>(
     client: &mut Client<A>,
     charges: &[Charge],
     threshold: u64,
-) -> Result<bool, MaxSatError>
+) -> Result<Option<bool>, MaxSatError>
     ensures { IfOk result
-        (λ b. (p : Past) → IsReady client.old p → Finds b threshold charges.now p.clauses client.new) }
+        (λ o. (p : Past) → IsReady client.old p → FindsWithin o threshold charges.now p.clauses client.new) }
 {
     assume(client, charges, threshold)?;
     match client.search() {
-        SearchEnd::Satisfiable => Ok(true),
-        SearchEnd::Unsatisfiable => Ok(false),
-        SearchEnd::Interrupted => Err(MaxSatError::StepsSpent),
+        SearchEnd::Satisfiable => Ok(Some(true)),
+        SearchEnd::Unsatisfiable => Ok(Some(false)),
+        SearchEnd::Interrupted => Ok(None),
         SearchEnd::Refused => {
             ensure_accepted(client)?;
             Err(MaxSatError::StepsSpent)
@@ -129,6 +129,73 @@ pub(crate) fn divide<A: Allocator + Copy>(
         }
     }
     Ok(Split { kept, failed })
+}
+
+/// Gives up the charges of the core. False is for a core that names none.
+fn give_up_core<A: Allocator + Copy>(
+    client: &Client<A>,
+    left: &mut Vec<Charge, A>,
+    given_up: &mut Vec<Charge, A>,
+    alloc: A,
+) -> Result<bool, MaxSatError>
+    ensures { IfOk result
+        (λ b. (P : List Clause) → FindsCore 0 left.old.items P client.now →
+        GivesUp b left.old.items given_up.old.items left.new.items given_up.new.items P) }
+{
+    let Split { kept, failed } = divide(client, left.as_slice(), alloc)?;
+    if failed.is_empty() {
+        return Ok(false);
+    }
+    given_up.extend_from_slice(&failed)?;
+    *left = kept;
+    Ok(true)
+}
+
+/// Gives up all charges that are left. Refuses where there is none.
+fn give_up_all<A: Allocator + Copy>(
+    left: &mut Vec<Charge, A>,
+    given_up: &mut Vec<Charge, A>,
+) -> Result<(), MaxSatError>
+    ensures { OnOk result (KeepsParted left.old.items given_up.old.items left.new.items given_up.new.items) }
+{
+    if left.is_empty() {
+        return Err(MaxSatError::StepsSpent);
+    }
+    given_up.extend_from_slice(left.as_slice())?;
+    left.clear();
+    Ok(())
+}
+
+/// Searches for a model in which few charges are due: those of each core are given up, and all where a search stops.
+/// They come first in the list that is returned. None is for clauses that no assignment satisfies.
+pub(crate) fn search_lightly<A: Allocator + Copy>(
+    client: &mut Client<A>,
+    charges: &[Charge],
+    alloc: A,
+) -> Result<Option<Vec<Charge, A>>, MaxSatError>
+    ensures { IfOk result
+        (λ o. (p : Past) → IsReady client.old p →
+        MatchOption o ((a : Assignment) → SatisfiesAll a p.clauses → ⊥)
+        (λ list. FindsLightly charges.now list.items p.clauses client.new)) }
+{
+    let mut left = Vec::new(alloc);
+    left.extend_from_slice(charges)?;
+    let mut given_up = Vec::new(alloc);
+    'turns: for _ in 0..u64::MAX {
+        let Some(found) = search(client, &left, 0)? else {
+            give_up_all(&mut left, &mut given_up)?;
+            continue;
+        };
+        if found {
+            given_up.extend_from_slice(&left)?;
+            return Ok(Some(given_up));
+        }
+        let named = give_up_core(client, &mut left, &mut given_up, alloc)?;
+        if !named {
+            return Ok(None);
+        }
+    }
+    Err(MaxSatError::StepsSpent)
 }
 
 /// The values of so many variables in the client's model.

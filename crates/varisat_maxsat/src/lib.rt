@@ -2,13 +2,12 @@
 #![tactic(auto)]
 
 mod charge;
+mod counter;
 mod feeding;
 pub mod problem;
-pub mod program;
 mod reduction;
 pub mod refusal;
 pub mod solving;
-pub mod wcnf;
 
 pub use problem::Problem;
 pub use refusal::MaxSatError;

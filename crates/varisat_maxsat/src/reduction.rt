@@ -1,16 +1,18 @@
 //! A problem that is reduced to hard clauses, and literals that cost a weight each.
 ghost use Rattle.std.specs.Prelude.{◌≡◌, ◌+◌, ◌*◌, ◌++◌, ◌∷◌, [], List, ℕ, OnOk, IfOk, true, false};
 ghost use Rattle.varisat_maxsat.specs.promises.Problems.{Problem, with_hard, with_soft, assignment_of, cost, IsSolution, IsOptimum};
-ghost use Rattle.varisat_maxsat.specs.inside.Reductions.{ReducesTo, ReducesToWith, ReducesToAfter, IsRelaxed};
+ghost use Rattle.varisat_maxsat.specs.inside.Reductions.{ReducesTo, ReducesToWith, ReducesToAfter, ReducesToBelow, FindsSolution, IsDecided, IsImproved, Keeps, IsRelaxed};
 
-use crate::charge::{Charge, least_weight, take_weight};
-use crate::feeding::{Split, divide, ensure_below, give, search, values};
+use crate::charge::{Charge, Joined, divide_digits, join_equal, least_weight, raised, take_weight};
+use crate::counter::{Counter, adds_up, counter_of_charge, is_within};
+use crate::feeding::{Split, divide, ensure_below, give, search, search_lightly, values};
 use crate::refusal::MaxSatError;
 use std::alloc::Allocator;
 use std::collections::VecDeque;
 use std::marker::Model;
 use varisat_client::client::Client;
 use varisat_literals::{Lit, VARIABLE_LIMIT};
+use varisat_sums::{Rule, Sum};
 
 /// A problem that is brought down.
 #[derive(Drop)]
@@ -21,6 +23,8 @@ pub(crate) struct Reduction<A: Allocator + Copy> {
     named: usize,
     charges: Vec<Charge, A>,
     bound: u64,
+    counters: Vec<Counter, A>,
+    ceiling: u64,
 }
 
 impl<A: Allocator + Copy> Model for Reduction<A> {
@@ -28,7 +32,7 @@ impl<A: Allocator + Copy> Model for Reduction<A> {
 
     ghost Value = { reductions.Reduction };
 
-    ghost view = { λ r. record { client = r.client; variables = r.variables; named = r.named; charges = r.charges.items; bound = r.bound } };
+    ghost view = { λ r. reductions.reduction_of r.client r.variables r.named r.charges.items r.bound r.counters.items r.ceiling };
 }
 
 impl<A: Allocator + Copy> Reduction<A> {
@@ -43,6 +47,8 @@ impl<A: Allocator + Copy> Reduction<A> {
             named: variables,
             charges: Vec::new(alloc),
             bound: 0,
+            counters: Vec::new(alloc),
+            ceiling: 0,
         }
     }
 
@@ -109,8 +115,24 @@ impl<A: Allocator + Copy> Reduction<A> {
     pub fn search(&mut self, threshold: u64) -> Result<bool, MaxSatError>
         ensures { IfOk result (λ b. (p : Problem) → ReducesTo p self.old → ReducesToAfter b threshold p self.new) }
     {
-        let found = search(&mut self.client, &self.charges, threshold)?;
-        Ok(found)
+        match search(&mut self.client, &self.charges, threshold)? {
+            Some(found) => Ok(found),
+            None => Err(MaxSatError::StepsSpent),
+        }
+    }
+
+    /// Searches for a model in which few charges are true, and puts those first that were given up.
+    pub fn search_lightly(&mut self) -> Result<bool, MaxSatError>
+        ensures { IfOk result (λ b. (p : Problem) → ReducesTo p self.old → IsDecided b p self.new) }
+    {
+        let found = search_lightly(&mut self.client, &self.charges, self.alloc)?;
+        match found {
+            Some(charges) => {
+                self.charges = charges;
+                Ok(true)
+            }
+            None => Ok(false),
+        }
     }
 
     /// Brings the problem further down by the core. False is for one that no assignment satisfies.
@@ -168,6 +190,143 @@ impl<A: Allocator + Copy> Reduction<A> {
         Ok(either)
     }
 
+    /// Joins the charges of each variable.
+    pub fn join_charges(&mut self) -> Result<(), MaxSatError>
+        ensures { OnOk result ((p : Problem) → ReducesTo p self.old → ReducesTo p self.new) }
+    {
+        let Joined { charges, due } = join_equal(&self.charges, self.alloc)?;
+        self.bound = raised(self.bound, due)?;
+        self.charges = charges;
+        Ok(())
+    }
+
+    /// Divides the charges into one for each digit of their weights. From now on only what costs less than the ceiling
+    /// is asked for.
+    pub fn begin_counting(&mut self, radix: u64, ceiling: u64) -> Result<(), MaxSatError>
+        ensures { OnOk result ((p : Problem) → ReducesTo p self.old → ReducesToBelow p self.new) }
+    {
+        let parts = divide_digits(&self.charges, radix, self.alloc)?;
+        self.charges = parts;
+        self.counters.clear();
+        self.ceiling = ceiling;
+        Ok(())
+    }
+
+    /// The ceiling.
+    pub fn ceiling(&self) -> u64
+        ensures { result ≡ self.now.ceiling }
+    {
+        self.ceiling
+    }
+
+    /// Lowers the ceiling, and never raises it.
+    pub fn lower_ceiling(&mut self, ceiling: u64)
+        ensures { Keeps self.old self.new }
+    {
+        self.ceiling = self.ceiling.min(ceiling);
+    }
+
+    /// How many counters there are.
+    pub fn counter_count(&self) -> usize {
+        self.counters.len()
+    }
+
+    /// Counts a sum of charges.
+    pub fn add_counter(&mut self, sum: Sum) -> Result<(), MaxSatError>
+        ensures { OnOk result (Keeps self.old self.new) }
+    {
+        if let Some(counter) = counter_of_charge(&self.charges, sum) {
+            self.counters.push(counter)?;
+            return Ok(());
+        }
+        let literal = self.fresh()?;
+        self.counters.push(Counter {
+            literal,
+            at_least: sum.at_least,
+            first: sum.first,
+            end: sum.end,
+        })?;
+        Ok(())
+    }
+
+    /// Gives the clause of a rule by which one counter follows from another one.
+    fn imply(&mut self, cause: usize, effect: usize) -> Result<(), MaxSatError>
+        ensures { OnOk result (Keeps self.old self.new) }
+    {
+        if cause >= self.counters.len() || effect >= self.counters.len() {
+            return Ok(());
+        }
+        let cause = self.counters[cause];
+        let effect = self.counters[effect];
+        if !is_within(&cause, &effect) {
+            return Ok(());
+        }
+        give(&mut self.client, &[!cause.literal, effect.literal])?;
+        Ok(())
+    }
+
+    /// Gives the clause of a rule by which one counter follows from two others.
+    fn add_up(&mut self, left: usize, right: usize, effect: usize) -> Result<(), MaxSatError>
+        ensures { OnOk result (Keeps self.old self.new) }
+    {
+        let count = self.counters.len();
+        if left >= count || right >= count || effect >= count {
+            return Ok(());
+        }
+        let left = self.counters[left];
+        let right = self.counters[right];
+        let effect = self.counters[effect];
+        if !adds_up(&left, &right, &effect) {
+            return Ok(());
+        }
+        give(
+            &mut self.client,
+            &[!left.literal, !right.literal, effect.literal],
+        )?;
+        Ok(())
+    }
+
+    /// Gives the clause of a rule.
+    pub fn follow(&mut self, rule: Rule) -> Result<(), MaxSatError>
+        ensures { OnOk result (Keeps self.old self.new) }
+    {
+        if rule.left == rule.right {
+            self.imply(rule.left, rule.effect)?;
+        } else {
+            self.add_up(rule.left, rule.right, rule.effect)?;
+        }
+        Ok(())
+    }
+
+    /// Forbids what costs no less than the ceiling by this counter.
+    pub fn forbid(&mut self, index: usize) -> Result<(), MaxSatError>
+        ensures { OnOk result (Keeps self.old self.new) }
+    {
+        if index >= self.counters.len() {
+            return Ok(());
+        }
+        let counter = self.counters[index];
+        if counter.at_least < self.ceiling.saturating_sub(self.bound) {
+            return Ok(());
+        }
+        give(&mut self.client, &[!counter.literal])?;
+        Ok(())
+    }
+
+    /// Searches for a model that costs less than the ceiling, as far as the counters count.
+    pub fn search_below(&mut self) -> Result<bool, MaxSatError>
+        ensures { IfOk result
+            (λ b. (p : Problem) → ReducesToBelow p self.old → IsImproved b p self.new) }
+    {
+        if self.ceiling <= self.bound {
+            return Ok(false);
+        }
+        let Some(found) = search(&mut self.client, &[], 0)? else {
+            return Err(MaxSatError::StepsSpent);
+        };
+        Ok(found)
+    }
+
     /// The bound.
     pub fn bound(&self) -> u64
         ensures { result ≡ self.now.bound }
@@ -178,7 +337,7 @@ impl<A: Allocator + Copy> Reduction<A> {
     /// The values of the problem's variables in the model.
     pub fn values(&self) -> Result<Vec<bool, A>, MaxSatError>
         ensures solution { IfOk result
-            (λ vs. (p : Problem) (t : ℕ) → ReducesToAfter true t p self.now →
+            (λ vs. (p : Problem) → FindsSolution p self.now →
             IsSolution p (cost (assignment_of vs.items) p.soft) vs.items) }
         ensures optimum { IfOk result
             (λ vs. (p : Problem) → ReducesToAfter true 0 p self.now → IsOptimum p self.now.bound vs.items) }
@@ -186,15 +345,5 @@ impl<A: Allocator + Copy> Reduction<A> {
         let mut values = values(&self.client, self.named, self.alloc)?;
         values.truncate(self.variables);
         Ok(values)
-    }
-}
-
-/// The bound and the weight.
-fn raised(bound: u64, weight: u64) -> Result<u64, MaxSatError>
-    ensures { IfOk result (λ sum. sum ≡ bound + weight) }
-{
-    match bound.checked_add(weight) {
-        Some(sum) => Ok(sum),
-        None => Err(MaxSatError::CostOverflow),
     }
 }

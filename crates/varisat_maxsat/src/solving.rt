@@ -1,14 +1,21 @@
 //! Solving.
-ghost use Rattle.std.specs.Prelude.{◌≡◌, ℕ, Some, IfOk, IfSome, MatchOption, true};
+ghost use Rattle.std.specs.Prelude.{◌≤◌, OnOk, IfOk, IfSome, MatchOption, true};
 ghost use Rattle.varisat_theory.specs.promises.Literals.{IsSatisfiable};
-ghost use Rattle.varisat_maxsat.specs.promises.Problems.{Problem as Asked, IsOptimum, IsAnswer, starting};
-ghost use Rattle.varisat_maxsat.specs.inside.Reductions.{ReducesTo, ReducesToAfter, Ends};
+ghost use Rattle.varisat_maxsat.specs.promises.Problems.{Problem as Asked, IsSolution, IsOptimum, IsAnswer, starting};
+ghost use Rattle.varisat_maxsat.specs.inside.Reductions.{ReducesTo, ReducesToAfter, ReducesToBelow, FindsSolution, IsEnded, Keeps};
 
 use crate::charge::greatest_weight;
 use crate::problem::Problem;
 use crate::reduction::Reduction;
 use crate::refusal::MaxSatError;
 use std::alloc::Allocator;
+use varisat_sums::Plan;
+
+// Sums of more charges are not counted.
+const MOST_CHARGES: usize = 4096;
+
+// The weights are counted by digits to this base.
+const RADIX: u64 = 2;
 
 /// The least cost, and values of the variables at this cost.
 #[derive(Drop)]
@@ -27,9 +34,8 @@ pub struct Solution<A: Allocator + Copy> {
 
 /// The bound with the values of the model.
 fn optimum_of<A: Allocator + Copy>(reduction: &Reduction<A>) -> Result<Solution<A>, MaxSatError>
-    ensures least { IfOk result
+    ensures { IfOk result
         (λ m. (p : Asked) → ReducesToAfter true 0 p reduction.now → IsOptimum p m.cost m.values.items) }
-    ensures told { IfOk result (λ m. m.is_optimum ≡ true) }
 {
     let values = reduction.values()?;
     Ok(Solution {
@@ -53,9 +59,9 @@ fn keep_better<A: Allocator + Copy>(
     reduction: &Reduction<A>,
     best: &mut Option<Solution<A>>,
 ) -> Result<(), MaxSatError>
-    ensures { (t : ℕ) → ReducesToAfter true t problem.now reduction.now →
-        IfSome best.old (λ s. IsAnswer s.is_optimum problem.now s.cost s.values.items) →
-        IfSome best.new (λ s. IsAnswer s.is_optimum problem.now s.cost s.values.items) }
+    ensures { FindsSolution problem.now reduction.now →
+        IfSome best.old (λ s. IsSolution problem.now s.cost s.values.items) →
+        IfSome best.new (λ s. IsSolution problem.now s.cost s.values.items) }
 {
     let values = reduction.values()?;
     let Some(cost) = problem.cost(&values) else {
@@ -71,25 +77,26 @@ fn keep_better<A: Allocator + Copy>(
     Ok(())
 }
 
-/// Searches, and relaxes the problem by each core, until the model is one that nothing is charged in. The first search assumes
-/// nothing of charges below a threshold.
+/// Searches, and relaxes the problem by each core, until the model is one that nothing is charged in.
 fn descend<A: Allocator + Copy>(
     problem: &Problem<A>,
     reduction: &mut Reduction<A>,
-    first: u64,
     best: &mut Option<Solution<A>>,
 ) -> Result<bool, MaxSatError>
     ensures ends { IfOk result
-        (λ b. ReducesTo problem.now reduction.old → Ends b problem.now reduction.new) }
+        (λ b. ReducesTo problem.now reduction.old →
+        IsEnded b problem.now (IfSome best.new (λ s. IsOptimum problem.now s.cost s.values.items))) }
     ensures best { ReducesTo problem.now reduction.old →
-        IfSome best.old (λ s. IsAnswer s.is_optimum problem.now s.cost s.values.items) →
-        IfSome best.new (λ s. IsAnswer s.is_optimum problem.now s.cost s.values.items) }
+        IfSome best.old (λ s. IsSolution problem.now s.cost s.values.items) →
+        IfSome best.new (λ s. IsSolution problem.now s.cost s.values.items) }
 {
     let greatest = greatest_weight(reduction.charges());
-    let mut threshold = first;
+    let mut threshold = greatest;
     'turns: for _ in 0..u64::MAX {
         if reduction.search(threshold)? {
             if threshold == 0 {
+                let optimum = optimum_of(reduction)?;
+                *best = Some(optimum);
                 return Ok(true);
             }
             keep_better(problem, reduction, best)?;
@@ -101,33 +108,195 @@ fn descend<A: Allocator + Copy>(
     Err(MaxSatError::StepsSpent)
 }
 
-/// Limits the steps of each search, if they are to be, and returns the threshold of the first one. Where they are limited that one
-/// assumes nothing, so that it finds a solution soon.
-fn begin<A: Allocator + Copy>(reduction: &mut Reduction<A>, steps: Option<u64>) -> u64
-    ensures { (p : Asked) → ReducesTo p reduction.old → ReducesTo p reduction.new }
-{
-    match steps {
-        Some(steps) => {
-            reduction.limit_steps(steps);
-            u64::MAX
-        }
-        None => greatest_weight(reduction.charges()),
+/// The cost of the best solution, or 0 where there is none.
+fn best_cost<A: Allocator + Copy>(best: &Option<Solution<A>>) -> u64 {
+    match best {
+        Some(solution) => solution.cost,
+        None => 0,
     }
 }
 
-/// The best solution where the steps are spent.
-fn solution_or<A: Allocator + Copy>(
-    best: Option<Solution<A>>,
-    error: MaxSatError,
-) -> Result<Solution<A>, MaxSatError>
-    ensures { IfOk result (λ s. best ≡ Some s) }
+/// Counts the sums of a plan that are not counted yet, and gives the clauses of its rules.
+fn follow<A: Allocator + Copy>(
+    reduction: &mut Reduction<A>,
+    plan: &Plan<A>,
+) -> Result<(), MaxSatError>
+    ensures { OnOk result (Keeps reduction.old reduction.new) }
 {
-    if error != MaxSatError::StepsSpent {
-        return Err(error);
+    let sums = plan.sums();
+    'sums: for index in reduction.counter_count()..sums.len() {
+        reduction.add_counter(sums[index])?;
     }
+    'rules: for rule in plan.rules() {
+        reduction.follow(*rule)?;
+    }
+    Ok(())
+}
+
+/// Forbids what costs no less than the ceiling.
+fn forbid_ceiling<A: Allocator + Copy>(
+    reduction: &mut Reduction<A>,
+    plan: &mut Plan<A>,
+) -> Result<(), MaxSatError>
+    ensures { OnOk result (Keeps reduction.old reduction.new) }
+{
+    let least = reduction.ceiling().saturating_sub(reduction.bound());
+    let Some(index) = plan.reach(least)? else {
+        return Ok(());
+    };
+    follow(reduction, plan)?;
+    plan.forget_rules();
+    reduction.forbid(index)?;
+    Ok(())
+}
+
+/// The weights of the charges.
+fn weights_of<A: Allocator + Copy>(
+    reduction: &Reduction<A>,
+    alloc: A,
+) -> Result<Vec<u64, A>, MaxSatError> {
+    let mut weights = Vec::new(alloc);
+    for charge in reduction.charges() {
+        weights.push(charge.weight)?;
+    }
+    Ok(weights)
+}
+
+/// Begins to count what the charges cost, as far as less than the ceiling.
+fn begin_counting<A: Allocator + Copy>(
+    reduction: &mut Reduction<A>,
+    ceiling: u64,
+    alloc: A,
+) -> Result<Plan<A>, MaxSatError>
+    ensures { OnOk result ((p : Asked) → ReducesTo p reduction.old → ReducesToBelow p reduction.new) }
+{
+    reduction.begin_counting(RADIX, ceiling)?;
+    let weights = weights_of(reduction, alloc)?;
+    let mut plan = Plan::new_in(alloc);
+    plan.count(&weights, RADIX, ceiling.saturating_sub(reduction.bound()))?;
+    Ok(plan)
+}
+
+/// Refuses a best solution that costs more than the ceiling.
+fn ensure_met<A: Allocator + Copy>(
+    reduction: &Reduction<A>,
+    best: &Option<Solution<A>>,
+) -> Result<(), MaxSatError>
+    ensures { OnOk result (IfSome best.now (λ s. s.cost ≤ reduction.now.ceiling)) }
+{
     match best {
-        Some(solution) => Ok(solution),
-        None => Err(error),
+        Some(solution) => {
+            if solution.cost > reduction.ceiling() {
+                return Err(MaxSatError::StepsSpent);
+            }
+            Ok(())
+        }
+        None => Ok(()),
+    }
+}
+
+/// Lowers the ceiling to the cost. Refuses one that is no less, so that there is an end whatever the plan counts.
+fn lower_ceiling<A: Allocator + Copy>(
+    reduction: &mut Reduction<A>,
+    cost: u64,
+) -> Result<(), MaxSatError>
+    ensures { Keeps reduction.old reduction.new }
+{
+    if cost >= reduction.ceiling() {
+        return Err(MaxSatError::StepsSpent);
+    }
+    reduction.lower_ceiling(cost);
+    Ok(())
+}
+
+/// Searches for better solutions, until there is none.
+fn improve<A: Allocator + Copy>(
+    problem: &Problem<A>,
+    reduction: &mut Reduction<A>,
+    best: &mut Option<Solution<A>>,
+    alloc: A,
+) -> Result<(), MaxSatError>
+    ensures ends { OnOk result
+        (ReducesTo problem.now reduction.old →
+        IfSome best.old (λ s. IsSolution problem.now s.cost s.values.items) →
+        IfSome best.new (λ s. IsOptimum problem.now s.cost s.values.items)) }
+    ensures best { ReducesTo problem.now reduction.old →
+        IfSome best.old (λ s. IsSolution problem.now s.cost s.values.items) →
+        IfSome best.new (λ s. IsSolution problem.now s.cost s.values.items) }
+{
+    let mut plan = begin_counting(reduction, best_cost(best), alloc)?;
+    'turns: for _ in 0..u64::MAX {
+        forbid_ceiling(reduction, &mut plan)?;
+        let found = reduction.search_below()?;
+        if !found {
+            ensure_met(reduction, best)?;
+            return Ok(());
+        }
+        keep_better(problem, reduction, best)?;
+        lower_ceiling(reduction, best_cost(best))?;
+    }
+    Err(MaxSatError::StepsSpent)
+}
+
+/// Whether there is a solution, and few enough charges to be counted.
+fn is_countable<A: Allocator + Copy>(reduction: &Reduction<A>, best: &Option<Solution<A>>) -> bool {
+    best.is_some() && reduction.charges().len() <= MOST_CHARGES
+}
+
+/// Searches for a solution, and for better ones until there is none. False is for hard clauses that nothing satisfies.
+fn decide<A: Allocator + Copy>(
+    problem: &Problem<A>,
+    reduction: &mut Reduction<A>,
+    best: &mut Option<Solution<A>>,
+    alloc: A,
+) -> Result<bool, MaxSatError>
+    ensures ends { IfOk result
+        (λ b. ReducesTo problem.now reduction.old →
+        IfSome best.old (λ s. IsSolution problem.now s.cost s.values.items) →
+        IsEnded b problem.now (IfSome best.new (λ s. IsOptimum problem.now s.cost s.values.items))) }
+    ensures best { ReducesTo problem.now reduction.old →
+        IfSome best.old (λ s. IsSolution problem.now s.cost s.values.items) →
+        IfSome best.new (λ s. IsSolution problem.now s.cost s.values.items) }
+{
+    let found = reduction.search_lightly()?;
+    if !found {
+        return Ok(false);
+    }
+    keep_better(problem, reduction, best)?;
+    if is_countable(reduction, best) {
+        improve(problem, reduction, best, alloc)?;
+        return Ok(true);
+    }
+    let ended = descend(problem, reduction, best)?;
+    Ok(ended)
+}
+
+/// Limits the steps of each search, if they are to be.
+fn limit_steps<A: Allocator + Copy>(reduction: &mut Reduction<A>, steps: Option<u64>)
+    ensures { (p : Asked) → ReducesTo p reduction.old → ReducesTo p reduction.new }
+{
+    match steps {
+        Some(steps) => reduction.limit_steps(steps),
+        None => {}
+    }
+}
+
+/// The best solution, as an optimum or not.
+fn answer<A: Allocator + Copy>(
+    best: Option<Solution<A>>,
+    is_optimum: bool,
+) -> Result<Solution<A>, MaxSatError>
+    ensures { IfOk result
+        (λ s. (p : Asked) → IfSome best (λ t. IsAnswer is_optimum p t.cost t.values.items) →
+        IsAnswer s.is_optimum p s.cost s.values.items) }
+{
+    match best {
+        Some(solution) => Ok(Solution {
+            cost: solution.cost,
+            values: solution.values,
+            is_optimum,
+        }),
+        None => Err(MaxSatError::StepsSpent),
     }
 }
 
@@ -136,6 +305,7 @@ fn solve<A: Allocator + Copy>(
     problem: &Problem<A>,
     reduction: &mut Reduction<A>,
     steps: Option<u64>,
+    alloc: A,
 ) -> Result<Option<Solution<A>>, MaxSatError>
     ensures { IfOk result
         (λ o. ReducesTo (starting problem.now.variables) reduction.old →
@@ -143,18 +313,22 @@ fn solve<A: Allocator + Copy>(
         (λ s. IsAnswer s.is_optimum problem.now s.cost s.values.items)) }
 {
     problem.reduce(reduction)?;
-    let first = begin(reduction, steps);
+    reduction.join_charges()?;
+    limit_steps(reduction, steps);
     let mut best = None;
-    match descend(problem, reduction, first, &mut best) {
+    match decide(problem, reduction, &mut best, alloc) {
         Ok(found) => {
             if !found {
                 return Ok(None);
             }
-            let optimum = optimum_of(reduction)?;
+            let optimum = answer(best, true)?;
             Ok(Some(optimum))
         }
         Err(error) => {
-            let solution = solution_or(best, error)?;
+            if error != MaxSatError::StepsSpent {
+                return Err(error);
+            }
+            let solution = answer(best, false)?;
             Ok(Some(solution))
         }
     }
@@ -172,7 +346,7 @@ pub fn optimize_within<A: Allocator + Copy>(
         (λ s. IsAnswer s.is_optimum problem.now s.cost s.values.items)) }
 {
     let mut reduction = Reduction::new_in(alloc, problem.var_count());
-    let found = solve(problem, &mut reduction, steps);
+    let found = solve(problem, &mut reduction, steps, alloc);
     // In one step: at the end of a scope each part of it would be one.
     drop(reduction);
     found

@@ -1,11 +1,12 @@
 -- A client that holds a problem as it was brought down.
-use Rattle.std.specs.Prelude.{◌≡◌, ℕ, Bool, true, false, None, List, []}
-use Rattle.varisat_theory.specs.promises.Literals.{Literal, Clause, IsFailedCore, IsSatisfiable}
+use Rattle.std.specs.Prelude.{◌≡◌, ◌≤◌, ℕ, Bool, true, false, Option, Some, None, List, []}
+use Rattle.varisat_theory.specs.promises.Literals.{Literal, Clause, Assignment, SatisfiesAll, IsFailedCore, IsSatisfiable}
 use Rattle.varisat_client.specs.promises.Pasts.{Past, IsFoundModel, count}
 use Rattle.varisat_client.specs.inside.Clients.{Client, RepresentsPast}
-use Rattle.varisat_maxsat.specs.promises.Problems.{Problem}
-use Rattle.varisat_maxsat.specs.inside.Charges.{Reduces, AreAssumed, IsPending}
+use Rattle.varisat_maxsat.specs.promises.Problems.{Problem, cost}
+use Rattle.varisat_maxsat.specs.inside.Charges.{ClausesAreBelow, Exchanges, IsParted, Reduces, ReducesBelow, AreAssumed, IsPending}
 use Rattle.varisat_maxsat.specs.declared.charge.Charge.{Charge}
+use Rattle.varisat_maxsat.specs.declared.counter.Counter.{Counter}
 
 -- No call was refused, and neither a clause nor an assumption is begun.
 pub record IsReady (g : Client) (p : Past) : Type 0 where
@@ -41,13 +42,52 @@ abbrev pub Finds : Bool → ℕ → List Charge → List Clause → Client → T
 Finds true = FindsModel
 Finds false = FindsCore
 
--- A client, how many variables the problem has, how many have a name, the charges, and a bound below each cost.
+-- No call was refused, and these clauses were given.
+pub record IsReadyWith (P : List Clause) (h : Client) : Type 0 where
+  pub past : Past
+  pub ready : IsReady h past
+  pub clauses : past.clauses ≡ P
+
+abbrev pub FindsWithin : Option Bool → ℕ → List Charge → List Clause → Client → Type 0
+FindsWithin None threshold charges P h = IsReadyWith P h
+FindsWithin (Some found) threshold charges P h = Finds found threshold charges P h
+
+-- A model was found in which none of the charges that are left is due, and the charges are ordered anew.
+pub record FindsLightly (charges after : List Charge) (P : List Clause) (h : Client) : Type 0 where
+  pub left : List Charge
+  pub finds : FindsModel 0 left P h
+  pub exchanges : Exchanges charges 0 after
+
+-- A search goes on for such a model.
+pub record SearchesOn (charges left given_up : List Charge) (P : List Clause) (h : Client) : Type 0 where
+  pub ready : IsReadyWith P h
+  pub parted : IsParted charges left given_up
+
+-- more charges were given up
+abbrev pub KeepsParted : List Charge → List Charge → List Charge → List Charge → Type 0
+KeepsParted left given_up later more =
+    (charges : List Charge) → IsParted charges left given_up → IsParted charges later more
+
+-- The charges of a core were given up, or nothing satisfies the clauses.
+abbrev pub GivesUp : Bool → List Charge → List Charge → List Charge → List Charge → List Clause → Type 0
+GivesUp true left given_up later more P = KeepsParted left given_up later more
+GivesUp false left given_up later more P = (a : Assignment) → SatisfiesAll a P → ⊥
+
+-- A client, how many variables the problem has, how many have a name, the charges, and a bound that no cost is below;
+-- counters of the charges, and a ceiling: once counting began, only what costs less is asked for.
 pub record Reduction : Type 0 where
   pub client : Client
   pub variables : ℕ
   pub named : ℕ
   pub charges : List Charge
   pub bound : ℕ
+  pub counters : List Counter
+  pub ceiling : ℕ
+
+-- one of these parts
+abbrev pub reduction_of : Client → ℕ → ℕ → List Charge → ℕ → List Counter → ℕ → Reduction
+reduction_of g v n cs k ks u =
+    record { client = g; variables = v; named = n; charges = cs; bound = k; counters = ks; ceiling = u }
 
 -- the problem was brought down so far
 pub record ReducesTo (p : Problem) (r : Reduction) : Type 0 where
@@ -71,15 +111,48 @@ pub record ReducesToAfter (found : Bool) (threshold : ℕ) (p : Problem) (r : Re
   pub variables : r.variables ≡ p.variables
   pub reduces : Reduces p.hard p.soft p.variables r.named clauses r.charges [] 0 r.bound
 
+-- The problem was brought down to what is asked for below the ceiling.
+pub record ReducesToBelow (p : Problem) (r : Reduction) : Type 0 where
+  pub past : Past
+  pub ready : IsReady r.client past
+  pub variables : r.variables ≡ p.variables
+  pub reduces : ReducesBelow p.hard p.soft p.variables r.named past.clauses r.charges r.counters r.bound r.ceiling
+
+-- each problem that was brought down so still is
+abbrev pub Keeps : Reduction → Reduction → Type 0
+Keeps r s = (p : Problem) → ReducesToBelow p r → ReducesToBelow p s
+
+-- A model was found of clauses to which the hard ones were brought down.
+pub record FindsSolution (p : Problem) (r : Reduction) : Type 0 where
+  pub past : Past
+  pub ready : IsReady r.client past
+  pub assumed : List Literal
+  pub found : IsFoundModel past.clauses assumed past.model
+  pub variables : r.variables ≡ p.variables
+  pub named : p.variables ≤ r.named
+  pub hard_below : ClausesAreBelow p.variables p.hard
+  pub clauses_below : ClausesAreBelow r.named past.clauses
+  pub upper : (a : Assignment) → SatisfiesAll a past.clauses → SatisfiesAll a p.hard
+
+-- The hard clauses are satisfied by a model that was found, or no assignment satisfies them.
+abbrev pub IsDecided : Bool → Problem → Reduction → Type 0
+IsDecided true p r = ReducesTo p r × FindsSolution p r
+IsDecided false p r = IsSatisfiable p.hard → ⊥
+
+-- A model was found that may cost less, or none costs less than the ceiling.
+abbrev pub IsImproved : Bool → Problem → Reduction → Type 0
+IsImproved true p r = ReducesToBelow p r × FindsSolution p r
+IsImproved false p r = (a : Assignment) → SatisfiesAll a p.hard → r.ceiling ≤ cost a p.soft
+
 -- The problem was brought further down, or no assignment satisfies its hard clauses.
 abbrev pub IsRelaxed : Bool → Problem → Reduction → Type 0
 IsRelaxed true p r = ReducesTo p r
 IsRelaxed false p r = IsSatisfiable p.hard → ⊥
 
--- A model was found in which nothing is charged, or no assignment satisfies the hard clauses.
-abbrev pub Ends : Bool → Problem → Reduction → Type 0
-Ends true p r = ReducesToAfter true 0 p r
-Ends false p r = IsSatisfiable p.hard → ⊥
+-- What holds of the best solution at the end, or no assignment satisfies the hard clauses.
+abbrev pub IsEnded : Bool → Problem → Type 0 → Type 0
+IsEnded true p holds = holds
+IsEnded false p holds = IsSatisfiable p.hard → ⊥
 
 -- A clause was given as far as these literals.
 pub record GivesSoFar (g : Client) (ls : List Literal) (h : Client) : Type 0 where

@@ -2,10 +2,10 @@
 
 use std::alloc::{Allocator, Global};
 use varisat_formula::io::MemoryTarget;
-use varisat_maxsat::program::solve_lines;
-use varisat_maxsat::wcnf::{WcnfFault, parse};
 use varisat_maxsat::{MaxSatError, optimize};
 use varisat_tests_heap::CutHeap;
+use varisat_wcnf::program::solve_lines;
+use varisat_wcnf::wcnf::{WcnfFault, parse};
 
 /// What a text comes to.
 #[derive(Clone, Copy, PartialEq, Eq)]
@@ -71,7 +71,7 @@ fn a_fault_has_its_line(rt: HostRuntime) {
     assert!(rt; solved(alloc, "18446744073709551616 1 0\n") == End::Fault(1, WcnfFault::Start));
 }
 
-// Petersen's graph: of each edge a vertex is taken, which costs 1. In the first search no clause can be false.
+// Petersen's graph: of each edge a vertex is taken, which costs 1. A search that assumes nothing meets no false clause.
 const COVER: &[u8] =
     b"h 1 2 0\nh 2 3 0\nh 3 4 0\nh 4 5 0\nh 5 1 0\nh 6 8 0\nh 8 10 0\nh 10 7 0\nh 7 9 0\nh 9 6 0\nh 1 6 0\nh 2 7 0\nh 3 8 0\nh 4 9 0\nh 5 10 0\n1 -1 0\n1 -2 0\n1 -3 0\n1 -4 0\n1 -5 0\n1 -6 0\n1 -7 0\n1 -8 0\n1 -9 0\n1 -10 0\n";
 

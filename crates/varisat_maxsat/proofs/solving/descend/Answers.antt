@@ -1,14 +1,26 @@
 use Rattle.std.proofs.Common.{◌≡◌, true, sym, subst}
 use Rattle.varisat_maxsat.specs.inside.Reductions.{ReducesTo, ReducesToAfter, IsRelaxed}
 use Rattle.varisat_maxsat.proofs.Standing.{stands-still, best-moves, not-false}
+use Rattle.varisat_maxsat.proofs.Below.{after-solution}
 use Rattle.varisat_maxsat.proofs.solving.descend.Goals as goal
 use Rattle.varisat_maxsat.proofs.solving.descend.Goals.{then-branch+else-threshold-eq0+in_ok-keep_better, else-branch+in_ok-relax+else-not-branch}
 
 pub returns-then-threshold-eq0-clause-ends : goal.returns-then-threshold-eq0-clause-ends
 returns-then-threshold-eq0-clause-ends g c = λ st.
-    subst (λ t. ReducesToAfter true t c.args.problem.now c.search.new.self) c.if-threshold-eq0.true
+    c.in_ok-optimum.ensures c.args.problem.now (subst (λ t. ReducesToAfter true t c.args.problem.now c.search.new.self) c.if-threshold-eq0.true
     (subst (λ b. ReducesToAfter b c.turns.threshold c.args.problem.now c.search.new.self) c.if-branch.true
-    (c.in_ok-search.ensures c.args.problem.now (c.turns.invariant.ready st)))
+    (c.in_ok-search.ensures c.args.problem.now (c.turns.invariant.ready st))))
+
+pub returns-then-threshold-eq0-clause-best : goal.returns-then-threshold-eq0-clause-best
+returns-then-threshold-eq0-clause-best g c = λ st h.
+    (c.in_ok-optimum.ensures c.args.problem.now (subst (λ t. ReducesToAfter true t c.args.problem.now c.search.new.self) c.if-threshold-eq0.true
+    (subst (λ b. ReducesToAfter b c.turns.threshold c.args.problem.now c.search.new.self) c.if-branch.true
+    (c.in_ok-search.ensures c.args.problem.now (c.turns.invariant.ready st))))).solution
+
+pub returns-in_err-keep_better-clause-best : goal.returns-in_err-keep_better-clause-best
+returns-in_err-keep_better-clause-best g c = λ st h.
+    c.keep_better.ensures (after-solution _ _ c.turns.threshold (subst (λ b. ReducesToAfter b c.turns.threshold c.args.problem.now c.search.new.self) c.if-branch.true
+    (c.in_ok-search.ensures c.args.problem.now (c.turns.invariant.ready st)))) (c.turns.invariant.best st h)
 
 pub turns-preserved : goal.turns-preserved
 turns-preserved g c =
@@ -16,9 +28,9 @@ turns-preserved g c =
       | then-branch+else-threshold-eq0+in_ok-keep_better w ↦ record {
         ready = λ st. subst (ReducesTo c.args.problem.now) (sym w.reduction-is)
             (stands-still c.args.problem.now _ _ _ (c.in_ok-search.ensures c.args.problem.now (c.turns.invariant.ready st)));
-        best = λ st h. best-moves _ _ _ w.best-is (w.keep_better.ensures c.turns.threshold
+        best = λ st h. best-moves _ _ _ w.best-is (w.keep_better.ensures (after-solution _ _ c.turns.threshold
             (subst (λ b. ReducesToAfter b c.turns.threshold c.args.problem.now c.search.new.self) w.if-branch.true
-            (c.in_ok-search.ensures c.args.problem.now (c.turns.invariant.ready st))) (c.turns.invariant.best st h));
+            (c.in_ok-search.ensures c.args.problem.now (c.turns.invariant.ready st)))) (c.turns.invariant.best st h));
       }
       | else-branch+in_ok-relax+else-not-branch w ↦ record {
         ready = λ st.

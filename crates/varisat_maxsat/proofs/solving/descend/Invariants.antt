@@ -1,11 +1,11 @@
 use Rattle.std.specs.Prelude.{IfSome}
-use Rattle.varisat_maxsat.specs.promises.Problems.{IsAnswer}
+use Rattle.varisat_maxsat.specs.promises.Problems.{IsSolution}
 use Rattle.varisat_maxsat.specs.inside.Reductions.{ReducesTo}
 use Rattle.varisat_maxsat.proofs.solving.descend.Given as goal
 
 abbrev pub invariant-turns : goal.invariant-turns
 invariant-turns g l = record {
   ready : ReducesTo l.problem l.initial.reduction → ReducesTo l.problem l.reduction;
-  best : ReducesTo l.problem l.initial.reduction → IfSome l.initial.best (λ s. IsAnswer s.is_optimum l.problem s.cost s.values.items) →
-      IfSome l.best (λ s. IsAnswer s.is_optimum l.problem s.cost s.values.items);
+  best : ReducesTo l.problem l.initial.reduction → IfSome l.initial.best (λ s. IsSolution l.problem s.cost s.values.items) →
+      IfSome l.best (λ s. IsSolution l.problem s.cost s.values.items);
 }

@@ -1,0 +1,3 @@
+-- What contracts cite of texts. No promise to users rests on these definitions.
+pub mod Texts
+pub mod Printed

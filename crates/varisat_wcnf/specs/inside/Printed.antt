@@ -1,0 +1,47 @@
+-- What is printed of a problem, and the status.
+use Rattle.std.specs.Prelude.{◌≡◌, ◌⊎◌, ℕ, Bool, true, false, if◌then◌else◌, List, [], ◌∷◌, ◌++◌, take, codes, decimal, Ok, Err}
+use Rattle.varisat_theory.specs.promises.Literals.{IsSatisfiable}
+use Rattle.varisat_formula.specs.promises.Streams.{Taken}
+use Rattle.varisat_maxsat.specs.promises.Problems.{Problem, IsAnswer}
+use Rattle.varisat_wcnf.specs.declared.wcnf.WcnfFault.TheVariants.{OutOfMemory}
+use Rattle.varisat_wcnf.specs.declared.wcnf.WcnfError.{WcnfError}
+use Rattle.varisat_wcnf.specs.inside.Texts.{Reading, wcnf}
+
+-- a digit for each value
+abbrev pub value_digits : List Bool → List ℕ
+value_digits [] = []
+value_digits (v ∷ vs) = (if v then 49 else 48) ∷ value_digits vs
+
+-- what is printed of an optimum, or of a solution that is not known to be one, and the status
+abbrev pub verdict_line : Bool → List ℕ
+verdict_line true = codes "s OPTIMUM FOUND\n"
+verdict_line false = codes "s UNKNOWN\n"
+
+abbrev pub verdict_status : Bool → ℕ
+verdict_status true = 30
+verdict_status false = 0
+
+-- the cost of a solution, the verdict, and the values of the variables in turn
+abbrev pub solution_text : Bool → ℕ → List Bool → List ℕ
+solution_text is_optimum cost values =
+    codes "o " ++ decimal cost ++ codes "\n" ++ verdict_line is_optimum ++ codes "v " ++ value_digits values ++ codes "\n"
+
+-- The text was printed, with this status; or a beginning of it, with the status of a fault.
+abbrev pub Prints : List ℕ → ℕ → Taken → Taken → ℕ → Type 0
+Prints text status old new result =
+    ((new.bytes ≡ old.bytes ++ text) × (result ≡ status))
+    ⊎ ((n : ℕ) × (new.bytes ≡ old.bytes ++ take n text) × (result ≡ 2))
+
+-- What is printed of a problem: an optimum; or that no assignment satisfies its hard clauses; or that a limit was met, with a solution
+-- that was found until then, or without one.
+pub data Answers (p : Problem) (old new : Taken) (result : ℕ) : Type 0 where
+  Solved : (is_optimum : Bool) (cost : ℕ) (values : List Bool) → IsAnswer is_optimum p cost values →
+      Prints (solution_text is_optimum cost values) (verdict_status is_optimum) old new result → Answers p old new result
+  Unsatisfiable : (IsSatisfiable p.hard → ⊥) → Prints (codes "s UNSATISFIABLE\n") 20 old new result → Answers p old new result
+  Unknown : Prints (codes "s UNKNOWN\n") 0 old new result → Answers p old new result
+
+-- What is printed of a text: what it is of its problem; or nothing, where the text has a fault, or memory ran out for it.
+pub data AnswersText (text : List ℕ) (old new : Taken) (result : ℕ) : Type 0 where
+  Read : (r : Reading) → wcnf text ≡ Ok r → Answers r.problem old new result → AnswersText text old new result
+  Refused : (e : WcnfError) → (e.fault ≡ OutOfMemory) ⊎ (wcnf text ≡ Err e) → new ≡ old → result ≡ 2 →
+      AnswersText text old new result

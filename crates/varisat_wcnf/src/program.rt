@@ -1,0 +1,164 @@
+//! What the program prints, and its status.
+ghost use Rattle.std.specs.Prelude.{◌≡◌, ◌-◌, ◌^◌, ◌<◌, ◌++◌, OnOk, IfOk, codes, if◌then◌else◌};
+ghost use Rattle.varisat_maxsat.specs.promises.Problems.{IsAnswer};
+ghost use Rattle.varisat_wcnf.specs.inside.Printed.{value_digits, solution_text, verdict_line, verdict_status, Prints, Answers, AnswersText};
+
+use crate::wcnf::parse;
+use itoa::Buffer;
+use std::alloc::{AllocError, Allocator};
+use std::fmt::Display;
+use std::io::Write;
+use varisat_formula::io::ProofTarget;
+use varisat_maxsat::problem::Problem;
+use varisat_maxsat::solving::{Solution, optimize_within};
+use varisat_proof::program::print_text;
+
+/// The status where a limit was met.
+pub const STATUS_UNKNOWN: u8 = 0;
+
+/// The status of a fault.
+pub const STATUS_FAULT: u8 = 2;
+
+/// The status where no assignment satisfies the hard clauses.
+pub const STATUS_UNSATISFIABLE: u8 = 20;
+
+/// The status of an optimum.
+pub const STATUS_OPTIMUM: u8 = 30;
+
+/// Solves the problem of a WCNF text, and prints the answer as the MaxSAT Evaluations ask for it: `o`, `s OPTIMUM FOUND` and
+/// `v`, status 30; `s UNSATISFIABLE`, status 20; or `s UNKNOWN`, status 0, where a search made the steps that it may, with `o` and `v`
+/// of the best solution until then, if there is one, or where another limit was met, which is reported on `err`. A fault of the
+/// text, the target or memory is reported on `err`, and the status is 2.
+pub fn solve_lines<A: Allocator + Copy, T: ProofTarget, E: Write>(
+    alloc: A,
+    text: &[u8],
+    steps: Option<u64>,
+    out: &mut T,
+    err: &mut E,
+) -> u8
+    requires { (T.taken out.old).faults < 2 ^ 64 - 1 }
+    ensures { AnswersText text.now (T.taken out.old) (T.taken out.new) result }
+{
+    match parse(text, alloc) {
+        Ok(problem) => solve_problem(alloc, &problem, steps, out, err),
+        Err(error) => tell(err, &error),
+    }
+}
+
+/// Solves a problem, and prints the answer.
+fn solve_problem<A: Allocator + Copy, T: ProofTarget, E: Write>(
+    alloc: A,
+    problem: &Problem<A>,
+    steps: Option<u64>,
+    out: &mut T,
+    err: &mut E,
+) -> u8
+    requires { (T.taken out.old).faults < 2 ^ 64 - 1 }
+    ensures { Answers problem.now (T.taken out.old) (T.taken out.new) result }
+{
+    match optimize_within(problem, steps, alloc) {
+        Ok(Some(solution)) => print_solution(alloc, &solution, out, err),
+        Ok(None) => print_answer(b"s UNSATISFIABLE\n", STATUS_UNSATISFIABLE, out, err),
+        Err(error) => {
+            // A writer that fails here leaves nothing to report.
+            let _ = writeln!(err, "{error}");
+            print_answer(b"s UNKNOWN\n", STATUS_UNKNOWN, out, err)
+        }
+    }
+}
+
+/// Prints a solution.
+fn print_solution<A: Allocator + Copy, T: ProofTarget, E: Write>(
+    alloc: A,
+    solution: &Solution<A>,
+    out: &mut T,
+    err: &mut E,
+) -> u8
+    requires { (T.taken out.old).faults < 2 ^ 64 - 1 }
+    ensures { Prints (solution_text solution.now.is_optimum solution.now.cost solution.now.values.items)
+        (verdict_status solution.now.is_optimum) (T.taken out.old) (T.taken out.new) result }
+{
+    match written(alloc, solution.is_optimum, solution.cost, &solution.values) {
+        Ok(text) => print_answer(&text, status_of(solution.is_optimum), out, err),
+        Err(error) => tell(err, &error),
+    }
+}
+
+/// The text of a solution.
+fn written<A: Allocator + Copy>(
+    alloc: A,
+    is_optimum: bool,
+    cost: u64,
+    values: &[bool],
+) -> Result<Vec<u8, A>, AllocError>
+    ensures { IfOk result (λ text. text.items ≡ solution_text is_optimum cost values.now) }
+{
+    let mut text = Vec::new(alloc);
+    let mut buffer = Buffer::new();
+    text.extend_from_slice(b"o ")?;
+    text.extend_from_slice(buffer.format(cost).as_bytes())?;
+    text.extend_from_slice(b"\n")?;
+    text.extend_from_slice(verdict_of(is_optimum))?;
+    text.extend_from_slice(b"v ")?;
+    put_values(&mut text, values)?;
+    text.push(b'\n')?;
+    Ok(text)
+}
+
+/// The line that tells whether a solution is an optimum.
+fn verdict_of(is_optimum: bool) -> &'static [u8]
+    ensures { result.now ≡ verdict_line is_optimum }
+{
+    if is_optimum {
+        b"s OPTIMUM FOUND\n"
+    } else {
+        b"s UNKNOWN\n"
+    }
+}
+
+/// The status of a solution.
+fn status_of(is_optimum: bool) -> u8
+    ensures { result ≡ verdict_status is_optimum }
+{
+    if is_optimum {
+        STATUS_OPTIMUM
+    } else {
+        STATUS_UNKNOWN
+    }
+}
+
+/// Puts a digit for each value behind the text.
+fn put_values<A: Allocator + Copy>(text: &mut Vec<u8, A>, values: &[bool]) -> Result<(), AllocError>
+    ensures { OnOk result (text.new.items ≡ text.old.items ++ value_digits values.now) }
+{
+    for value in values {
+        text.push(digit_of(*value))?;
+    }
+    Ok(())
+}
+
+/// The digit of a value.
+fn digit_of(value: bool) -> u8
+    ensures { result ≡ (if value then 49 else 48) }
+{
+    if value { b'1' } else { b'0' }
+}
+
+/// Prints a text, and returns its status, or that of a fault where the target fails.
+fn print_answer<T: ProofTarget, E: Write>(text: &[u8], status: u8, out: &mut T, err: &mut E) -> u8
+    requires { (T.taken out.old).faults < 2 ^ 64 - 1 }
+    ensures { Prints text.now status (T.taken out.old) (T.taken out.new) result }
+{
+    match print_text(out, text) {
+        Ok(()) => status,
+        Err(error) => tell(err, &error),
+    }
+}
+
+/// Tells a fault, and returns its status.
+pub fn tell<E: Write, F: Display>(err: &mut E, fault: &F) -> u8
+    ensures { result ≡ 2 }
+{
+    let _ = writeln!(err, "error: {fault}");
+    STATUS_FAULT
+}

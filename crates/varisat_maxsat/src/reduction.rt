@@ -1,5 +1,5 @@
 //! A problem that is reduced to hard clauses, and literals that cost a weight each.
-ghost use Rattle.std.specs.Prelude.{◌≡◌, ◌+◌, ◌*◌, ◌++◌, ◌∷◌, [], List, ℕ, OnOk, IfOk, true, false};
+ghost use Rattle.std.specs.Prelude.{◌≡◌, ◌+◌, ◌*◌, ◌++◌, ◌∷◌, [], List, ℕ, OnOk, IfOk, IfErr, true, false};
 ghost use Rattle.varisat_maxsat.specs.promises.Problems.{Problem, with_hard, with_soft, assignment_of, cost, IsSolution, IsOptimum};
 ghost use Rattle.varisat_maxsat.specs.inside.Reductions.{ReducesTo, ReducesToWith, ReducesToAfter, ReducesToBelow, FindsSolution, IsDecided, IsImproved, Keeps, IsRelaxed};
 
@@ -192,7 +192,8 @@ impl<A: Allocator + Copy> Reduction<A> {
 
     /// Joins the charges of each variable.
     pub fn join_charges(&mut self) -> Result<(), MaxSatError>
-        ensures { OnOk result ((p : Problem) → ReducesTo p self.old → ReducesTo p self.new) }
+        ensures joined { OnOk result ((p : Problem) → ReducesTo p self.old → ReducesTo p self.new) }
+        ensures stays { IfErr result (λ _. self.new ≡ self.old) }
     {
         let Joined { charges, due } = join_equal(&self.charges, self.alloc)?;
         self.bound = raised(self.bound, due)?;

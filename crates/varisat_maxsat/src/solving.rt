@@ -300,6 +300,19 @@ fn answer<A: Allocator + Copy>(
     }
 }
 
+/// Joins equal charges. Where what is due in any case passes 2^64 none is joined, since only a search tells whether there
+/// is a solution.
+fn join_if_bounded<A: Allocator + Copy>(reduction: &mut Reduction<A>) -> Result<(), MaxSatError>
+    ensures { OnOk result ((p : Asked) → ReducesTo p reduction.old → ReducesTo p reduction.new) }
+{
+    if let Err(error) = reduction.join_charges() {
+        if error != MaxSatError::CostOverflow {
+            return Err(error);
+        }
+    }
+    Ok(())
+}
+
 /// Brings the problem down and solves it.
 fn solve<A: Allocator + Copy>(
     problem: &Problem<A>,
@@ -313,7 +326,7 @@ fn solve<A: Allocator + Copy>(
         (λ s. IsAnswer s.is_optimum problem.now s.cost s.values.items)) }
 {
     problem.reduce(reduction)?;
-    reduction.join_charges()?;
+    join_if_bounded(reduction)?;
     limit_steps(reduction, steps);
     let mut best = None;
     match decide(problem, reduction, &mut best, alloc) {

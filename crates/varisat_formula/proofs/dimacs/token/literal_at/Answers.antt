@@ -27,3 +27,21 @@ pub bounds-bytes-end-2 : goal.bounds-bytes-end-2
 bounds-bytes-end-2 c =
     digits_within (length c.args.bytes.now) c.args.at c.from.result c.digits.end c.digits.number c.if-bytes-at-lt-LONGEST.false
     (search (rules, c.from.ensures)) c.digits.invariant.power c.digits.invariant.small
+
+pub bounds-bytes-end-in-digits : goal.bounds-bytes-end-in-digits
+bounds-bytes-end-in-digits c =
+    digits_within (length c.args.bytes.now) c.args.at c.from.result c.digits.end c.digits.number c.if-bytes-at-lt-LONGEST.false
+    (search (rules, c.from.ensures)) c.digits.invariant.power c.digits.invariant.small
+
+pub digits-smaller : goal.digits-smaller
+digits-smaller c =
+    let within = digits_within (length c.args.bytes.now) c.args.at c.from.result c.digits.end c.digits.number c.if-bytes-at-lt-LONGEST.false
+    (search (rules, c.from.ensures)) c.digits.invariant.power c.digits.invariant.small in
+    omega (arith, within)
+
+pub returns-clause-within : goal.returns-clause-within
+returns-clause-within c = (
+  omega (arith, c.digits.invariant.some),
+  digits_within (length c.args.bytes.now) c.args.at c.from.result c.digits.end c.digits.number c.if-bytes-at-lt-LONGEST.false
+      (search (rules, c.from.ensures)) c.digits.invariant.power c.digits.invariant.small,
+)

@@ -45,3 +45,9 @@ bytes-preserved g c =
       reads = advances_one _ c.read_word-at.new.self c.byte.new.self c.args.piece.now (at + c.read_word-at.result) before read.reads c.in-Ok.ensures.ok;
       goes_on = record { not_over = c.in-Ok.ensures.open; no_fault = sym c.reported.ensures ∙ c.in_default.is };
     }
+
+pub returns-clause-reads : goal.returns-clause-reads
+returns-clause-reads g c =
+    let within = c.bytes.invariant.within in
+    let past = c.bytes-test.false in
+    inl (advances_whole _ c.bytes.self c.args.piece.now c.bytes.at (omega (arith, within, past)) c.bytes.invariant.reads)

@@ -1,9 +1,6 @@
 //! The program: solves a problem in a file, and prints the answer as the MaxSAT Evaluations ask for it.
 #![tactic(auto)]
 
-#[cfg(test)]
-mod tests;
-
 use std::io::{self, BufWriter};
 use std::process::ExitCode;
 use std::{env, fs};

@@ -1,18 +1,30 @@
 //! The tests, a file for each subject.
 
 mod assuming;
+mod checker;
+mod clause;
 mod collecting;
 mod decisions;
+mod filters;
 mod forgetting;
+mod heap;
+mod lent;
 mod levels;
 mod loading;
 mod memory;
+mod names;
 mod naming;
+mod pairs;
+mod parts;
 mod recorder;
 mod reductions;
+mod schedule;
 mod searches;
+mod settings;
 mod simplifying;
 mod steps;
 mod tiers;
 mod tracing;
+mod variables;
+mod watches;
 mod watching;

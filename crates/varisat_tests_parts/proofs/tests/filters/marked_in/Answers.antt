@@ -1,4 +1,0 @@
-use Rattle.varisat_tests_parts.proofs.tests.filters.marked_in.Goals as goal
-
-pub dedup_and_mark_by_tier-requires-clause-tracks : goal.dedup_and_mark_by_tier-requires-clause-tracks
-dedup_and_mark_by_tier-requires-clause-tracks c = c.clear_marks.ensures.tracks c.args.db.now c.requires

@@ -16,7 +16,7 @@ use denote.Struct.Struct.{within}
 use denote.Struct.Owning.{shape}
 use Rattle.core.proofs.atomic.Steps.{Ptr-Good}
 use Rattle.std_alloc.proofs.ResultValues.{and_tt}
-use Rattle.varisat_simplify_calls.specs.Simplifiers.{Simplifier}
+use Rattle.varisat_calls.specs.Simplifiers.{Simplifier}
 use Rattle.varisat_c.specs.SimplifierHandles.{handle_owns}
 use Rattle.varisat_c.specs.declared.simplifier_handle.SimplifierHandle as declared
 use Rattle.varisat_c.specs.contracts.simplifier_handle.SimplifierHandle as handle

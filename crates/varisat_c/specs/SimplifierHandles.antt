@@ -6,9 +6,9 @@ use denote.RattleType.{RattleType}
 use denote.RawPtr.{Ptr}
 use Rattle.std_heap.specs.contracts.Global as heap
 use Rattle.std_heap.specs.contracts.GlobalAllocator.TheImpl as impl
-use Rattle.varisat_simplify_calls.specs.Simplifiers.{Simplifier}
+use Rattle.varisat_calls.specs.Simplifiers.{Simplifier}
 use Rattle.varisat_c.specs.Slots.{may_free, slot_owns}
-use Rattle.varisat_simplify_calls.specs.contracts.simplifier.Simplifier as simplifier
+use Rattle.varisat_calls.specs.contracts.simplifier.Simplifier as simplifier
 
 -- a simplifier, as it lies in memory
 abbrev pub simplifier_row : RattleType

@@ -1,12 +1,12 @@
 //! A simplifier of clauses for C programs: each call takes a handle, behind which a simplifier stands.
 ghost use Rattle.std.specs.Prelude.{◌≡◌, ◌↔◌, min, length, take, Some, None, IsSome, IsTrue, IfSome};
-ghost use Rattle.varisat_simplify_calls.specs.Simplifiers.{nothing_given, Adds, Freezes, Simplifies, ListsClauses, Extends};
+ghost use Rattle.varisat_calls.specs.Simplifiers.{nothing_given, Adds, Freezes, Simplifies, ListsClauses, Extends};
 ghost use Rattle.varisat_c.specs.Slots.{MovesHeld, IsTrueBehind};
 
 use crate::copy_numbers;
 use crate::simplifier_handle::SimplifierHandle;
 use std::alloc::Global;
-use varisat_simplify_calls::simplifier::Simplifier;
+use varisat_calls::simplifier::Simplifier;
 
 /// Makes a simplifier without clauses. False where memory runs out; the handle stays empty then.
 #[unsafe(no_mangle)]

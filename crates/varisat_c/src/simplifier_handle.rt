@@ -1,12 +1,12 @@
 //! A C program's word for a simplifier.
 ghost use Rattle.std.specs.Prelude.{◌≡◌, Some, None, Option, IsSome};
-ghost use Rattle.varisat_simplify_calls.specs.Simplifiers as simplifiers;
+ghost use Rattle.varisat_calls.specs.Simplifiers as simplifiers;
 
 use crate::slot::Slot;
 use std::alloc::Global;
 use std::marker::Model;
 use std::mem::replace;
-use varisat_simplify_calls::simplifier::Simplifier;
+use varisat_calls::simplifier::Simplifier;
 
 /// One word: null where it is empty.
 #[repr(C)]

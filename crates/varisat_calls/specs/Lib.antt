@@ -3,3 +3,5 @@ pub mod Codes
 pub mod Callers
 pub mod Texts
 pub mod Lookups
+pub mod Lists
+pub mod Simplifiers

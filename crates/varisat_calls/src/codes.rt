@@ -9,11 +9,20 @@ use varisat_proof::proof::ProofFormat;
 /// A call that was not refused.
 pub const DONE: u8 = 0;
 
+/// A call that found no memory.
+pub const OUT_OF_MEMORY: u8 = 3;
+
+/// A call that was given a variable above those that a solver takes.
+pub const VARIABLE_LIMIT: u8 = 7;
+
 /// A call that was given no literal, no variable, no setting, no mode or no format.
 pub const WRONG: u8 = 14;
 
 /// A call that found no list or proof to return.
 pub const NOTHING: u8 = 15;
+
+/// A call that comes once the clauses are simplified.
+pub const TOO_LATE: u8 = 19;
 
 /// The setting of the number.
 pub fn field_of(number: u8) -> Option<ConfigField>

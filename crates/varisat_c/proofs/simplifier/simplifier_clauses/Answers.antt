@@ -1,5 +1,5 @@
 use Rattle.std.proofs.Common.{subst}
-use Rattle.varisat_simplify_calls.specs.Simplifiers.{Simplifier, ListsClauses}
+use Rattle.varisat_calls.specs.Simplifiers.{Simplifier, ListsClauses}
 use Rattle.varisat_c.proofs.simplifier.simplifier_clauses.Goals as goal
 
 pub returns : goal.returns

@@ -1,6 +1,6 @@
 use Rattle.std.proofs.Common.{subst}
 use Rattle.std.proofs.Math.Facts.{to_z-of_z}
-use Rattle.varisat_simplify_calls.specs.Simplifiers.{Simplifier, Freezes}
+use Rattle.varisat_calls.specs.Simplifiers.{Simplifier, Freezes}
 use Rattle.varisat_c.proofs.simplifier.simplifier_freeze.Goals as goal
 
 pub returns : goal.returns

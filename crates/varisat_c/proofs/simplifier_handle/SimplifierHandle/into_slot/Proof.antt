@@ -24,7 +24,7 @@ use Rattle.std_heap.specs.contracts.Global as heap
 use Rattle.std_heap.specs.contracts.GlobalAllocator.TheImpl as impl
 use Rattle.std_heap.proofs.Global.TheLaws as heap_laws
 use mir.Syntax.{impl as no_impl, tnil, dnil}
-use Rattle.varisat_simplify_calls.specs.Simplifiers.{Simplifier}
+use Rattle.varisat_calls.specs.Simplifiers.{Simplifier}
 use Rattle.varisat_c.specs.SimplifierHandles.{simplifier_row}
 use Rattle.varisat_c.specs.contracts.simplifier_handle.SimplifierHandle as handle
 use Rattle.varisat_c.proofs.SlotWords.{both, slot_good, slot_in}

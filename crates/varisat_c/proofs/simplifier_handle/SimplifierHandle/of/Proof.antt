@@ -23,7 +23,7 @@ use Rattle.std.proofs.raw_atomic.Walks.{proved_at, leaves}
 use Rattle.std_heap.specs.contracts.Global as heap
 use Rattle.std_heap.specs.contracts.GlobalAllocator.TheImpl as impl
 use Rattle.std_heap.proofs.Global.TheLaws as heap_laws
-use Rattle.varisat_simplify_calls.specs.Simplifiers.{Simplifier}
+use Rattle.varisat_calls.specs.Simplifiers.{Simplifier}
 use Rattle.varisat_c.specs.SimplifierHandles.{simplifier_row}
 use Rattle.varisat_c.proofs.SlotWords.{both, Slot, slot_good, slot_out}
 use Rattle.varisat_c.proofs.SimplifierHandleWords.{word, word_good, handle_in}

@@ -1,3 +1,0 @@
-pub mod PassedOver
-pub mod Extending
-pub mod SimplifierSteps

@@ -1,5 +1,0 @@
-use Rattle.varisat_simplify_calls.proofs.Extending.{made_of_copy}
-use Rattle.varisat_simplify_calls.proofs.simplifier.simplified.Goals as goal
-
-pub returns-clause-made : goal.returns-clause-made
-returns-clause-made g c = made_of_copy c.args.formula.now c.in_ok-copy.copy _ _ _ (c.in_ok-copy.ensures {u = tt}) (c.in_ok-made.ensures {u = tt}).made

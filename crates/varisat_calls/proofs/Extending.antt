@@ -4,9 +4,9 @@ use Rattle.varisat_theory.specs.promises.Membership.{◌∈◌}
 use Rattle.varisat_theory.specs.promises.Literals.{Literal, Clause, opposite, value, SatisfiesAll}
 use Rattle.varisat_theory.specs.promises.Derivations.{Line}
 use Rattle.varisat_formula.specs.promises.Formulas.{Formula, AllBelow, AreBelow}
-use Rattle.varisat_simplify.specs.promises.Stacks.{assignment_of, with_true, extended}
+use Rattle.varisat_rules.specs.promises.Stacks.{assignment_of, with_true, extended}
 use Rattle.varisat_simplify.specs.promises.Simplified.{IsMadeOf}
-use Rattle.varisat_simplify.proofs.ExtendLemmas.{made_true, stays_true, amended_length}
+use Rattle.varisat_rules.proofs.ExtendLemmas.{made_true, stays_true, amended_length}
 use Rattle.varisat_calls.specs.Lists.{with_all_true, model_values}
 use Rattle.varisat_calls.specs.Simplifiers.{Made, Simplifier, IsSimplified, IsModelOf, IsExtension}
 use Rattle.varisat_calls.proofs.PassedOver.{passed-over}

@@ -1,7 +1,7 @@
 -- Values that are set where there are none.
 use Rattle.std.proofs.Common.{◌≡◌, ◌≤◌, ◌/◌, ◌%◌, ℕ, zero, suc, nat_eq, Bool, List, [], ◌∷◌, length, set, refl, ap, arith}
 use Rattle.varisat_theory.specs.promises.Literals.{Literal}
-use Rattle.varisat_simplify.specs.promises.Stacks.{with_true}
+use Rattle.varisat_rules.specs.promises.Stacks.{with_true}
 
 set-past : {X : Type 0} (xs : List X) (i : ℕ) (x : X) → length xs ≤ i → set xs i x ≡ xs
 set-past [] i x h = refl

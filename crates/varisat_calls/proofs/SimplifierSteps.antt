@@ -6,7 +6,7 @@ use Rattle.varisat_theory.specs.promises.Literals.{Literal, Clause}
 use Rattle.varisat_theory.specs.promises.Derivations.{Line}
 use Rattle.varisat_literals.specs.promises.Numbers.{literal_numbered}
 use Rattle.varisat_formula.specs.promises.Formulas.{Formula, AreBelow}
-use Rattle.varisat_simplify.specs.promises.Stacks.{extended, KeepsFrozen}
+use Rattle.varisat_rules.specs.promises.Stacks.{extended, KeepsFrozen}
 use Rattle.varisat_simplify.specs.promises.Simplified.{IsMadeOf}
 use Rattle.varisat_calls.specs.Lists.{clause_numbers, value_numbers, model_values}
 use Rattle.varisat_calls.specs.Simplifiers.{Made, Simplifier, made_of, given_of, IsSimplified, Simplifies, Simplified, ListsClauses, Listed, Extends, Extended}

@@ -3,7 +3,7 @@ use Rattle.std.specs.Prelude.{ℕ, ◌+◌, ◌/◌, ◌<◌, Bool, false, ℤ, 
 use Rattle.varisat_theory.specs.promises.Literals.{Literal, Clause, literal_of}
 use Rattle.varisat_literals.specs.promises.Numbers.{variable_limit}
 use Rattle.varisat_calls.specs.Numbers.{returned_numbers}
-use Rattle.varisat_simplify.specs.promises.Stacks.{with_true}
+use Rattle.varisat_rules.specs.promises.Stacks.{with_true}
 
 -- no variable is above the limit that a solver has
 abbrev pub AreInRange : List Literal → Type 0

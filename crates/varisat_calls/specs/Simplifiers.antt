@@ -7,7 +7,7 @@ use Rattle.varisat_theory.specs.promises.Literals.{Literal, Clause, SatisfiesAll
 use Rattle.varisat_theory.specs.promises.Derivations.{Line}
 use Rattle.varisat_literals.specs.promises.Numbers.{literal_numbered, variable_numbered, variable_limit}
 use Rattle.varisat_formula.specs.promises.Formulas.{Formula, no_clauses, with_one_more, AreBelow}
-use Rattle.varisat_simplify.specs.promises.Stacks.{assignment_of, extended, KeepsFrozen}
+use Rattle.varisat_rules.specs.promises.Stacks.{assignment_of, extended, KeepsFrozen}
 use Rattle.varisat_simplify.specs.promises.Simplified.{IsMadeOf}
 use Rattle.varisat_calls.specs.Lists.{AreInRange, clause_numbers, value_numbers, model_values}
 

@@ -1,6 +1,6 @@
 //! Clauses that are simplified before a solver is given them.
 ghost use Rattle.std.specs.Prelude.{◌≡◌, ◌≤◌, ◌<◌, ◌^◌, IfOk, OnOk};
-ghost use Rattle.varisat_simplify.specs.promises.Stacks.{extended, KeepsFrozen};
+ghost use Rattle.varisat_rules.specs.promises.Stacks.{extended, KeepsFrozen};
 ghost use Rattle.varisat_simplify.specs.promises.Simplified.{IsMadeOf};
 ghost use Rattle.varisat_calls.specs.Lists.{value_numbers, model_values};
 

@@ -1,10 +1,3 @@
-pub mod StateLemmas
-pub mod ExtendLemmas
-pub mod EliminateLemmas
-pub mod ResolveLemmas
-pub mod CompareLemmas
-pub mod FlowLemmas
-pub mod LeadingLemmas
+pub mod LoadLemmas
+pub mod NormalLemmas
 pub mod UnloadLemmas
-pub mod EliminateSteps
-pub mod UnitLemmas

@@ -7,14 +7,14 @@ use Rattle.varisat_theory.specs.promises.Derivations.{Line}
 use Rattle.varisat_theory.specs.promises.Held.{SameClauses}
 use Rattle.varisat_theory.proofs.clauses.Held.{same_clauses_find, same_clauses-back}
 use Rattle.varisat_formula.specs.promises.Formulas.{Formula, AllBelow, AreBelow, with_one_more}
-use Rattle.varisat_simplify.specs.promises.Leading.{LeadsTo}
-use Rattle.varisat_simplify.specs.promises.Stacks.{assignment_of, KeepsFrozen}
+use Rattle.varisat_rules.specs.promises.Leading.{LeadsTo}
+use Rattle.varisat_rules.specs.promises.Stacks.{assignment_of, KeepsFrozen}
 use Rattle.varisat_database.specs.Databases.{State, clause_at}
-use Rattle.varisat_simplify.specs.inside.States.{flagged, Reduces, Becomes}
+use Rattle.varisat_rules.specs.inside.States.{flagged, Reduces, Becomes}
 use Rattle.varisat_simplify.specs.promises.Simplified.{Lists, Finishes, IsReduced, IsMadeOf, DerivesBehind, RefutesBehind}
-use Rattle.varisat_simplify.proofs.StateLemmas.{clause_held, satisfies_more, satisfies_same}
-use Rattle.varisat_simplify.proofs.ExtendLemmas.{keeps_frozen}
-use Rattle.varisat_simplify.proofs.LeadingLemmas.{flagged_from, named_at, derives_behind, refutes_behind}
+use Rattle.varisat_rules.proofs.StateLemmas.{clause_held, satisfies_more, satisfies_same}
+use Rattle.varisat_rules.proofs.ExtendLemmas.{keeps_frozen}
+use Rattle.varisat_rules.proofs.LeadingLemmas.{flagged_from, named_at, derives_behind, refutes_behind}
 
 -- the formula has the live clauses before the place, and no others
 pub record Listing (s : State) (f : Formula) (i : ℕ) : Type 0 where

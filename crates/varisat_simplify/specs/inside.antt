@@ -1,4 +1,2 @@
 -- What contracts inside of the program cite. No promise to users rests on these definitions.
 pub mod Loading
-pub mod Resolving
-pub mod States

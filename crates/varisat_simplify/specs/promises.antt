@@ -1,4 +1,2 @@
 -- What a promise to users rests on. Who wants to know what is proved reads these files, in the order that docs/GUARANTEES.md gives.
-pub mod Leading
 pub mod Simplified
-pub mod Stacks

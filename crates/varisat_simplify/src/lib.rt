@@ -3,10 +3,10 @@
 
 pub mod eliminate;
 pub mod laws;
+pub mod normal;
 pub mod propagate;
-pub mod resolve;
 pub mod simplify;
-pub mod stack;
 pub mod subsume;
 
 pub use varisat_database::{clauses, history};
+pub use varisat_rules::stack;

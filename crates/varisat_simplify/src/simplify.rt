@@ -3,15 +3,14 @@ ghost use Rattle.std.specs.Prelude.{◌≡◌, ℕ, ◌/◌, ◌<◌, ◌≤◌,
 ghost use Rattle.varisat_formula.specs.declared.formula.cnf.FormulaError.TheVariants.{Memory};
 ghost use Rattle.varisat_formula.specs.promises.Formulas.{AllBelow, AreBelow};
 ghost use Rattle.varisat_database.specs.Databases.{no_clauses};
-ghost use Rattle.varisat_simplify.specs.inside.States.{Becomes};
+ghost use Rattle.varisat_rules.specs.inside.States.{Becomes};
 ghost use Rattle.varisat_simplify.specs.inside.Loading.{IsLoaded};
-ghost use Rattle.varisat_simplify.specs.promises.Stacks.{extended, KeepsFrozen};
+ghost use Rattle.varisat_rules.specs.promises.Stacks.{extended, KeepsFrozen};
 ghost use Rattle.varisat_simplify.specs.promises.Simplified.{Lists, Finishes, IsReduced, IsMadeOf};
 
 use crate::eliminate::{Scratch, eliminate};
+use crate::normal::{is_normal, normalize};
 use crate::propagate::propagate;
-use crate::resolve::{is_normal, normalize};
-use crate::stack::extend;
 use crate::subsume::subsume_from;
 use std::alloc::{AllocError, Allocator};
 use varisat_database::clauses::ClauseList;
@@ -20,6 +19,7 @@ use varisat_database::history::History;
 use varisat_database::names::ShortNames;
 use varisat_formula::formula::cnf::{CnfFormula, FormulaError};
 use varisat_literals::{Lit, Var};
+use varisat_rules::stack::extend;
 
 /// How often the variables are gone through at most.
 const MOST_ROUNDS: usize = 20;

@@ -1,18 +1,14 @@
 //! Backward subsumption: what a clause makes of the others.
 ghost use Rattle.std.specs.Prelude.{OnOk};
-ghost use Rattle.varisat_simplify.specs.inside.States.{Becomes};
-ghost use Rattle.varisat_simplify.specs.inside.Resolving.{Compares};
+ghost use Rattle.varisat_rules.specs.inside.States.{Becomes};
 
-use crate::resolve::{Relation, relation_of, without};
 use std::alloc::{AllocError, Allocator};
 use varisat_database::database::Database;
 use varisat_literals::Lit;
+use varisat_rules::subsume::use_on;
 
 /// No literal in more clauses is looked through, but for a clause of one literal.
 const MOST_PLACES: usize = 1000;
-
-/// No clauses are compared that have more pairs of literals.
-const MOST_READ: usize = 10_000;
 
 /// The literal of the clause whose variable stands in the fewest clauses.
 fn rarest<A: Allocator + Copy>(db: &Database<A>, clause: &[Lit]) -> Option<Lit> {
@@ -26,56 +22,6 @@ fn rarest<A: Allocator + Copy>(db: &Database<A>, clause: &[Lit]) -> Option<Lit> 
         }
     }
     Some(best)
-}
-
-/// Whether the one clause may have all variables of the other, and they are not too long to be compared.
-fn may_use<A: Allocator + Copy>(db: &Database<A>, place: usize, other: usize) -> bool {
-    if (db.signature(place) & !db.signature(other)) != 0 {
-        return false;
-    }
-    let length = db.clause(place).len();
-    let other_length = db.clause(other).len();
-    length <= other_length && length.saturating_mul(other_length) <= MOST_READ
-}
-
-/// What the clause at `place` makes of the one at `other`.
-fn compare<A: Allocator + Copy>(db: &Database<A>, place: usize, other: usize) -> Relation
-    ensures { Compares db.now place other result }
-{
-    if other == place {
-        return Relation::Nothing;
-    }
-    if !db.is_live(other) {
-        return Relation::Nothing;
-    }
-    if !db.is_live(place) {
-        return Relation::Nothing;
-    }
-    if !may_use(db, place, other) {
-        return Relation::Nothing;
-    }
-    relation_of(db.clause(place), db.clause(other))
-}
-
-/// Uses the clause at `place` on the one at `other`.
-pub(crate) fn use_on<A: Allocator + Copy>(
-    db: &mut Database<A>,
-    place: usize,
-    other: usize,
-    scratch: &mut Vec<Lit, A>,
-) -> Result<(), AllocError>
-    ensures { OnOk result (Becomes db.old db.new) }
-{
-    match compare(db, place, other) {
-        Relation::Nothing => {}
-        Relation::Subsumes => db.remove(other)?,
-        Relation::Strengthens(lit) => {
-            without(db.clause(other), !lit, scratch)?;
-            db.push(scratch)?;
-            db.remove(other)?;
-        }
-    }
-    Ok(())
 }
 
 /// How long the literal's list is.

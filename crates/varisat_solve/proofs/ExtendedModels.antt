@@ -7,10 +7,10 @@ use Rattle.varisat_theory.proofs.bounds.Count.{length-distinct}
 use Rattle.varisat_theory.proofs.clauses.Values.{parity, not_both}
 use Rattle.varisat_formula.specs.promises.Formulas.{Formula, variables_of, AreBelow}
 use Rattle.varisat_formula.proofs.FormulaBuffers.{below_variables}
-use Rattle.varisat_simplify.specs.promises.Stacks.{assignment_of, is_satisfied, with_true, amended, extended}
+use Rattle.varisat_rules.specs.promises.Stacks.{assignment_of, is_satisfied, with_true, amended, extended}
 use Rattle.varisat_simplify.specs.promises.Simplified.{IsMadeOf}
-use Rattle.varisat_simplify.proofs.ExtendLemmas.{stays_true}
-use Rattle.varisat_simplify.proofs.ExtendLemmas as extending
+use Rattle.varisat_rules.proofs.ExtendLemmas.{stays_true}
+use Rattle.varisat_rules.proofs.ExtendLemmas as extending
 use Rattle.varisat_solver.specs.promises.States.{join_counted}
 use Rattle.varisat_solver.specs.promises.Models.{IsRising}
 use Rattle.varisat.specs.promises.Decided.{IsUpToHighest, IsModel, named_variables, Conclusion, Decided, Unknown, IsConclusion}

@@ -27,9 +27,9 @@ use Rattle.varisat_lines.specs.promises.Steps.{lines_written}
 use Rattle.varisat_lines.specs.promises.Logging.{logged_lines, logged_bytes}
 use Rattle.varisat_lines.specs.promises.Written.{AreInRange, line_written}
 use Rattle.varisat_proof.proofs.MarkedJournals.{journal_taken}
-use Rattle.varisat_simplify.specs.promises.Leading.{LeadsTo, IsNamedBy}
+use Rattle.varisat_rules.specs.promises.Leading.{LeadsTo, IsNamedBy}
 use Rattle.varisat_simplify.specs.promises.Simplified.{IsMadeOf}
-use Rattle.varisat_simplify.proofs.LeadingLemmas.{derives_behind, refutes_behind}
+use Rattle.varisat_rules.proofs.LeadingLemmas.{derives_behind, refutes_behind}
 use Rattle.varisat.specs.promises.Decided.{Conclusion, Decided}
 use Rattle.varisat.specs.promises.Proven.{IsProven}
 use Rattle.varisat_solve.specs.promises.Solving.{AreLow}

@@ -1,7 +1,7 @@
 //! Models of what a formula was made into, as models of the formula.
 ghost use Rattle.std.specs.Prelude.{◌≡◌, ◌≤◌, ◌^◌, IfOk, max, replicate, false, length};
 ghost use Rattle.varisat_formula.specs.promises.Formulas.{variables_of};
-ghost use Rattle.varisat_simplify.specs.promises.Stacks.{with_true};
+ghost use Rattle.varisat_rules.specs.promises.Stacks.{with_true};
 ghost use Rattle.varisat_solve.specs.inside.Extending.{named_count, made_true, literals_from, model_of_all};
 
 use std::alloc::{AllocError, Allocator};

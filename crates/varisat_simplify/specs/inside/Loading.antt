@@ -3,7 +3,7 @@ use Rattle.std.specs.Prelude.{◌≡◌, ℕ, Bool, List}
 use Rattle.varisat_theory.specs.promises.Literals.{Clause}
 use Rattle.varisat_theory.specs.promises.Held.{SameClauses}
 use Rattle.varisat_database.specs.Databases.{State}
-use Rattle.varisat_simplify.specs.inside.States.{Reduces}
+use Rattle.varisat_rules.specs.inside.States.{Reduces}
 
 -- The clauses P were loaded, over so many variables, of which the flagged ones are frozen.
 pub record IsLoaded (P : List Clause) (n : ℕ) (frozen : List Bool) (s : State) : Type 0 where

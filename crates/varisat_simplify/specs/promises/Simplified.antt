@@ -4,10 +4,10 @@ use Rattle.varisat_theory.specs.promises.Literals.{Clause, Assignment, Satisfies
 use Rattle.varisat_theory.specs.promises.Derivations.{Line, IsDerivation, Refutes, SpeakOf}
 use Rattle.varisat_theory.specs.promises.Held.{SameClauses}
 use Rattle.varisat_formula.specs.promises.Formulas.{Formula, AreBelow}
-use Rattle.varisat_simplify.specs.promises.Leading.{LeadsTo, IsNamedBy, AreNamedBy}
-use Rattle.varisat_simplify.specs.promises.Stacks.{assignment_of, extended}
+use Rattle.varisat_rules.specs.promises.Leading.{LeadsTo, IsNamedBy, AreNamedBy}
+use Rattle.varisat_rules.specs.promises.Stacks.{assignment_of, extended}
 use Rattle.varisat_database.specs.Databases.{State}
-use Rattle.varisat_simplify.specs.inside.States.{live_clauses, Reduces, Becomes}
+use Rattle.varisat_rules.specs.inside.States.{live_clauses, Reduces, Becomes}
 
 -- the formula has just the live clauses
 pub record Lists (s : State) (f : Formula) : Type 0 where

@@ -2,7 +2,7 @@
 use Rattle.std.specs.Prelude.{ℕ, suc, max, Bool, false, replicate, List, [], ◌∷◌, Some, None}
 use Rattle.varisat_theory.specs.promises.Literals.{Literal, Clause, literal_of}
 use Rattle.varisat_formula.specs.promises.Formulas.{variables_of}
-use Rattle.varisat_simplify.specs.promises.Stacks.{with_true, extended}
+use Rattle.varisat_rules.specs.promises.Stacks.{with_true, extended}
 use Rattle.varisat.specs.promises.Decided.{Conclusion, Decided, Unknown}
 
 -- how many variables there are up to the highest that the clauses name

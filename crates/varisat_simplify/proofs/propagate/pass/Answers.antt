@@ -1,4 +1,4 @@
-use Rattle.varisat_simplify.proofs.StateLemmas.{becomes_then}
+use Rattle.varisat_rules.proofs.StateLemmas.{becomes_then}
 use Rattle.varisat_simplify.proofs.propagate.pass.Goals as goal
 
 pub loop-preserved : goal.loop-preserved

@@ -1,4 +1,4 @@
-use Rattle.varisat_simplify.specs.inside.States.{Becomes}
+use Rattle.varisat_rules.specs.inside.States.{Becomes}
 use Rattle.varisat_simplify.proofs.propagate.pass.Given as goal
 
 abbrev pub invariant-loop : goal.invariant-loop

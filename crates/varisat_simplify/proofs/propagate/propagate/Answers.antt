@@ -1,4 +1,4 @@
-use Rattle.varisat_simplify.proofs.StateLemmas.{becomes_then}
+use Rattle.varisat_rules.proofs.StateLemmas.{becomes_then}
 use Rattle.varisat_simplify.proofs.propagate.propagate.Goals as goal
 
 pub returns-then-not-branch : goal.returns-then-not-branch

@@ -1,5 +1,5 @@
-use Rattle.varisat_simplify.proofs.StateLemmas.{becomes_then}
-use Rattle.varisat_simplify.proofs.FlowLemmas.{becomes_next}
+use Rattle.varisat_rules.proofs.StateLemmas.{becomes_then}
+use Rattle.varisat_rules.proofs.FlowLemmas.{becomes_next}
 use Rattle.varisat_simplify.proofs.simplify.eliminate_all.Goals as goal
 use Rattle.varisat_simplify.proofs.simplify.eliminate_all.Goals.{then-branch+in_ok-place, else-branch}
 

@@ -1,4 +1,4 @@
-use Rattle.varisat_simplify.specs.inside.States.{Becomes}
+use Rattle.varisat_rules.specs.inside.States.{Becomes}
 use Rattle.varisat_simplify.proofs.simplify.eliminate_all.Given as goal
 
 abbrev pub invariant-loop-key : goal.invariant-loop-key

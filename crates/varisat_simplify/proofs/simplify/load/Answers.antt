@@ -1,7 +1,7 @@
 use Rattle.std.proofs.Common.{refl, ◌∙◌}
 use Rattle.varisat_theory.proofs.clauses.Held.{same_set-self}
-use Rattle.varisat_simplify.proofs.EliminateSteps.{matched_true, matched_false}
-use Rattle.varisat_simplify.proofs.FlowLemmas.{loads_first, loads_give, loads_skip, loads_end}
+use Rattle.varisat_rules.proofs.EliminateSteps.{matched_true, matched_false}
+use Rattle.varisat_simplify.proofs.LoadLemmas.{loads_first, loads_give, loads_skip, loads_end}
 use Rattle.varisat_simplify.proofs.simplify.load.Goals as goal
 
 pub loop-clause-init : goal.loop-clause-init

@@ -1,4 +1,4 @@
-use Rattle.varisat_simplify.proofs.FlowLemmas.{Loads}
+use Rattle.varisat_simplify.proofs.LoadLemmas.{Loads}
 use Rattle.varisat_simplify.proofs.simplify.load.Given as goal
 
 abbrev pub invariant-loop-clause : goal.invariant-loop-clause

@@ -1,5 +1,5 @@
 use Rattle.std.proofs.Common.{List, Bool, ◌≤◌, sym, ap, subst}
-use Rattle.varisat_simplify.specs.promises.Stacks.{KeepsFrozen}
+use Rattle.varisat_rules.specs.promises.Stacks.{KeepsFrozen}
 use Rattle.varisat_database.specs.Databases.{State}
 use Rattle.varisat_simplify.proofs.UnloadLemmas.{finished, finished_frozen}
 use Rattle.varisat_simplify.proofs.simplify.simplify.Goals as goal

@@ -1,4 +1,4 @@
-use Rattle.varisat_simplify.proofs.StateLemmas.{becomes_then}
+use Rattle.varisat_rules.proofs.StateLemmas.{becomes_then}
 use Rattle.varisat_simplify.proofs.subsume.subsume_with.Goals as goal
 
 pub returns : goal.returns

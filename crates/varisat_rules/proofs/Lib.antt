@@ -1,0 +1,9 @@
+pub mod StateLemmas
+pub mod ExtendLemmas
+pub mod EliminateLemmas
+pub mod ResolveLemmas
+pub mod CompareLemmas
+pub mod FlowLemmas
+pub mod LeadingLemmas
+pub mod EliminateSteps
+pub mod UnitLemmas

@@ -1,0 +1,28 @@
+use Rattle.std.proofs.Common.{◌/◌, false, get_or, refl, sym, ◌∙◌}
+use Rattle.varisat_rules.proofs.StateLemmas.{becomes_then}
+use Rattle.varisat_rules.proofs.EliminateSteps.{saves_from, small_opposite, pure_opposite, thawed_opposite}
+use Rattle.varisat_rules.proofs.eliminate.resolve_away.Goals as goal
+
+pub save_all-requires-clause-saves : goal.save_all-requires-clause-saves
+save_all-requires-clause-saves g c =
+    saves_from c.args.db.now c.add_resolvents.new.db c.args.lit c.args.with.now c.args.against.now c.args.with.now c.args.against.now refl refl
+    (c.in_ok-add_resolvents.ensures {u = tt}).adds
+
+pub save_literal-requires-clause-small : goal.save_literal-requires-clause-small
+save_literal-requires-clause-small g c =
+    small_opposite c.args.lit c.not.result c.args.db.now.var_count c.save_all.new.db.var_count (c.args.lit / 2) c.not.ensures refl c.requires.small
+    (sym ((c.in_ok-save_all.ensures {u = tt}).becomes.count ∙ c.add_resolvents.ensures.becomes.count))
+
+pub save_literal-requires-clause-thawed : goal.save_literal-requires-clause-thawed
+save_literal-requires-clause-thawed g c =
+    thawed_opposite c.args.lit c.not.result c.save_all.new.db.frozen c.args.db.now.frozen (get_or c.args.db.now.frozen (c.args.lit / 2) false) c.not.ensures
+    ((c.in_ok-save_all.ensures {u = tt}).becomes.frozen ∙ c.add_resolvents.ensures.becomes.frozen) refl c.requires.thawed
+
+pub save_literal-requires-clause-pure : goal.save_literal-requires-clause-pure
+save_literal-requires-clause-pure g c =
+    pure_opposite c.save_all.new.db c.args.lit c.not.result c.not.ensures (c.in_ok-save_all.ensures {u = tt}).pure
+
+pub returns : goal.returns
+returns g c =
+    becomes_then c.args.db.now c.save_all.new.db c.save_literal.new.db (becomes_then c.args.db.now c.add_resolvents.new.db c.save_all.new.db
+    c.add_resolvents.ensures.becomes (c.in_ok-save_all.ensures {u = tt}).becomes) (c.in_ok-save_literal.ensures {u = tt})

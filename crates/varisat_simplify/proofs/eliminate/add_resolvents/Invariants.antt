@@ -1,8 +1,0 @@
-use Rattle.varisat_simplify.specs.inside.States.{Adds}
-use Rattle.varisat_simplify.proofs.eliminate.add_resolvents.Given as goal
-
-abbrev pub invariant-rows : goal.invariant-rows
-invariant-rows g l = Adds l.fn.db l.db l.lit l.with l.against l.one-index 0
-
-abbrev pub invariant-pairs : goal.invariant-pairs
-invariant-pairs g l = Adds l.fn.db l.db l.lit l.with l.against l.one-index l.other-index

@@ -1,5 +1,0 @@
-use Rattle.varisat_simplify.proofs.FlowLemmas.{Collecting}
-use Rattle.varisat_simplify.proofs.eliminate.collect.Given as goal
-
-abbrev pub invariant-loop-place : goal.invariant-loop-place
-invariant-loop-place g l = Collecting l.db l.lit l.places l.place-index l.out.items

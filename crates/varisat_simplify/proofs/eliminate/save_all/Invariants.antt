@@ -1,5 +1,0 @@
-use Rattle.varisat_simplify.specs.inside.States.{Saves}
-use Rattle.varisat_simplify.proofs.eliminate.save_all.Given as goal
-
-abbrev pub invariant-loop-place : goal.invariant-loop-place
-invariant-loop-place g l = Saves l.fn.db l.db l.lit l.with l.against l.place-index

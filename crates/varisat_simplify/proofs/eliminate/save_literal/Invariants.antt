@@ -1,5 +1,0 @@
-use Rattle.varisat_simplify.specs.inside.States.{Drops}
-use Rattle.varisat_simplify.proofs.eliminate.save_literal.Given as goal
-
-abbrev pub invariant-loop-place : goal.invariant-loop-place
-invariant-loop-place g l = Drops l.fn.db l.db l.fn.lit

@@ -1,5 +1,0 @@
-use Rattle.varisat_simplify.proofs.ResolveLemmas.{IsRelated}
-use Rattle.varisat_simplify.proofs.resolve.relation_of.Given as goal
-
-abbrev pub invariant-loop-lit : goal.invariant-loop-lit
-invariant-loop-lit l = IsRelated l.clause l.other l.lit-index l.flipped

@@ -1,6 +1,0 @@
-use Rattle.std.proofs.Common.{take}
-use Rattle.varisat_simplify.specs.inside.Resolving.{LeavesOut}
-use Rattle.varisat_simplify.proofs.resolve.without.Given as goal
-
-abbrev pub invariant-loop-other : goal.invariant-loop-other
-invariant-loop-other g l = LeavesOut (take l.other-index l.clause) l.lit l.out.items

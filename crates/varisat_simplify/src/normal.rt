@@ -1,0 +1,48 @@
+//! Clauses in which no literal stands twice.
+ghost use Rattle.std.specs.Prelude.{◌≡◌, true, false, IfOk, MatchBool};
+ghost use Rattle.varisat_theory.specs.promises.Membership.{SameSet};
+ghost use Rattle.varisat_theory.specs.promises.Searches.{IsTautology};
+
+use std::alloc::{AllocError, Allocator};
+use varisat_literals::Lit;
+use varisat_rules::resolve::{Sign, sign_of};
+
+/// A clause of more literals is taken as it is.
+const MOST_LITERALS: usize = 1000;
+
+/// Whether each variable stands but once in the clause, or it is a long one.
+pub fn is_normal(clause: &[Lit]) -> bool {
+    if clause.len() > MOST_LITERALS {
+        return true;
+    }
+    for index in 0..clause.len() {
+        match sign_of(&clause[..index], clause[index]) {
+            Sign::Absent => {}
+            Sign::Same => return false,
+            Sign::Opposite => return false,
+        }
+    }
+    true
+}
+
+/// Each literal of the clause once, or false where it is a tautology. A long one is taken as it is.
+pub fn normalize<A: Allocator + Copy>(
+    clause: &[Lit],
+    out: &mut Vec<Lit, A>,
+) -> Result<bool, AllocError>
+    ensures { IfOk result (λ b. MatchBool b (SameSet clause.now out.new.items) (IsTautology clause.now)) }
+{
+    out.clear();
+    if clause.len() > MOST_LITERALS {
+        out.extend_from_slice(clause)?;
+        return Ok(true);
+    }
+    for lit in clause {
+        match sign_of(out, *lit) {
+            Sign::Same => {}
+            Sign::Opposite => return Ok(false),
+            Sign::Absent => out.push(*lit)?,
+        }
+    }
+    Ok(true)
+}

@@ -170,6 +170,13 @@ impl<A: Allocator + Copy> Client<A> {
         }
     }
 
+    /// How many steps all searches made together.
+    pub fn steps(&self) -> u64
+        ensures { (p : Past) → RepresentsPast self.now p → p.refusal ≡ None → result ≡ p.steps }
+    {
+        self.solver.steps()
+    }
+
     /// Searches until it is known whether some assignment satisfies the clauses and makes the assumptions true, or the
     /// steps of one call are spent.
     pub fn search(&mut self) -> SearchEnd

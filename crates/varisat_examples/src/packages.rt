@@ -49,18 +49,26 @@ pub fn run(rt: &HostRuntime) -> Result<()> {
 fn resolve(rt: &HostRuntime, solver: &mut PackageSolver) -> Result<()> {
     add_rules(rt, solver)?;
     let mut groups = Vec::new(rt.alloc());
+    let dropped = drop_rules(rt, solver, &mut groups);
+    drop(groups);
+    dropped?;
+    print_installed(rt, solver)
+}
+
+/// Drops rules until the others, whose groups are listed, can be kept together.
+fn drop_rules(rt: &HostRuntime, solver: &mut PackageSolver, groups: &mut Vec<Lit>) -> Result<()> {
     for rule in 0..RULES.len() {
         groups.push(group_of(rule))?;
     }
     for _ in 0..RULES.len() {
-        solver.assume(&groups)?;
+        solver.assume(groups)?;
         if solver.solve()? {
             break;
         }
         let dropped = explain(rt, solver)?;
         groups.retain(|group| Some(*group) != dropped);
     }
-    print_installed(rt, solver)
+    Ok(())
 }
 
 /// The literal that is assumed to have the rule kept.

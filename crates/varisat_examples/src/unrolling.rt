@@ -50,17 +50,29 @@ pub fn run(rt: &HostRuntime) -> Result<()> {
     told
 }
 
-/// Tells what is left of a step, after how many the counter can be bad, and by which.
+/// Simplifies a step, and tells what comes of it.
 fn print_answer(rt: &HostRuntime, solver: &mut UnrollingSolver) -> Result<()> {
     let step = step_formula(rt.alloc())?;
     let clauses = step.len();
     let simplified = simplify(rt.alloc(), step, &frozen())?;
-    let is_less = simplified.formula.len() < clauses;
+    let told = print_bad(rt, solver, clauses, &simplified);
+    drop(simplified);
+    told
+}
+
+/// Tells what is left of a step of so many clauses, after how many steps the counter can be bad, and by which.
+fn print_bad(
+    rt: &HostRuntime,
+    solver: &mut UnrollingSolver,
+    clauses: usize,
+    step: &Simplified<Global>,
+) -> Result<()> {
+    let is_less = step.formula.len() < clauses;
     println!(rt; "fewer than {clauses} clauses of a step are left: {is_less}")?;
-    match find_bad(rt.alloc(), solver, &simplified.formula)? {
+    match find_bad(rt.alloc(), solver, &step.formula)? {
         Some(bound) => {
             println!(rt; "{BAD} is reached after {bound} steps")?;
-            print_trace(rt, solver, &simplified, bound)
+            print_trace(rt, solver, step, bound)
         }
         None => Ok(println!(rt; "{BAD} is not reached within {BOUND} steps")?),
     }
@@ -84,6 +96,12 @@ fn local(variable: u8) -> Lit {
 /// The gates of a step: the sum, and the choice between it and the bits one place up.
 fn step_formula(alloc: Global) -> Result<CnfFormula<Global>> {
     let mut step = CnfFormula::new_in(alloc);
+    add_gates(&mut step)?;
+    Ok(step)
+}
+
+/// Adds them.
+fn add_gates(step: &mut CnfFormula<Global>) -> Result<()> {
     step.add_clause(&[!local(NOTHING)])?;
     step.add_clause(&[local(CARRY)])?;
     for bit in 0..BITS {
@@ -94,13 +112,13 @@ fn step_formula(alloc: Global) -> Result<CnfFormula<Global>> {
         } else {
             local(bit - 1)
         };
-        add_exclusive(&mut step, sum, now, local(CARRY + bit))?;
+        add_exclusive(step, sum, now, local(CARRY + bit))?;
         if bit + 1 < BITS {
-            add_both(&mut step, local(CARRY + bit + 1), now, local(CARRY + bit))?;
+            add_both(step, local(CARRY + bit + 1), now, local(CARRY + bit))?;
         }
-        add_choice(&mut step, local(NEXT + bit), below, sum)?;
+        add_choice(step, local(NEXT + bit), below, sum)?;
     }
-    Ok(step)
+    Ok(())
 }
 
 /// The gate is true where just one of the inputs is.

@@ -1,2 +1,1 @@
 pub mod ReadySearches
-pub mod RecordedUnits

@@ -1,24 +1,14 @@
--- A search stays ready where activities, remembered values and headers change, and where its clauses are watched anew.
-use Rattle.std.proofs.Common.{◌≡◌, ℕ, ◌*◌, true, false, length, get_or, replicate, ⊎_elim, inl, inr, refl, sym, ap, ◌∙◌, subst}
+-- A search stays ready where activities and remembered values change.
+use Rattle.std.proofs.Common.{◌≡◌, ◌*◌, false, length, get_or, replicate, ⊎_elim, inl, inr, refl, sym, ap, ◌∙◌, subst}
 use Rattle.varisat_theory.specs.promises.Literals.{variable_of}
-use Rattle.varisat_clause.specs.declared.header.Tier.TheVariants as tier
-use Rattle.varisat_clause.specs.Tiers.{is_tier}
-use Rattle.varisat_clause.specs.Headers.{Header}
-use Rattle.varisat_clause.specs.Stored.{IsClauseRef, header_at, with_header}
-use Rattle.varisat_clause.specs.Stores.{Store, stored_clauses, HoldsClauses}
-use Rattle.varisat_clause.specs.Collected.{live_of, live_clauses}
-use Rattle.varisat_clause.proofs.DatabaseTracks.{tracks-header}
 use Rattle.varisat_prop.specs.Parts.{Values}
 use Rattle.varisat_prop.specs.View.{View, WellFormed, PropagatedBeforeDecisions}
-use Rattle.varisat_prop.specs.Watches.{Watches, IsPropagated, IsWatching}
-use Rattle.varisat_analysis.specs.HeaderChanges.{SameButHeaders}
-use Rattle.varisat_analysis.proofs.SameButHeaders.{live-header}
+use Rattle.varisat_prop.specs.Watches.{IsPropagated}
 use Rattle.varisat_vsids.specs.Activities.{Activities}
 use Rattle.varisat_search.specs.declared.context.Context.{Context}
 use Rattle.varisat_search.specs.Contexts.{view, IsReady}
 use Rattle.varisat_search.specs.AssumptionParts.{HasAssumptions}
 use Rattle.varisat_search.specs.Decisions.{AreDecidable, CanDecide}
-use Rattle.varisat_search.proofs.simplifying.HeaderChanges.{store-view, headers-ready}
 use Rattle.varisat_search.proofs.stepping.ReadyAfter.{ready-with}
 
 pub activities-ready : {A : Type 0} {x : Context A} (a : Activities) → length a.activity ≡ length x.vsids.activity →
@@ -45,33 +35,3 @@ values-ready {A} {x} a e r =
       assumed = subst (λ (s : View). HasAssumptions s x.assumptions) (sym v) r.assumed;
       assumable = subst (λ (s : View). AreDecidable s x.vsids x.assumptions.working) (sym v) r.assumable;
     }
-
-pub rebuilt-ready : {A : Type 0} {x : Context A} (W : Watches) → length W.lists ≡ length x.watchlists.lists → W.enabled ≡ true →
-    IsWatching W (live_clauses x.clause_alloc) → IsReady x → IsReady (record x { watchlists = W })
-rebuilt-ready {A} {x} W n on w r =
-    ready-with x (record x { watchlists = W }) r refl refl refl
-    (record {
-      lists = n ∙ r.propagated.lists;
-      watching = λ e. w;
-      empty = λ e. absurd (let f = on in cc);
-      settled = r.propagated.settled;
-      binary = r.propagated.binary;
-      implied = r.propagated.implied;
-      queue = r.propagated.queue;
-    })
-    r.decidable r.assumed r.assumable
-
--- the header of a stored clause changes but for its tier and whether it is deleted
-pub header-ready : {A : Type 0} (x : Context A) (n : Store) (p : ℕ) (h : Header) → IsReady x → IsClauseRef (stored_clauses x.clause_alloc) p →
-    h.tier ≡ (header_at (stored_clauses x.clause_alloc) p).tier → h.deleted ≡ (header_at (stored_clauses x.clause_alloc) p).deleted →
-    HoldsClauses n (length x.clause_alloc.words) (with_header (stored_clauses x.clause_alloc) p h) → IsReady (record x { clause_alloc = n })
-header-ready {A} x n p h r known t d o =
-    let ks = stored_clauses x.clause_alloc in
-    let tracks = tracks-header x.clause_db x.clause_alloc n p h r.tracks known t d o in
-    headers-ready x (record x { clause_alloc = n }) r
-    (record {
-      clauses = subst (λ js. SameButHeaders (live_clauses x.clause_alloc) (live_of js)) (sym o.clauses)
-          (live-header ks p h d (ap (λ k. is_tier k tier.Irred) t));
-      rest = store-view x (record x { clause_alloc = n }) r.tracks.sound tracks.sound refl;
-    })
-    tracks refl refl

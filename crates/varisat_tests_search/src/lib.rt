@@ -1,5 +1,4 @@
-//! Tests of what no contract says, over the calls of a search, and over the parts that it and a solver are made of: worked
-//! examples, printed texts, each growth refused.
+//! Tests of what no contract says, over the calls of a search, and over calls of its parts that none makes: worked examples.
 #![tactic(auto)]
 
 #[cfg(test)]

@@ -3,7 +3,7 @@
 mod calls;
 mod checking;
 mod counting;
+mod formulas;
 mod hiding;
-mod lines;
 mod paths;
 mod programs;

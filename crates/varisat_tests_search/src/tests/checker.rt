@@ -1,189 +1,132 @@
-//! Worked examples. Literals are written as signed variable numbers from 1.
+//! Worked examples of the plain checker. A literal stands as its code: that of variable n is 2n-2, and its opposite one more.
 use std::alloc::{AllocError, Global};
 use varisat_plain::checker::{PlainLine, PlainVerdict, check_lines};
 use varisat_plain::propagation::{conflicts, follows};
 
-fn code(number: i32) -> u32 {
-    let index = number.unsigned_abs().saturating_sub(1);
-    if number < 0 {
-        index.wrapping_mul(2).wrapping_add(1)
-    } else {
-        index.wrapping_mul(2)
-    }
-}
-
-fn clause(alloc: Global, numbers: &[i32]) -> Result<Vec<u32>, AllocError> {
-    let mut codes = Vec::new(alloc);
-    for number in numbers {
-        codes.push(code(*number))?;
-    }
-    Ok(codes)
-}
-
-fn clauses(alloc: Global, lists: &[&[i32]]) -> Result<Vec<Vec<u32>>, AllocError> {
+fn clauses(alloc: Global, lists: &[&[u32]]) -> Result<Vec<Vec<u32>>, AllocError> {
     let mut made = Vec::new(alloc);
-    for numbers in lists {
-        made.push(clause(alloc, numbers)?)?;
+    for codes in lists {
+        made.push(Vec::from_slice(alloc, codes)?)?;
     }
     Ok(made)
 }
 
-// A line is a word, `add` or `delete`, and a clause.
-fn line(alloc: Global, word: &str, numbers: &[i32]) -> Result<PlainLine, AllocError> {
-    let named = clause(alloc, numbers)?;
-    let line = if word == "delete" {
-        PlainLine::Deletes(named)
-    } else {
-        PlainLine::Adds(named)
-    };
-    Ok(line)
-}
+/// A line by its clause, and whether it deletes that.
+type Line = (&'static [u32], bool);
 
-fn lines(alloc: Global, words: &[(&str, &[i32])]) -> Result<Vec<PlainLine>, AllocError> {
+fn lines(alloc: Global, given: &[Line]) -> Result<Vec<PlainLine>, AllocError> {
     let mut made = Vec::new(alloc);
-    for (word, numbers) in words {
-        made.push(line(alloc, word, numbers)?)?;
+    for (codes, deletes) in given {
+        let clause = Vec::from_slice(alloc, *codes)?;
+        made.push(if *deletes {
+            PlainLine::Deletes(clause)
+        } else {
+            PlainLine::Adds(clause)
+        })?;
     }
     Ok(made)
-}
-
-// What the lines are.
-fn verdict(
-    alloc: Global,
-    lists: &[&[i32]],
-    words: &[(&str, &[i32])],
-) -> Result<PlainVerdict, AllocError> {
-    let made = lines(alloc, words)?;
-    verdict_on(alloc, lists, &made)
 }
 
 fn verdict_on(
     alloc: Global,
-    lists: &[&[i32]],
+    lists: &[&[u32]],
     made: &[PlainLine],
 ) -> Result<PlainVerdict, AllocError> {
     let held = clauses(alloc, lists)?;
     check_lines(alloc, &held, made)
 }
 
-const SQUARE: &[&[i32]] = &[&[1, 2], &[-1, 2], &[1, -2], &[-1, -2]];
+/// What the lines are.
+fn verdict(alloc: Global, lists: &[&[u32]], given: &[Line]) -> Result<PlainVerdict, AllocError> {
+    let made = lines(alloc, given)?;
+    verdict_on(alloc, lists, &made)
+}
 
-const OPPOSITES: &[&[i32]] = &[&[1], &[-1]];
+/// 1 or 2, not 1 or 2, 1 or not 2, and neither.
+const SQUARE: &[&[u32]] = &[&[0, 2], &[1, 2], &[0, 3], &[1, 3]];
 
-const PAIR: &[&[i32]] = &[&[1, 2]];
+const OPPOSITES: &[&[u32]] = &[&[0], &[1]];
 
-const TWICE: &[&[i32]] = &[&[1, 2], &[2, 1]];
+const PAIR: &[&[u32]] = &[&[0, 2]];
+
+const TWICE: &[&[u32]] = &[&[0, 2], &[2, 0]];
 
 /// Clauses, lines, and what the lines are.
-type Row = (
-    &'static [&'static [i32]],
-    &'static [(&'static str, &'static [i32])],
-    PlainVerdict,
-);
+type Row = (&'static [&'static [u32]], &'static [Line], PlainVerdict);
 
 const ROWS: &[Row] = &[
-    (SQUARE, &[("add", &[2])], PlainVerdict::Refutation),
+    (SQUARE, &[(&[2], false)], PlainVerdict::Refutation),
     (
         SQUARE,
-        &[("add", &[2]), ("add", &[])],
+        &[(&[2], false), (&[], false)],
         PlainVerdict::Refutation,
     ),
     (SQUARE, &[], PlainVerdict::Derivation),
-    (SQUARE, &[("add", &[])], PlainVerdict::DoesNotFollow(1)),
+    (SQUARE, &[(&[], false)], PlainVerdict::DoesNotFollow(1)),
     (OPPOSITES, &[], PlainVerdict::Refutation),
-    (OPPOSITES, &[("delete", &[7])], PlainVerdict::Refutation),
-    (PAIR, &[("add", &[1])], PlainVerdict::DoesNotFollow(1)),
+    (OPPOSITES, &[(&[12], true)], PlainVerdict::Refutation),
+    (PAIR, &[(&[0], false)], PlainVerdict::DoesNotFollow(1)),
+    (PAIR, &[(&[0, 4], true)], PlainVerdict::DeletesNothing(1)),
+    (PAIR, &[(&[], true)], PlainVerdict::DeletesNothing(1)),
+    (PAIR, &[(&[2, 0], true)], PlainVerdict::Derivation),
     (
         PAIR,
-        &[("delete", &[1, 3])],
-        PlainVerdict::DeletesNothing(1),
-    ),
-    (PAIR, &[("delete", &[])], PlainVerdict::DeletesNothing(1)),
-    (PAIR, &[("delete", &[2, 1])], PlainVerdict::Derivation),
-    (
-        PAIR,
-        &[("delete", &[2, 1]), ("delete", &[1, 2])],
+        &[(&[2, 0], true), (&[0, 2], true)],
         PlainVerdict::DeletesNothing(2),
     ),
     (
         PAIR,
-        &[("add", &[1, 1, 2]), ("add", &[3, -3])],
+        &[(&[0, 0, 2], false), (&[4, 5], false)],
         PlainVerdict::Derivation,
     ),
     (
         TWICE,
-        &[("delete", &[1, 2]), ("delete", &[1, 2])],
+        &[(&[0, 2], true), (&[0, 2], true)],
         PlainVerdict::Derivation,
     ),
 ];
 
-/// Whether the row is right.
-fn is_judged(alloc: Global, row: &Row) -> Result<bool, AllocError> {
-    let (lists, words, wanted) = *row;
-    Ok(verdict(alloc, lists, words)? == wanted)
-}
-
 #[test]
-fn lines_are_judged(rt: HostRuntime) -> Result<(), AllocError> {
+fn lines_are_judged(rt: HostRuntime) {
     for (index, row) in ROWS.iter().enumerate() {
-        let is_right = is_judged(rt.alloc(), row)?;
-        assert!(rt; is_right, "row {index}");
+        let found = verdict(rt.alloc(), row.0, row.1);
+        assert!(rt; found == Ok(row.2), "row {index}");
     }
-    Ok(())
 }
 
-const ALL: &[&[i32]] = &[&[-1, 2], &[-3, 4], &[-2, -4, 5], &[-1, -4, -5]];
+/// 1 implies 2, 3 implies 4, 2 and 4 imply 5, and not all of 1, 4 and 5 are true.
+const ALL: &[&[u32]] = &[&[1, 2], &[5, 6], &[3, 7, 8], &[1, 7, 9]];
 
-const ALL_BUT_ONE: &[&[i32]] = &[&[-1, 2], &[-2, -4, 5], &[-1, -4, -5]];
+const ALL_BUT_ONE: &[&[u32]] = &[&[1, 2], &[3, 7, 8], &[1, 7, 9]];
 
-/// Clauses, a clause, and whether it follows.
-const FOLLOWING: &[(&[&[i32]], &[i32], bool)] = &[
-    (ALL, &[-4, -1], true),
-    (ALL, &[-3, -1], true),
-    (ALL_BUT_ONE, &[-4, -1], true),
-    (ALL_BUT_ONE, &[-3, -1], false),
+/// Clauses, literals, and whether propagation from these conflicts.
+const CONFLICTS: &[(&[&[u32]], &[u32], bool)] = &[
+    (ALL, &[0, 4], true),
+    (ALL, &[0], false),
+    (ALL_BUT_ONE, &[0, 6], true),
+    (ALL_BUT_ONE, &[0, 4], false),
 ];
 
-fn follows_from(alloc: Global, lists: &[&[i32]], numbers: &[i32]) -> Result<bool, AllocError> {
+/// Whether propagation from the literals conflicts.
+fn conflicts_from(alloc: Global, lists: &[&[u32]], codes: &[u32]) -> Result<bool, AllocError> {
     let held = clauses(alloc, lists)?;
-    follows_from_held(alloc, &held, numbers)
+    conflicts(alloc, &held, codes)
 }
 
-fn follows_from_held(
-    alloc: Global,
-    held: &[Vec<u32>],
-    numbers: &[i32],
-) -> Result<bool, AllocError> {
-    let named = clause(alloc, numbers)?;
-    follows(alloc, held, &named)
+fn follows_from(alloc: Global, lists: &[&[u32]], codes: &[u32]) -> Result<bool, AllocError> {
+    let held = clauses(alloc, lists)?;
+    follows(alloc, &held, codes)
 }
 
-fn conflicts_with(alloc: Global, held: &[Vec<u32>], numbers: &[i32]) -> Result<bool, AllocError> {
-    let base = clause(alloc, numbers)?;
-    conflicts(alloc, held, &base)
-}
-
-fn conflicts_in(alloc: Global, held: &[Vec<u32>]) -> Result<(bool, bool), AllocError> {
-    let both = conflicts_with(alloc, held, &[1, 3])?;
-    let one = conflicts_with(alloc, held, &[1])?;
-    Ok((both, one))
-}
-
-fn conflict(alloc: Global) -> Result<(bool, bool), AllocError> {
-    let held = clauses(alloc, ALL)?;
-    conflicts_in(alloc, &held)
-}
-
-// A learned clause follows without one of the clauses, and the opposites of the decisions do not.
+// A learned clause follows without one of the clauses.
 #[test]
-fn clauses_follow_and_literals_conflict(rt: HostRuntime) -> Result<(), AllocError> {
-    for (index, row) in FOLLOWING.iter().enumerate() {
-        let (lists, numbers, wanted) = *row;
+fn clauses_follow_and_literals_conflict(rt: HostRuntime) {
+    for (index, (lists, codes, wanted)) in CONFLICTS.iter().enumerate() {
         assert!(rt;
-            follows_from(rt.alloc(), lists, numbers)? == wanted,
+            conflicts_from(rt.alloc(), *lists, *codes) == Ok(*wanted),
             "row {index}"
         );
     }
-    assert!(rt; conflict(rt.alloc())? == (true, false));
-    Ok(())
+    assert!(rt; follows_from(rt.alloc(), ALL_BUT_ONE, &[7, 1]) == Ok(true));
+    assert!(rt; follows_from(rt.alloc(), ALL_BUT_ONE, &[5, 1]) == Ok(false));
 }

@@ -154,12 +154,6 @@ pub fn loaded_conflict<A: Allocator + Copy>(alloc: A) -> Result<Context<A>, Step
     loaded(alloc, 5, clauses)
 }
 
-/// Whether the literal with the number implies just these by clauses of two literals.
-pub fn implies<A: Allocator + Copy>(ctx: &Context<A>, number: i8, wanted: &[i8]) -> bool {
-    let lit = literal(number);
-    lit.code() < ctx.binary_clauses.len() && are(ctx.binary_clauses.implied(lit), wanted)
-}
-
 /// Makes a step, unless there is a verdict.
 pub fn step<A: Allocator + Copy>(ctx: &mut Context<A>) -> Result<(), StepError>
     requires { IsReady ctx.old }
@@ -209,12 +203,4 @@ pub fn prefer_lower_true<A: Allocator + Copy>(ctx: &mut Context<A>)
 {
     prefer_lower(&mut ctx.vsids);
     prefer_value(&mut ctx.assignment, true);
-}
-
-/// Lets the next decisions make variables false.
-pub fn prefer_false<A: Allocator + Copy>(ctx: &mut Context<A>)
-    requires { IsReady ctx.old }
-    ensures { IsReady ctx.new }
-{
-    prefer_value(&mut ctx.assignment, false);
 }

@@ -1,10 +1,9 @@
-//! Steps of a search, and what their conflicts teach.
+//! What the conflicts of a search's steps teach.
 ghost use Rattle.std.specs.Prelude.{◌≤◌};
 ghost use Rattle.varisat_search.specs.Contexts.{IsReady};
 ghost use Rattle.varisat_literals.specs.promises.Numbers.{variable_limit};
 
 use super::searches::{are, loaded, loaded_conflict, prefer_lower_true, step};
-use linked_list_allocator::LocalHeap;
 use std::alloc::{Allocator, Global};
 use varisat_literals::lit;
 use varisat_prop::clause::ClauseRef;
@@ -44,71 +43,6 @@ fn learns<A: Allocator + Copy>(
     let is_learned = teaches(&mut ctx, learned, level);
     drop(ctx);
     is_learned
-}
-
-/// The verdicts before and after a step.
-fn verdicts<A: Allocator + Copy>(ctx: &mut Context<A>) -> Result<[SatState; 2], StepError>
-    requires { IsReady ctx.old }
-{
-    let before = ctx.solver_state.sat_state;
-    step(ctx)?;
-    Ok([before, ctx.solver_state.sat_state])
-}
-
-fn verdicts_on_units(alloc: Global) -> Result<[SatState; 2], StepError> {
-    let clauses: &[&[i8]] = &[&[1, 2, 3], &[-1], &[1, -2], &[2, -3]];
-    let mut ctx = loaded(alloc, 3, clauses)?;
-    let verdicts = verdicts(&mut ctx);
-    drop(ctx);
-    verdicts
-}
-
-/// The verdict after at most two steps.
-fn verdict_after_two<A: Allocator + Copy>(ctx: &mut Context<A>) -> Result<SatState, StepError>
-    requires { IsReady ctx.old }
-{
-    step(ctx)?;
-    step(ctx)?;
-    Ok(ctx.solver_state.sat_state)
-}
-
-// The verdict on the four clauses of two variables, after at most two steps.
-fn refute<A: Allocator + Copy>(alloc: A) -> Result<SatState, StepError> {
-    let clauses: &[&[i8]] = &[&[1, 2], &[-1, 2], &[1, -2], &[-1, -2]];
-    let mut ctx = loaded(alloc, 2, clauses)?;
-    let verdict = verdict_after_two(&mut ctx);
-    drop(ctx);
-    verdict
-}
-
-/// Whether they are refuted on a heap of that many bytes.
-pub fn is_refuted_with(alloc: Global, size: usize) -> Result<bool, StepError> {
-    let heap = LocalHeap::new(alloc, size)?;
-    Ok(refute(&heap)? == SatState::Unsat)
-}
-
-/// Whether two steps find a model, and the first variable is true in it.
-fn finds_first<A: Allocator + Copy>(ctx: &mut Context<A>) -> Result<bool, StepError>
-    requires { IsReady ctx.old }
-{
-    let verdict = verdict_after_two(ctx)?;
-    let is_true = ctx.assignment.assignment().first() == Some(&Some(true));
-    Ok((verdict == SatState::Sat) & is_true)
-}
-
-fn finds_model(alloc: Global) -> Result<bool, StepError> {
-    let mut ctx = loaded(alloc, 2, &[&[1, 2], &[1, -2]])?;
-    let is_found = finds_first(&mut ctx);
-    drop(ctx);
-    is_found
-}
-
-#[test]
-fn verdicts_are_found(rt: HostRuntime) -> Result<(), StepError> {
-    let verdicts = verdicts_on_units(rt.alloc())?;
-    let is_found = finds_model(rt.alloc())?;
-    assert!(rt; (verdicts, is_found) == ([SatState::Unknown, SatState::Unsat], true));
-    Ok(())
 }
 
 /// Whether the next step learns the clause from these, backtracks to the level, and leaves the trail.

@@ -4,7 +4,6 @@ ghost use Rattle.varisat_search.specs.Contexts.{IsReady};
 ghost use Rattle.varisat_literals.specs.promises.Numbers.{variable_limit};
 
 use super::searches::{loaded, prefer_lower_true, step, unless_refused};
-use linked_list_allocator::LocalHeap;
 use std::alloc::{Allocator, Global};
 use varisat_prop::clause::{ClauseHeader, Tier};
 use varisat_search::context::Context;
@@ -196,10 +195,4 @@ fn conflicts_change_what_is_noted(rt: HostRuntime) -> Result<(), StepError> {
     let are_right = [lowers_glue(rt.alloc())?, raises_activities(rt.alloc())?];
     assert!(rt; are_right == [true; 2]);
     Ok(())
-}
-
-/// Whether the glue is lower on a heap of that many bytes.
-pub fn lowers_glue_with(alloc: Global, size: usize) -> Result<bool, StepError> {
-    let heap = LocalHeap::new(alloc, size)?;
-    lowers_glue(&heap)
 }

@@ -1,13 +1,11 @@
 //! Which clauses are watched by which literals, and what propagation at level 0 comes to by that.
-ghost use Rattle.std.specs.Prelude.{OnOk};
 ghost use Rattle.varisat_search.specs.Contexts.{IsReady};
 
 use super::searches::{are, literal, loaded};
-use linked_list_allocator::LocalHeap;
 use std::alloc::{Allocator, Global};
 use varisat_literals::{Lit, lit};
 use varisat_prop::clause::ClauseRef;
-use varisat_prop::prop::{Conflict, Reason, Watchlists, enable_watchlists, propagate};
+use varisat_prop::prop::{Conflict, Reason, Watchlists, propagate};
 use varisat_search::context::Context;
 use varisat_search::error::StepError;
 
@@ -20,16 +18,6 @@ struct Row {
     trail: &'static [i8],
     reason: Reason,
     watched: &'static [(i8, &'static [usize])],
-}
-
-/// Takes out all watches, and watches the clauses by their first two literals anew.
-fn rebuild<A: Allocator + Copy>(ctx: &mut Context<A>) -> Result<(), StepError>
-    requires { IsReady ctx.old }
-    ensures { OnOk result (IsReady ctx.new) }
-{
-    ctx.watchlists.disable();
-    enable_watchlists(&mut ctx.watchlists, &ctx.clause_alloc)?;
-    Ok(())
 }
 
 /// Whether the literal watches the clauses at these places, and no other.
@@ -85,31 +73,12 @@ fn comes_to<A: Allocator + Copy>(ctx: &mut Context<A>, row: &Row) -> Result<bool
     Ok(is_end & is_reason(ctx, row.reason) & watch(&mut ctx.watchlists, row.watched))
 }
 
-/// Whether clauses are watched by their first two literals, and propagation comes to what the row says.
-fn is_right<A: Allocator + Copy>(
-    ctx: &mut Context<A>,
-    row: &Row,
-    is_rebuilt: bool,
-) -> Result<bool, StepError>
-    requires { IsReady ctx.old }
-{
-    if is_rebuilt {
-        rebuild(ctx)?;
-    }
-    let is_right = comes_to(ctx, row)?;
-    Ok(is_right)
-}
-
-/// Whether the row is right, whether or not the clauses are watched anew before.
-fn holds<A: Allocator + Copy>(alloc: A, row: &Row, is_rebuilt: bool) -> Result<bool, StepError> {
+/// Whether the row is right.
+fn holds(alloc: Global, row: &Row) -> Result<bool, StepError> {
     let mut ctx = loaded(alloc, 4, row.clauses)?;
-    let is_right = is_right(&mut ctx, row, is_rebuilt);
+    let is_right = comes_to(&mut ctx, row);
     drop(ctx);
     is_right
-}
-
-fn holds_always(alloc: Global, row: &Row) -> Result<bool, StepError> {
-    Ok(holds(alloc, row, false)? & holds(alloc, row, true)?)
 }
 
 /// A clause is found false that comes behind one that implied a literal. Both watch 2, which was not propagated to its
@@ -171,14 +140,8 @@ fn rows() -> [Row; 5] {
 #[test]
 fn watches_are_right_after_propagation(rt: HostRuntime) -> Result<(), StepError> {
     for (place, row) in rows().iter().enumerate() {
-        let is_right = holds_always(rt.alloc(), row)?;
+        let is_right = holds(rt.alloc(), row)?;
         assert!(rt; is_right, "row {place}");
     }
     Ok(())
-}
-
-/// Whether the false clause is found on a heap of that many bytes.
-pub fn is_conflict_found_with(alloc: Global, size: usize) -> Result<bool, StepError> {
-    let heap = LocalHeap::new(alloc, size)?;
-    holds(&heap, &false_clause(), true)
 }

@@ -3,13 +3,11 @@ ghost use Rattle.std.specs.Prelude.{◌≡◌};
 ghost use Rattle.varisat_clause.specs.Databases.{Tracks};
 
 use std::alloc::{AllocError, Allocator, Global};
-use varisat::checker::{CheckVerdict, Checker, CheckerError};
 use varisat::clause::{ClauseAlloc, ClauseDb, ClauseHeader, StoreError, add_clause, delete_clause};
-use varisat::dimacs::{DimacsErrorKind, write_dimacs};
+use varisat::dimacs::write_dimacs;
 use varisat::formula::CnfFormula;
-use varisat::io::{CutSource, MemoryTarget};
-use varisat::proof::{ProofFormat, ProofStep, write_binary_step, write_step};
-use varisat::solver::{Solver, SolverError};
+use varisat::io::MemoryTarget;
+use varisat::proof::{ProofStep, write_binary_step, write_step};
 use varisat_clause::collect::collect_garbage;
 use varisat_formula::cnf_formula;
 use varisat_literals::lits;
@@ -36,31 +34,17 @@ fn short_if(is_right: bool) -> Came {
 enum Example {
     /// A step is written as text, or in the binary format.
     Step(bool),
-    /// A text that ends in an open clause comes in pieces of this size.
-    CutText(usize),
-    /// A proof is checked against the clause 1 2.
-    Proof(&'static str),
     /// Two of three clauses are deleted and collected.
     Store,
     /// A formula is written as a text.
     Text,
-    /// A formula is solved.
-    Formula,
 }
 
-const EXAMPLES: [Example; 12] = [
+const EXAMPLES: [Example; 4] = [
     Example::Step(false),
     Example::Step(true),
-    Example::CutText(1),
-    Example::CutText(100),
-    Example::Proof("1 0"),
-    Example::Proof("d 1 3 0"),
-    Example::Proof("d 2 1 0"),
-    Example::Proof("01 0"),
-    Example::Proof("1 2"),
     Example::Store,
     Example::Text,
-    Example::Formula,
 ];
 
 // Writes a step. A target that fails has a beginning of its bytes.
@@ -90,73 +74,6 @@ fn write_in<A: Allocator + Copy>(heap: A, is_binary: bool) -> Came {
     let mut target = MemoryTarget::new_in(heap);
     let came = write(&mut target, &mut line, is_binary);
     drop(target);
-    came
-}
-
-// What the next call of the solver comes to, which finds a model.
-fn solve<A: Allocator + Copy>(solver: &mut Solver<MemoryTarget<A>, A>) -> Came {
-    match solver.solve() {
-        Ok(is_satisfiable) => whole_if(is_satisfiable),
-        Err(SolverError::OutOfMemory) => short_if(!solver.is_valid()),
-        Err(_) => Came::Wrong,
-    }
-}
-
-// The clause in front of the open one stays.
-fn take_text<A: Allocator + Copy>(solver: &mut Solver<MemoryTarget<A>, A>, size: usize) -> Came {
-    let mut source = CutSource::new(b"p cnf 2 2\n1 -2 0\n2").in_pieces(0, size);
-    match solver.add_dimacs_cnf(&mut source) {
-        Err(SolverError::Dimacs { cause }) => {
-            match (cause.kind, cause.line) {
-                (DimacsErrorKind::UnterminatedClause, 3) => solve(solver),
-                (DimacsErrorKind::OutOfMemory, _) => Came::Short,
-                _ => Came::Wrong,
-            }
-        }
-        Err(SolverError::OutOfMemory) => short_if(!solver.is_valid()),
-        _ => Came::Wrong,
-    }
-}
-
-fn take_text_in<A: Allocator + Copy>(heap: A, size: usize) -> Came {
-    let mut solver = Solver::new_in(heap);
-    let came = take_text(&mut solver, size);
-    drop(solver);
-    came
-}
-
-// Whether that is what a check of the proof returns.
-fn is_right(proof: &str, checked: &Result<CheckVerdict, CheckerError>) -> bool {
-    match (proof, checked) {
-        ("1 0", Err(CheckerError::CheckFailed { step })) => *step == 1,
-        ("d 1 3 0", Err(CheckerError::NoSuchClause { step })) => *step == 1,
-        ("d 2 1 0", Ok(CheckVerdict::Derivation)) => true,
-        ("01 0", Err(CheckerError::Parse { offset })) => *offset == 0,
-        ("1 2", Err(CheckerError::Parse { offset })) => *offset == 3,
-        _ => false,
-    }
-}
-
-// A checker that wanted memory is spent.
-fn check<A: Allocator + Copy>(checker: &mut Checker<A>, proof: &'static str) -> Came {
-    if checker.add_clause(&lits![1, 2]).is_err() {
-        return short_if(is_spent(checker));
-    }
-    let mut source = CutSource::new(proof.as_bytes());
-    match checker.check_proof(&mut source, ProofFormat::Drat) {
-        Err(CheckerError::OutOfMemory) => short_if(is_spent(checker)),
-        checked => whole_if(is_right(proof, &checked)),
-    }
-}
-
-fn is_spent<A: Allocator + Copy>(checker: &mut Checker<A>) -> bool {
-    matches!(checker.add_clause(&lits![1]), Err(CheckerError::Spent))
-}
-
-fn check_in<A: Allocator + Copy>(heap: A, proof: &'static str) -> Came {
-    let mut checker = Checker::new_in(heap);
-    let came = check(&mut checker, proof);
-    drop(checker);
     came
 }
 
@@ -251,48 +168,11 @@ fn write_text_in<A: Allocator + Copy>(alloc: Global, heap: A) -> Came {
     came
 }
 
-// The model is wanted where memory ran out for it, and the solver stays valid.
-fn has_model<A: Allocator + Copy>(solver: &Solver<MemoryTarget<A>, A>) -> Came {
-    match solver.model() {
-        Ok(Some(model)) => whole_if(model.as_slice() == lits![-1, -2, 3].as_slice()),
-        Ok(None) => Came::Wrong,
-        Err(_) => short_if(solver.is_valid()),
-    }
-}
-
-fn take_formula<A: Allocator + Copy>(
-    solver: &mut Solver<MemoryTarget<A>, A>,
-    formula: &CnfFormula<A>,
-) -> Came {
-    match solver.add_formula(formula) {
-        Ok(()) => {}
-        Err(SolverError::OutOfMemory) => return short_if(!solver.is_valid()),
-        Err(_) => return Came::Wrong,
-    }
-    match solve(solver) {
-        Came::Whole => has_model(solver),
-        came => came,
-    }
-}
-
-fn take_formula_in<A: Allocator + Copy>(heap: A) -> Came {
-    let Ok(formula) = cnf_formula!(in heap; 1, -2; 3;) else {
-        return Came::Short;
-    };
-    let mut solver = Solver::new_in(heap);
-    let came = take_formula(&mut solver, &formula);
-    drop(solver);
-    came
-}
-
 fn come_to<A: Allocator + Copy>(alloc: Global, heap: A, example: Example) -> Came {
     match example {
         Example::Step(is_binary) => write_in(heap, is_binary),
-        Example::CutText(size) => take_text_in(heap, size),
-        Example::Proof(proof) => check_in(heap, proof),
         Example::Store => store_in(heap),
         Example::Text => write_text_in(alloc, heap),
-        Example::Formula => take_formula_in(heap),
     }
 }
 

@@ -11,15 +11,15 @@ use varisat_wcnf::program::{solve_lines, tell};
 /// What `--help` prints.
 const HELP: &str = "maxsat FILE [--max-steps N]
 
-Solves the weighted partial MaxSAT problem in FILE, a WCNF text in the new or the old format. Prints one of
+Solves the weighted partial MaxSAT problem in FILE, a WCNF text in the new or the old format. Prints a line o with
+the cost of each solution that costs less than those before it, as soon as it is found, and then one of
 
-    s OPTIMUM FOUND    exit code 30; a line o with the least cost stands before it, a line v with values behind it
+    s OPTIMUM FOUND    exit code 30; the last line o has the least cost, a line v behind it has values
     s UNSATISFIABLE    exit code 20; nothing satisfies the hard clauses
-    s UNKNOWN          exit code 0; a limit was met. Behind --max-steps with lines o and v of the best solution
-                       so far, if one was found
+    s UNKNOWN          exit code 0; a limit was met. Behind --max-steps with a line v of the best solution, if one
+                       was found
 
-    --max-steps N    let no search make more than N steps, of which each ends with a conflict or an answer; there
-                     is a search for each core and each solution
+    --max-steps N    make at most N steps in all, of which each ends with a conflict or an answer
 
 Exit code 2: a bad command line, or a fault, which standard error tells.";
 

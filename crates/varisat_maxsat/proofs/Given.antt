@@ -6,9 +6,9 @@ use Rattle.varisat_theory.specs.promises.Membership.{◌∈◌}
 use Rattle.varisat_theory.specs.promises.Literals.{Literal, Assignment, opposite, MakesTrue, IsFailedCore}
 use Rattle.varisat_theory.proofs.clauses.Values.{not_both}
 use Rattle.varisat_literals.specs.promises.Numbers.{literal_numbered}
-use Rattle.varisat_client.specs.promises.Pasts.{Past, refuse, Refuses, count, AddsNumber, AssumesNumber, Begins, IsSearchEnd, IsFoundModel, ReturnsFailed, ReturnsValue}
+use Rattle.varisat_client.specs.promises.Pasts.{Past, refuse, Refuses, count, AddsNumber, AssumesNumber, Begins, LimitsSteps, IsSearchEnd, IsFoundModel, ReturnsFailed, ReturnsValue}
 use Rattle.varisat_client.specs.promises.Pasts as past
-use Rattle.varisat_client.specs.inside.Clients.{Client, RepresentsPast}
+use Rattle.varisat_client.specs.inside.Clients.{Client, RepresentsPast, Moves}
 use Rattle.varisat_client.specs.declared.client.SearchEnd.{SearchEnd}
 use Rattle.varisat_client.specs.declared.client.SearchEnd.TheVariants as end
 use Rattle.varisat_maxsat.specs.inside.Charges.{AreAssumed, IsSplit, AreValues}
@@ -188,6 +188,14 @@ pub begun-fails : (t : ℕ) (cs : List Charge) (p : Past) (g h : Client) (r : Se
 begun-fails t cs p g h r e b moves =
     let (q, m, st) = moves (record (count b.assumed p) { assumed = b.assumed }) b.ready.stands in
     search-fails r (record (count b.assumed p) { assumed = b.assumed }) q t cs h b.assumed e m st b.from refl b.ready.clause b.ready.assumptions
+
+-- a limit of steps
+pub limited : (n : ℕ) (g h : Client) → Moves (LimitsSteps n) g h → (p : Past) → IsReady g p → (m : ℕ) × IsReady h (record p { limit = m })
+limited n g h moves p r = let (q, m, s) = moves p r.stands in go q m s
+  where
+    go : (q : Past) → LimitsSteps n p q → RepresentsPast h q → (m : ℕ) × IsReady h (record p { limit = m })
+    go q (past.Refused z e) s = absurd (z r.refusal)
+    go q (past.Limited z e) s = (n, record { stands = subst (RepresentsPast h) e s; refusal = r.refusal; clause = r.clause; assumptions = r.assumptions })
 
 -- what a core does not have
 has-not-failed : (n : ℤ) (b : Bool) (p : Past) → ReturnsFailed n b p → b ≡ false → n ≢ pos 0 → p.refusal ≡ None → literal_numbered n ∈ p.core → ⊥

@@ -10,3 +10,4 @@ pub mod Standing
 pub mod Lightening
 pub mod Below
 pub mod Improving
+pub mod Handing

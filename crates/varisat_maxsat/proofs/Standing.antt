@@ -5,8 +5,8 @@ use Rattle.std.proofs.lemmas.List.{take_more, length-take-le, length-append}
 use Rattle.varisat_formula.specs.promises.Formulas.{Formula, with_one_more, variables_of}
 use Rattle.varisat_theory.specs.promises.Membership.{◌∈◌}
 use Rattle.varisat_theory.specs.promises.Literals.{Literal, Clause, Assignment, opposite, MakesTrue, IsSatisfiable}
-use Rattle.varisat_client.specs.promises.Pasts.{Past, empty_past, count, LimitsSteps, Refused, Limited}
-use Rattle.varisat_client.specs.inside.Clients.{Client, RepresentsPast, Moves}
+use Rattle.varisat_client.specs.promises.Pasts.{Past, empty_past, count}
+use Rattle.varisat_client.specs.inside.Clients.{Client, RepresentsPast}
 use Rattle.varisat_maxsat.specs.promises.Problems.{Problem, with_hard, with_soft, paired, problem_of, cost, is_satisfied, IsOptimum}
 use Rattle.varisat_maxsat.specs.inside.Charges.{AreBelow, Reduces, IsSplit, TakesWeight, AreValues, IsPending}
 use Rattle.varisat_maxsat.specs.inside.Reductions.{IsReady, FindsModel, FindsCore, Reduction, ReducesTo, ReducesToWith, ReducesToAfter}
@@ -212,24 +212,6 @@ empty-by (x ∷ xs) ys e f = let g : length (x ∷ xs) ≡ length xs = ap length
 
 pub with-pending : (p : Problem) (r : Reduction) (w : ℕ) (xs ys : List Literal) → xs ≡ ys → ReducesToWith p xs w r → ReducesToWith p ys w r
 with-pending p r w xs ys e st = subst (λ x. ReducesToWith p x w r) e st
-
--- a limit of steps
-pub limit-step : (p : Problem) (r : Reduction) (h : Client) (n : ℕ) → Moves (LimitsSteps n) r.client h → ReducesTo p r → ReducesTo p (record r { client = h })
-limit-step p r h n moves st = let (q, m, s) = moves st.past st.ready.stands in go q m s
-  where
-    go : (q : Past) → LimitsSteps n st.past q → RepresentsPast h q → ReducesTo p (record r { client = h })
-    go q (Refused f e) s = absurd (f st.ready.refusal)
-    go q (Limited f e) s = record {
-      past = record st.past { limit = n };
-      ready = record {
-        stands = subst (RepresentsPast h) e s;
-        refusal = st.ready.refusal;
-        clause = st.ready.clause;
-        assumptions = st.ready.assumptions;
-      };
-      variables = st.variables;
-      reduces = st.reduces;
-    }
 
 -- a search is forgotten
 pub stands-still : (p : Problem) (r : Reduction) (b : Bool) (t : ℕ) → ReducesToAfter b t p r → ReducesTo p r

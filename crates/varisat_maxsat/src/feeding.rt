@@ -1,5 +1,5 @@
 //! What is given to a client, and what it is asked.
-ghost use Rattle.std.specs.Prelude.{◌≡◌, ◌≢◌, ◌++◌, ◌∷◌, [], List, pos, None, OnOk, IfOk, MatchOption};
+ghost use Rattle.std.specs.Prelude.{◌≡◌, ◌≢◌, ℕ, ◌++◌, ◌∷◌, [], List, pos, None, OnOk, IfOk, MatchOption};
 ghost use Rattle.varisat_theory.specs.promises.Literals.{Clause, Assignment, SatisfiesAll, MakesTrue};
 ghost use Rattle.varisat_literals.specs.promises.Numbers.{literal_numbered};
 ghost use Rattle.varisat_client.specs.promises.Pasts.{Past, count};
@@ -12,6 +12,9 @@ use crate::refusal::MaxSatError;
 use std::alloc::Allocator;
 use varisat_client::client::{Client, SearchEnd};
 use varisat_literals::{Lit, VARIABLE_LIMIT};
+
+// The searches for a light model make at most so many steps, so that a first solution comes soon.
+const LIGHT_STEPS: u64 = 20_000;
 
 /// The charges that a core leaves, and those that it names.
 #[derive(Drop)]
@@ -88,16 +91,34 @@ fn assume<A: Allocator + Copy>(
     Ok(())
 }
 
+/// What is left of so many steps in all.
+fn left_of<A: Allocator + Copy>(client: &Client<A>, steps: Option<u64>) -> u64 {
+    match steps {
+        Some(steps) => steps.saturating_sub(client.steps()),
+        None => u64::MAX,
+    }
+}
+
+/// Lets a search make what is left of so many steps in all.
+fn limit_search<A: Allocator + Copy>(client: &mut Client<A>, steps: Option<u64>)
+    ensures { (p : Past) → IsReady client.old p → (n : ℕ) × IsReady client.new (record p { limit = n }) }
+{
+    let left = left_of(client, steps);
+    client.limit_steps(left);
+}
+
 /// Whether some assignment satisfies the clauses with none of these literals true. Then the client has a model, else a
-/// core.
+/// core. None is for a search that would make more than so many steps with those before it.
 pub(crate) fn search<A: Allocator + Copy>(
     client: &mut Client<A>,
     charges: &[Charge],
     threshold: u64,
+    steps: Option<u64>,
 ) -> Result<Option<bool>, MaxSatError>
     ensures { IfOk result
         (λ o. (p : Past) → IsReady client.old p → FindsWithin o threshold charges.now p.clauses client.new) }
 {
+    limit_search(client, steps);
     assume(client, charges, threshold)?;
     match client.search() {
         SearchEnd::Satisfiable => Ok(Some(true)),
@@ -151,26 +172,32 @@ fn give_up_core<A: Allocator + Copy>(
     Ok(true)
 }
 
-/// Gives up all charges that are left. Refuses where there is none.
+/// Gives up all charges that are left.
 fn give_up_all<A: Allocator + Copy>(
     left: &mut Vec<Charge, A>,
     given_up: &mut Vec<Charge, A>,
 ) -> Result<(), MaxSatError>
     ensures { OnOk result (KeepsParted left.old.items given_up.old.items left.new.items given_up.new.items) }
 {
-    if left.is_empty() {
-        return Err(MaxSatError::StepsSpent);
-    }
     given_up.extend_from_slice(left.as_slice())?;
     left.clear();
     Ok(())
 }
 
-/// Searches for a model in which few charges are due: those of each core are given up, and all where a search stops.
-/// They come first in the list that is returned. None is for clauses that no assignment satisfies.
+/// How many steps the searches for a light model may make.
+fn light_steps(steps: Option<u64>) -> Option<u64> {
+    match steps {
+        Some(steps) => Some(LIGHT_STEPS.min(steps / 2)),
+        None => Some(LIGHT_STEPS),
+    }
+}
+
+/// Searches for a model in which few charges are due: those of each core are given up, and all once half of the steps are
+/// made, or many. They come first in the list that is returned. None is for clauses that no assignment satisfies.
 pub(crate) fn search_lightly<A: Allocator + Copy>(
     client: &mut Client<A>,
     charges: &[Charge],
+    steps: Option<u64>,
     alloc: A,
 ) -> Result<Option<Vec<Charge, A>>, MaxSatError>
     ensures { IfOk result
@@ -181,9 +208,14 @@ pub(crate) fn search_lightly<A: Allocator + Copy>(
     let mut left = Vec::new(alloc);
     left.extend_from_slice(charges)?;
     let mut given_up = Vec::new(alloc);
+    let mut within = light_steps(steps);
     'turns: for _ in 0..u64::MAX {
-        let Some(found) = search(client, &left, 0)? else {
+        let Some(found) = search(client, &left, 0, within)? else {
+            if within == steps {
+                return Err(MaxSatError::StepsSpent);
+            }
             give_up_all(&mut left, &mut given_up)?;
+            within = steps;
             continue;
         };
         if found {

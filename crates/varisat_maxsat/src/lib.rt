@@ -7,8 +7,10 @@ mod feeding;
 pub mod problem;
 mod reduction;
 pub mod refusal;
+pub mod sink;
 pub mod solving;
 
 pub use problem::Problem;
 pub use refusal::MaxSatError;
+pub use sink::{NoSink, SolutionSink};
 pub use solving::{Optimum, Solution, optimize, optimize_within};

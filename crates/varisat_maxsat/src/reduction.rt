@@ -25,6 +25,7 @@ pub(crate) struct Reduction<A: Allocator + Copy> {
     bound: u64,
     counters: Vec<Counter, A>,
     ceiling: u64,
+    steps: Option<u64>,
 }
 
 impl<A: Allocator + Copy> Model for Reduction<A> {
@@ -36,8 +37,8 @@ impl<A: Allocator + Copy> Model for Reduction<A> {
 }
 
 impl<A: Allocator + Copy> Reduction<A> {
-    /// No clauses over so many variables.
-    pub fn new_in(alloc: A, variables: usize) -> Reduction<A>
+    /// No clauses over so many variables. All searches together make at most so many steps.
+    pub fn new_in(alloc: A, variables: usize, steps: Option<u64>) -> Reduction<A>
         ensures { ReducesTo (record { variables = variables; hard = []; soft = [] }) result }
     {
         Reduction {
@@ -49,6 +50,7 @@ impl<A: Allocator + Copy> Reduction<A> {
             bound: 0,
             counters: Vec::new(alloc),
             ceiling: 0,
+            steps,
         }
     }
 
@@ -104,18 +106,11 @@ impl<A: Allocator + Copy> Reduction<A> {
         Ok(())
     }
 
-    /// How many steps one search may make.
-    pub fn limit_steps(&mut self, steps: u64)
-        ensures { (p : Problem) → ReducesTo p self.old → ReducesTo p self.new }
-    {
-        self.client.limit_steps(steps);
-    }
-
     /// Searches for a model in which no literal is true whose weight is no less than the threshold.
     pub fn search(&mut self, threshold: u64) -> Result<bool, MaxSatError>
         ensures { IfOk result (λ b. (p : Problem) → ReducesTo p self.old → ReducesToAfter b threshold p self.new) }
     {
-        match search(&mut self.client, &self.charges, threshold)? {
+        match search(&mut self.client, &self.charges, threshold, self.steps)? {
             Some(found) => Ok(found),
             None => Err(MaxSatError::StepsSpent),
         }
@@ -125,7 +120,7 @@ impl<A: Allocator + Copy> Reduction<A> {
     pub fn search_lightly(&mut self) -> Result<bool, MaxSatError>
         ensures { IfOk result (λ b. (p : Problem) → ReducesTo p self.old → IsDecided b p self.new) }
     {
-        let found = search_lightly(&mut self.client, &self.charges, self.alloc)?;
+        let found = search_lightly(&mut self.client, &self.charges, self.steps, self.alloc)?;
         match found {
             Some(charges) => {
                 self.charges = charges;
@@ -322,7 +317,7 @@ impl<A: Allocator + Copy> Reduction<A> {
         if self.ceiling <= self.bound {
             return Ok(false);
         }
-        let Some(found) = search(&mut self.client, &[], 0)? else {
+        let Some(found) = search(&mut self.client, &[], 0, self.steps)? else {
             return Err(MaxSatError::StepsSpent);
         };
         Ok(found)

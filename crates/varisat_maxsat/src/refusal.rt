@@ -22,9 +22,12 @@ pub enum MaxSatError {
     /// The least cost is 2^64 or more.
     #[error("the least cost is 2^64 or more")]
     CostOverflow,
-    /// A search made all the steps that it may, or no more can be counted.
-    #[error("a search made all the steps that it may")]
+    /// The searches made all the steps that they may, or no more can be counted.
+    #[error("the searches made all the steps that they may")]
     StepsSpent,
+    /// Who takes the solutions ended the search.
+    #[error("the search was ended")]
+    Ended,
 }
 
 impl From<AllocError> for MaxSatError {

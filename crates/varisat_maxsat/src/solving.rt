@@ -1,13 +1,14 @@
 //! Solving.
-ghost use Rattle.std.specs.Prelude.{◌≤◌, OnOk, IfOk, IfSome, MatchOption, true};
+ghost use Rattle.std.specs.Prelude.{◌≡◌, ◌<◌, ◌≤◌, List, [], Some, OnOk, IfOk, IfSome, IsSomeAnd, MatchOption, IsTrue, IsFalse, true};
 ghost use Rattle.varisat_theory.specs.promises.Literals.{IsSatisfiable};
-ghost use Rattle.varisat_maxsat.specs.promises.Problems.{Problem as Asked, IsSolution, IsOptimum, IsAnswer, starting};
-ghost use Rattle.varisat_maxsat.specs.inside.Reductions.{ReducesTo, ReducesToAfter, ReducesToBelow, FindsSolution, IsEnded, Keeps};
+ghost use Rattle.varisat_maxsat.specs.promises.Problems.{Problem as Asked, IsSolution, IsOptimum, IsAnswer, starting, Found, Improve, last_found};
+ghost use Rattle.varisat_maxsat.specs.inside.Reductions.{ReducesTo, ReducesToAfter, ReducesToBelow, FindsSolution, IsEnded, Keeps, HandsOn};
 
 use crate::charge::greatest_weight;
 use crate::problem::Problem;
 use crate::reduction::Reduction;
 use crate::refusal::MaxSatError;
+use crate::sink::{NoSink, SolutionSink};
 use std::alloc::Allocator;
 use varisat_sums::Plan;
 
@@ -46,49 +47,86 @@ fn optimum_of<A: Allocator + Copy>(reduction: &Reduction<A>) -> Result<Solution<
 }
 
 /// Whether the cost is less than that of the best solution so far.
-fn is_better<A: Allocator + Copy>(cost: u64, best: &Option<Solution<A>>) -> bool {
+fn is_better<A: Allocator + Copy>(cost: u64, best: &Option<Solution<A>>) -> bool
+    ensures better { IsTrue result → IfSome best.now (λ s. cost < s.cost) }
+    ensures not_better { IsFalse result → IfSome best.now (λ s. s.cost ≤ cost) }
+{
     match best {
         Some(solution) => cost < solution.cost,
         None => true,
     }
 }
 
-/// Keeps the solution that the model is, if it is better than the best one so far.
-fn keep_better<A: Allocator + Copy>(
+/// Keeps a solution and hands it on, if it is better than the best one so far.
+fn keep_better<A: Allocator + Copy, S: SolutionSink>(
+    solution: Solution<A>,
+    best: &mut Option<Solution<A>>,
+    sink: &mut S,
+) -> Result<(), MaxSatError>
+    ensures least { OnOk result (IfSome best.new (λ s. s.cost ≤ solution.cost)) }
+    ensures best { (p : Asked) → IsSolution p solution.cost solution.values.items →
+        IfSome best.old (λ s. IsSolution p s.cost s.values.items) →
+        IfSome best.new (λ s. IsSolution p s.cost s.values.items) }
+    ensures taken { (p : Asked) → IsSolution p solution.cost solution.values.items →
+        HandsOn S.takes p sink.old best.old sink.new best.new
+        (λ s. record { cost = s.cost; values = s.values.items }) }
+{
+    if !is_better(solution.cost, best) {
+        return Ok(());
+    }
+    let goes_on = sink.take(solution.cost, &solution.values);
+    *best = Some(solution);
+    if goes_on {
+        Ok(())
+    } else {
+        Err(MaxSatError::Ended)
+    }
+}
+
+/// Keeps the solution that the model is and hands it on, if it is better than the best one so far.
+fn keep_model<A: Allocator + Copy, S: SolutionSink>(
     problem: &Problem<A>,
     reduction: &Reduction<A>,
     best: &mut Option<Solution<A>>,
+    sink: &mut S,
 ) -> Result<(), MaxSatError>
-    ensures { FindsSolution problem.now reduction.now →
+    ensures best { FindsSolution problem.now reduction.now →
         IfSome best.old (λ s. IsSolution problem.now s.cost s.values.items) →
         IfSome best.new (λ s. IsSolution problem.now s.cost s.values.items) }
+    ensures taken { FindsSolution problem.now reduction.now →
+        HandsOn S.takes problem.now sink.old best.old sink.new best.new
+        (λ s. record { cost = s.cost; values = s.values.items }) }
 {
     let values = reduction.values()?;
     let Some(cost) = problem.cost(&values) else {
         return Ok(());
     };
-    if is_better(cost, best) {
-        *best = Some(Solution {
-            cost,
-            values,
-            is_optimum: false,
-        });
-    }
+    let solution = Solution {
+        cost,
+        values,
+        is_optimum: false,
+    };
+    keep_better(solution, best, sink)?;
     Ok(())
 }
 
 /// Searches, and relaxes the problem by each core, until the model is one that nothing is charged in.
-fn descend<A: Allocator + Copy>(
+fn descend<A: Allocator + Copy, S: SolutionSink>(
     problem: &Problem<A>,
     reduction: &mut Reduction<A>,
     best: &mut Option<Solution<A>>,
+    sink: &mut S,
 ) -> Result<bool, MaxSatError>
     ensures ends { IfOk result
         (λ b. ReducesTo problem.now reduction.old →
+        IfSome best.old (λ s. IsSolution problem.now s.cost s.values.items) →
         IsEnded b problem.now (IfSome best.new (λ s. IsOptimum problem.now s.cost s.values.items))) }
     ensures best { ReducesTo problem.now reduction.old →
         IfSome best.old (λ s. IsSolution problem.now s.cost s.values.items) →
         IfSome best.new (λ s. IsSolution problem.now s.cost s.values.items) }
+    ensures taken { ReducesTo problem.now reduction.old →
+        HandsOn S.takes problem.now sink.old best.old sink.new best.new
+        (λ s. record { cost = s.cost; values = s.values.items }) }
 {
     let greatest = greatest_weight(reduction.charges());
     let mut threshold = greatest;
@@ -96,10 +134,10 @@ fn descend<A: Allocator + Copy>(
         if reduction.search(threshold)? {
             if threshold == 0 {
                 let optimum = optimum_of(reduction)?;
-                *best = Some(optimum);
+                keep_better(optimum, best, sink)?;
                 return Ok(true);
             }
-            keep_better(problem, reduction, best)?;
+            keep_model(problem, reduction, best, sink)?;
             threshold = (threshold / 2).min(greatest);
         } else if !reduction.relax()? {
             return Ok(false);
@@ -210,10 +248,11 @@ fn lower_ceiling<A: Allocator + Copy>(
 }
 
 /// Searches for better solutions, until there is none.
-fn improve<A: Allocator + Copy>(
+fn improve<A: Allocator + Copy, S: SolutionSink>(
     problem: &Problem<A>,
     reduction: &mut Reduction<A>,
     best: &mut Option<Solution<A>>,
+    sink: &mut S,
     alloc: A,
 ) -> Result<(), MaxSatError>
     ensures ends { OnOk result
@@ -223,6 +262,9 @@ fn improve<A: Allocator + Copy>(
     ensures best { ReducesTo problem.now reduction.old →
         IfSome best.old (λ s. IsSolution problem.now s.cost s.values.items) →
         IfSome best.new (λ s. IsSolution problem.now s.cost s.values.items) }
+    ensures taken { ReducesTo problem.now reduction.old →
+        HandsOn S.takes problem.now sink.old best.old sink.new best.new
+        (λ s. record { cost = s.cost; values = s.values.items }) }
 {
     let mut plan = begin_counting(reduction, best_cost(best), alloc)?;
     'turns: for _ in 0..u64::MAX {
@@ -232,7 +274,7 @@ fn improve<A: Allocator + Copy>(
             ensure_met(reduction, best)?;
             return Ok(());
         }
-        keep_better(problem, reduction, best)?;
+        keep_model(problem, reduction, best, sink)?;
         lower_ceiling(reduction, best_cost(best))?;
     }
     Err(MaxSatError::StepsSpent)
@@ -244,10 +286,11 @@ fn is_countable<A: Allocator + Copy>(reduction: &Reduction<A>, best: &Option<Sol
 }
 
 /// Searches for a solution, and for better ones until there is none. False is for hard clauses that nothing satisfies.
-fn decide<A: Allocator + Copy>(
+fn decide<A: Allocator + Copy, S: SolutionSink>(
     problem: &Problem<A>,
     reduction: &mut Reduction<A>,
     best: &mut Option<Solution<A>>,
+    sink: &mut S,
     alloc: A,
 ) -> Result<bool, MaxSatError>
     ensures ends { IfOk result
@@ -257,28 +300,21 @@ fn decide<A: Allocator + Copy>(
     ensures best { ReducesTo problem.now reduction.old →
         IfSome best.old (λ s. IsSolution problem.now s.cost s.values.items) →
         IfSome best.new (λ s. IsSolution problem.now s.cost s.values.items) }
+    ensures taken { ReducesTo problem.now reduction.old →
+        HandsOn S.takes problem.now sink.old best.old sink.new best.new
+        (λ s. record { cost = s.cost; values = s.values.items }) }
 {
     let found = reduction.search_lightly()?;
     if !found {
         return Ok(false);
     }
-    keep_better(problem, reduction, best)?;
+    keep_model(problem, reduction, best, sink)?;
     if is_countable(reduction, best) {
-        improve(problem, reduction, best, alloc)?;
+        improve(problem, reduction, best, sink, alloc)?;
         return Ok(true);
     }
-    let ended = descend(problem, reduction, best)?;
+    let ended = descend(problem, reduction, best, sink)?;
     Ok(ended)
-}
-
-/// Limits the steps of each search, if they are to be.
-fn limit_steps<A: Allocator + Copy>(reduction: &mut Reduction<A>, steps: Option<u64>)
-    ensures { (p : Asked) → ReducesTo p reduction.old → ReducesTo p reduction.new }
-{
-    match steps {
-        Some(steps) => reduction.limit_steps(steps),
-        None => {}
-    }
 }
 
 /// The best solution, as an optimum or not.
@@ -286,9 +322,11 @@ fn answer<A: Allocator + Copy>(
     best: Option<Solution<A>>,
     is_optimum: bool,
 ) -> Result<Solution<A>, MaxSatError>
-    ensures { IfOk result
+    ensures answer { IfOk result
         (λ s. (p : Asked) → IfSome best (λ t. IsAnswer is_optimum p t.cost t.values.items) →
         IsAnswer s.is_optimum p s.cost s.values.items) }
+    ensures same { IfOk result
+        (λ s. IsSomeAnd best (λ t. (t.cost ≡ s.cost) × (t.values.items ≡ s.values.items))) }
 {
     match best {
         Some(solution) => Ok(Solution {
@@ -314,22 +352,25 @@ fn join_if_bounded<A: Allocator + Copy>(reduction: &mut Reduction<A>) -> Result<
 }
 
 /// Brings the problem down and solves it.
-fn solve<A: Allocator + Copy>(
+fn solve<A: Allocator + Copy, S: SolutionSink>(
     problem: &Problem<A>,
     reduction: &mut Reduction<A>,
-    steps: Option<u64>,
+    sink: &mut S,
     alloc: A,
 ) -> Result<Option<Solution<A>>, MaxSatError>
-    ensures { IfOk result
+    ensures answer { IfOk result
         (λ o. ReducesTo (starting problem.now.variables) reduction.old →
         MatchOption o (IsSatisfiable problem.now.hard → ⊥)
         (λ s. IsAnswer s.is_optimum problem.now s.cost s.values.items)) }
+    ensures taken { ReducesTo (starting problem.now.variables) reduction.old → (found : List Found)
+        × Improve problem.now found × S.takes sink.old found sink.new
+        × IfOk result (λ o. MatchOption o (found ≡ [])
+        (λ s. last_found found ≡ Some (record { cost = s.cost; values = s.values.items }))) }
 {
     problem.reduce(reduction)?;
     join_if_bounded(reduction)?;
-    limit_steps(reduction, steps);
     let mut best = None;
-    match decide(problem, reduction, &mut best, alloc) {
+    match decide(problem, reduction, &mut best, sink, alloc) {
         Ok(found) => {
             if !found {
                 return Ok(None);
@@ -347,19 +388,24 @@ fn solve<A: Allocator + Copy>(
     }
 }
 
-/// The optimum of the problem, or where some search would make more than so many steps the best solution until then. None is for
-/// a problem whose hard clauses no assignment satisfies.
-pub fn optimize_within<A: Allocator + Copy>(
+/// The optimum of the problem, or where the searches would make more than so many steps in all the best solution until then. None is
+/// for a problem whose hard clauses no assignment satisfies. Each solution that costs less than those before it is handed on to
+/// the sink, the one that is returned last.
+pub fn optimize_within<A: Allocator + Copy, S: SolutionSink>(
     problem: &Problem<A>,
     steps: Option<u64>,
+    sink: &mut S,
     alloc: A,
 ) -> Result<Option<Solution<A>>, MaxSatError>
-    ensures { IfOk result
+    ensures answer { IfOk result
         (λ o. MatchOption o (IsSatisfiable problem.now.hard → ⊥)
         (λ s. IsAnswer s.is_optimum problem.now s.cost s.values.items)) }
+    ensures taken { (found : List Found) × Improve problem.now found × S.takes sink.old found sink.new
+        × IfOk result (λ o. MatchOption o (found ≡ [])
+        (λ s. last_found found ≡ Some (record { cost = s.cost; values = s.values.items }))) }
 {
-    let mut reduction = Reduction::new_in(alloc, problem.var_count());
-    let found = solve(problem, &mut reduction, steps, alloc);
+    let mut reduction = Reduction::new_in(alloc, problem.var_count(), steps);
+    let found = solve(problem, &mut reduction, sink, alloc);
     // In one step: at the end of a scope each part of it would be one.
     drop(reduction);
     found
@@ -373,7 +419,7 @@ pub fn optimize<A: Allocator + Copy>(
     ensures { IfOk result
         (λ o. MatchOption o (IsSatisfiable problem.now.hard → ⊥) (λ m. IsOptimum problem.now m.cost m.values.items)) }
 {
-    let Some(solution) = optimize_within(problem, None, alloc)? else {
+    let Some(solution) = optimize_within(problem, None, &mut NoSink, alloc)? else {
         return Ok(None);
     };
     if !solution.is_optimum {

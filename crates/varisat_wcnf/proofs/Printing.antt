@@ -1,6 +1,13 @@
--- The digits of values in turn.
-use Rattle.std.proofs.Common.{◌≡◌, ℕ, zero, suc, ◌+◌, ◌<◌, Bool, if◌then◌else◌, List, [], ◌∷◌, ◌++◌, length, take, get_or, refl, sym, ap, ◌∙◌, append_assoc, arith}
-use Rattle.varisat_wcnf.specs.inside.Printed.{value_digits}
+-- The digits of values in turn, and the lines of costs.
+use Rattle.std.proofs.Common.{◌≡◌, ℕ, zero, suc, ◌+◌, ◌<◌, Bool, true, false, if◌then◌else◌, List, [], ◌∷◌, ◌++◌, inl, inr, length, take, get_or, refl, sym, ap, ◌∙◌, subst, append_assoc, arith}
+use Rattle.std.specs.Prelude.{Option, Some, None, Result, Ok, Err, IfOk, OnErr, MatchOption, MatchResult, is_some, codes}
+use Rattle.std.proofs.Math.Seq.{take-append-add}
+use Rattle.std.proofs.lemmas.List.{take_all}
+use Rattle.varisat_theory.specs.promises.Literals.{IsSatisfiable}
+use Rattle.varisat_formula.specs.promises.Streams.{Taken}
+use Rattle.varisat_maxsat.specs.promises.Problems.{Problem, IsAnswer, Found, Improve, last_found}
+use Rattle.varisat_wcnf.specs.inside.Printed.{value_digits, verdict_status, solution_text, cost_line, cost_lines, Prints, Answers, Solved, Unsatisfiable, Unknown}
+use Rattle.varisat_wcnf.specs.inside.Costs.{PrintsCosts}
 
 digits-more : (vs : List Bool) (i : ℕ) (d : Bool) → i < length vs →
     value_digits (take (suc i) vs) ≡ value_digits (take i vs) ++ (if get_or vs i d then 49 else 48) ∷ []
@@ -15,3 +22,132 @@ digits-put text before after vs i b d h e p f =
     p ∙ ap (λ xs. xs ++ b ∷ []) e ∙ append_assoc text (value_digits (take i vs)) (b ∷ [])
     ∙ ap (λ x. text ++ (value_digits (take i vs) ++ x ∷ [])) f
     ∙ ap (λ ds. text ++ ds) (sym (digits-more vs i d h)) ∙ ap (λ n. text ++ value_digits (take n vs)) up
+
+-- a beginning of a text is one of a longer text
+begins-longer : (n : ℕ) (text rest : List ℕ) → (m : ℕ) × (take n text ≡ take m (text ++ rest))
+begins-longer zero text rest = (0, refl)
+begins-longer (suc n) [] rest = (0, refl)
+begins-longer (suc n) (b ∷ bs) rest = let (m, e) = begins-longer n bs rest in (suc m, ap (λ cs. b ∷ cs) e)
+
+-- a text in two parts: a beginning of the first one, or the first one and a beginning of the second one
+pub begun-first : (first second : List ℕ) (old new : Taken) → ((n : ℕ) × (new.bytes ≡ old.bytes ++ take n first)) →
+    (n : ℕ) × (new.bytes ≡ old.bytes ++ take n (first ++ second))
+begun-first first second old new (n, b) = let (m, e) = begins-longer n first second in (m, b ∙ ap (λ x. old.bytes ++ x) e)
+
+pub begun-second : (first second : List ℕ) (old mid new : Taken) → mid.bytes ≡ old.bytes ++ first → ((n : ℕ) × (new.bytes ≡ mid.bytes ++ take n second)) →
+    (n : ℕ) × (new.bytes ≡ old.bytes ++ take n (first ++ second))
+begun-second first second old mid new e (n, b) = (
+  length first + n,
+  b ∙ ap (λ x. x ++ take n second) e ∙ append_assoc old.bytes first (take n second) ∙ ap (λ x. old.bytes ++ x) (sym (take-append-add first second n)),
+)
+
+pub begun-whole : (text : List ℕ) (old new : Taken) → new.bytes ≡ old.bytes ++ text → (n : ℕ) × (new.bytes ≡ old.bytes ++ take n text)
+begun-whole text old new b = (length text, b ∙ ap (λ x. old.bytes ++ x) (sym (take_all (length text) text (omega arith))))
+
+pub begun-so : (given text : List ℕ) (old new : Taken) → given ≡ text → ((n : ℕ) × (new.bytes ≡ old.bytes ++ take n given)) →
+    (n : ℕ) × (new.bytes ≡ old.bytes ++ take n text)
+begun-so given text old new e (n, b) = (n, b ∙ ap (λ x. old.bytes ++ take n x) e)
+
+pub on-err : {X E : Type 0} (r : Result X E) (P : Type 0) → P → OnErr r P
+on-err (Ok x) P h = tt
+on-err (Err e) P h = h
+
+pub joins : (first second : List ℕ) (old mid new : Taken) → mid.bytes ≡ old.bytes ++ first → new.bytes ≡ mid.bytes ++ second → new.bytes ≡ old.bytes ++ (first ++ second)
+joins first second old mid new e b = b ∙ ap (λ x. x ++ second) e ∙ append_assoc old.bytes first second
+
+-- a line more, where all was printed
+pub prints-line : {E : Type 0} (fault : Option E) (k : ℕ) (f : Found) (fs : List Found) (old mid new : Taken) → is_some fault ≡ false → f.cost ≡ k →
+    new.bytes ≡ mid.bytes ++ cost_line k → new.faults ≡ mid.faults → PrintsCosts fault fs old mid → PrintsCosts fault (f ∷ fs) old new
+prints-line None k f fs old mid new none c b q (before, quiet) = (
+  b ∙ ap (λ n. mid.bytes ++ cost_line n) (sym c) ∙ ap (λ x. x ++ cost_line f.cost) before ∙ append_assoc old.bytes (cost_lines fs) (cost_line f.cost),
+  q ∙ quiet,
+)
+prints-line (Some e) k f fs old mid new none c b q h = absurd cc
+
+pub prints-part : {E : Type 0} (fault : Option E) (e : E) (k : ℕ) (f : Found) (fs : List Found) (old mid new : Taken) → is_some fault ≡ false → f.cost ≡ k →
+    ((n : ℕ) × (new.bytes ≡ mid.bytes ++ take n (cost_line k))) → PrintsCosts fault fs old mid → PrintsCosts (Some e) (f ∷ fs) old new
+prints-part None e k f fs old mid new none c (n, b) (before, quiet) = (
+  length (cost_lines fs) + n,
+  b ∙ ap (λ m. mid.bytes ++ take n (cost_line m)) (sym c) ∙ ap (λ x. x ++ take n (cost_line f.cost)) before
+      ∙ append_assoc old.bytes (cost_lines fs) (take n (cost_line f.cost)) ∙ ap (λ x. old.bytes ++ x) (sym (take-append-add (cost_lines fs) (cost_line f.cost) n)),
+)
+prints-part (Some d) e k f fs old mid new none c h g = absurd cc
+
+pub prints-no-more : {E : Type 0} (fault : Option E) (f : Found) (fs : List Found) (old new : Taken) → is_some fault ≡ true →
+    PrintsCosts fault fs old new → PrintsCosts fault (f ∷ fs) old new
+prints-no-more None f fs old new some h = absurd cc
+prints-no-more (Some e) f fs old new some (n, b) =
+    let (m, l) = begins-longer n (cost_lines fs) (cost_line f.cost) in (m, b ∙ ap (λ x. old.bytes ++ x) l)
+
+-- a text behind another one
+pub prints-behind : (before text : List ℕ) (status : ℕ) (old mid new : Taken) (r : ℕ) → mid.bytes ≡ old.bytes ++ before → Prints text status mid new r →
+    Prints (before ++ text) status old new r
+prints-behind before text status old mid new r e (inl (b, q)) = inl (b ∙ ap (λ x. x ++ text) e ∙ append_assoc old.bytes before text, q)
+prints-behind before text status old mid new r e (inr (n, b, q)) = inr (
+  length before + n,
+  b ∙ ap (λ x. x ++ take n text) e ∙ append_assoc old.bytes before (take n text) ∙ ap (λ x. old.bytes ++ x) (sym (take-append-add before text n)),
+  q,
+)
+
+found-last : (fs : List Found) (f : Found) → last_found fs ≡ Some f → (gs : List Found) × (fs ≡ f ∷ gs)
+found-last [] f e = absurd cc
+found-last (g ∷ gs) f e = let h : g ≡ f = cc in (gs, ap (λ x. x ∷ gs) h)
+
+pub solved : (p : Problem) (is_optimum : Bool) (k : ℕ) (values : List Bool) (found : List Found) (old mid new : Taken) (r : ℕ) → Improve p found →
+    last_found found ≡ Some (record { cost = k; values = values }) → IsAnswer is_optimum p k values → mid.bytes ≡ old.bytes ++ cost_lines found →
+    Prints (solution_text is_optimum values) (verdict_status is_optimum) mid new r → Answers p old new r
+solved p is_optimum k values found old mid new r i l a e h =
+    let (gs, s) = found-last found (record { cost = k; values = values }) l in
+    Solved is_optimum (record { cost = k; values = values }) gs (subst (Improve p) s i) a
+    (prints-behind (cost_lines (record { cost = k; values = values } ∷ gs)) (solution_text is_optimum values) (verdict_status is_optimum) old mid new r
+    (subst (λ fs. mid.bytes ≡ old.bytes ++ cost_lines fs) s e) h)
+
+pub unsatisfied : (p : Problem) (found : List Found) (old mid new : Taken) (r : ℕ) → (IsSatisfiable p.hard → ⊥) → found ≡ [] →
+    mid.bytes ≡ old.bytes ++ cost_lines found → Prints (codes "s UNSATISFIABLE\n") 20 mid new r → Answers p old new r
+unsatisfied p found old mid new r n s e h =
+    Unsatisfiable n (prints-behind [] (codes "s UNSATISFIABLE\n") 20 old mid new r (subst (λ fs. mid.bytes ≡ old.bytes ++ cost_lines fs) s e) h)
+
+pub unknown : (p : Problem) (found : List Found) (old mid new : Taken) (r : ℕ) → Improve p found → mid.bytes ≡ old.bytes ++ cost_lines found →
+    Prints (codes "s UNKNOWN\n") 0 mid new r → Answers p old new r
+unknown p found old mid new r i e h = Unknown found i (prints-behind (cost_lines found) (codes "s UNKNOWN\n") 0 old mid new r e h)
+
+-- printing failed
+pub broken-off : (p : Problem) (found : List Found) (old new : Taken) (r : ℕ) → Improve p found →
+    ((n : ℕ) × (new.bytes ≡ old.bytes ++ take n (cost_lines found))) → r ≡ 2 → Answers p old new r
+broken-off p found old new r i (n, b) q =
+    let (m, l) = begins-longer n (cost_lines found) (codes "s UNKNOWN\n") in Unknown found i (inr (m, b ∙ ap (λ x. old.bytes ++ x) l, q))
+
+-- two facts of an answer
+pub both-said : {X E : Type 0} (r : Result (Option X) E) (A B : Type 0) (P Q : X → Type 0) → IfOk r (λ o. MatchOption o A P) → IfOk r (λ o. MatchOption o B Q) →
+    IfOk r (λ o. MatchOption o (A × B) (λ x. P x × Q x))
+both-said (Ok (Some x)) A B P Q h k = (h, k)
+both-said (Ok None) A B P Q h k = (h, k)
+both-said (Err e) A B P Q h k = h
+
+-- whether all was printed
+pub all-printed : {E : Type 0} (fault : Option E) (found : List Found) (old new : Taken) → fault ≡ None → PrintsCosts fault found old new →
+    (new.bytes ≡ old.bytes ++ cost_lines found) × (new.faults ≡ old.faults)
+all-printed fault found old new e h = subst (λ f. PrintsCosts f found old new) e h
+
+pub part-printed : {E : Type 0} (fault : Option E) (d : E) (found : List Found) (old new : Taken) → fault ≡ Some d → PrintsCosts fault found old new →
+    (n : ℕ) × (new.bytes ≡ old.bytes ++ take n (cost_lines found))
+part-printed fault d found old new e h = subst (λ f. PrintsCosts f found old new) e h
+
+-- what is known by what was returned
+pub when-some : {X E F : Type 0} (r : Result (Result (Option X) E) F) (q : Result (Option X) E) (o : Option X) (x : X) (A B U : Type 0) (P : X → Type 0)
+    (Z : F → Type 0) → r ≡ Ok q → q ≡ Ok o → o ≡ Some x → MatchResult r (λ s. A × B × IfOk s (λ t. MatchOption t U P)) Z → A × P x
+when-some r q o x A B U P Z e f h m =
+    let k = subst (λ y. MatchResult y (λ s. A × B × IfOk s (λ t. MatchOption t U P)) Z) e m in
+    (k.0, subst (λ y. MatchOption y U P) h (subst (λ y. IfOk y (λ t. MatchOption t U P)) f k.2))
+
+pub when-none : {X E F : Type 0} (r : Result (Result (Option X) E) F) (q : Result (Option X) E) (o : Option X) (A B U : Type 0) (P : X → Type 0)
+    (Z : F → Type 0) → r ≡ Ok q → q ≡ Ok o → o ≡ None → MatchResult r (λ s. A × B × IfOk s (λ t. MatchOption t U P)) Z → A × U
+when-none r q o A B U P Z e f h m =
+    let k = subst (λ y. MatchResult y (λ s. A × B × IfOk s (λ t. MatchOption t U P)) Z) e m in
+    (k.0, subst (λ y. MatchOption y U P) h (subst (λ y. IfOk y (λ t. MatchOption t U P)) f k.2))
+
+pub when-ok : {X F : Type 0} (r : Result X F) (q : X) (A B : Type 0) (P : X → Type 0) (Z : F → Type 0) → r ≡ Ok q → MatchResult r (λ s. A × B × P s) Z → A
+when-ok r q A B P Z e m = let k = subst (λ y. MatchResult y (λ s. A × B × P s) Z) e m in k.0
+
+pub when-err : {X F : Type 0} (r : Result X F) (e : F) (P : X → Type 0) (Z : F → Type 0) → r ≡ Err e → MatchResult r P Z → Z e
+when-err r e P Z h m = subst (λ y. MatchResult y P Z) h m

@@ -3,14 +3,14 @@ ghost use Rattle.std.specs.Prelude.{◌≡◌, ◌-◌, ◌^◌, ◌<◌, ◌++�
 ghost use Rattle.varisat_maxsat.specs.promises.Problems.{IsAnswer};
 ghost use Rattle.varisat_wcnf.specs.inside.Printed.{value_digits, solution_text, verdict_line, verdict_status, Prints, Answers, AnswersText};
 
+use crate::costs::optimize_printing;
 use crate::wcnf::parse;
-use itoa::Buffer;
 use std::alloc::{AllocError, Allocator};
 use std::fmt::Display;
 use std::io::Write;
 use varisat_formula::io::ProofTarget;
 use varisat_maxsat::problem::Problem;
-use varisat_maxsat::solving::{Solution, optimize_within};
+use varisat_maxsat::solving::Solution;
 use varisat_proof::program::print_text;
 
 /// The status where a limit was met.
@@ -25,10 +25,11 @@ pub const STATUS_UNSATISFIABLE: u8 = 20;
 /// The status of an optimum.
 pub const STATUS_OPTIMUM: u8 = 30;
 
-/// Solves the problem of a WCNF text, and prints the answer as the MaxSAT Evaluations ask for it: `o`, `s OPTIMUM FOUND` and
-/// `v`, status 30; `s UNSATISFIABLE`, status 20; or `s UNKNOWN`, status 0, where a search made the steps that it may, with `o` and `v`
-/// of the best solution until then, if there is one, or where another limit was met, which is reported on `err`. A fault of the
-/// text, the target or memory is reported on `err`, and the status is 2.
+/// Solves the problem of a WCNF text, and prints the answer as the MaxSAT Evaluations ask for it: a line `o` with the cost of each
+/// solution that costs less than those before it, at once; then `s OPTIMUM FOUND` and `v`, status 30; `s UNSATISFIABLE`, status
+/// 20; or `s UNKNOWN`, status 0, where the searches made the steps that they may, with `v` of the best solution until then, if
+/// there is one, or where another limit was met, which is reported on `err`. A fault of the text, the target or memory is
+/// reported on `err`, and the status is 2.
 pub fn solve_lines<A: Allocator + Copy, T: ProofTarget, E: Write>(
     alloc: A,
     text: &[u8],
@@ -56,18 +57,19 @@ fn solve_problem<A: Allocator + Copy, T: ProofTarget, E: Write>(
     requires { (T.taken out.old).faults < 2 ^ 64 - 1 }
     ensures { Answers problem.now (T.taken out.old) (T.taken out.new) result }
 {
-    match optimize_within(problem, steps, alloc) {
-        Ok(Some(solution)) => print_solution(alloc, &solution, out, err),
-        Ok(None) => print_answer(b"s UNSATISFIABLE\n", STATUS_UNSATISFIABLE, out, err),
-        Err(error) => {
+    match optimize_printing(alloc, problem, steps, out) {
+        Ok(Ok(Some(solution))) => print_solution(alloc, &solution, out, err),
+        Ok(Ok(None)) => print_answer(b"s UNSATISFIABLE\n", STATUS_UNSATISFIABLE, out, err),
+        Ok(Err(error)) => {
             // A writer that fails here leaves nothing to report.
             let _ = writeln!(err, "{error}");
             print_answer(b"s UNKNOWN\n", STATUS_UNKNOWN, out, err)
         }
+        Err(error) => tell(err, &error),
     }
 }
 
-/// Prints a solution.
+/// Prints whether a solution is an optimum, and its values.
 fn print_solution<A: Allocator + Copy, T: ProofTarget, E: Write>(
     alloc: A,
     solution: &Solution<A>,
@@ -75,29 +77,24 @@ fn print_solution<A: Allocator + Copy, T: ProofTarget, E: Write>(
     err: &mut E,
 ) -> u8
     requires { (T.taken out.old).faults < 2 ^ 64 - 1 }
-    ensures { Prints (solution_text solution.now.is_optimum solution.now.cost solution.now.values.items)
+    ensures { Prints (solution_text solution.now.is_optimum solution.now.values.items)
         (verdict_status solution.now.is_optimum) (T.taken out.old) (T.taken out.new) result }
 {
-    match written(alloc, solution.is_optimum, solution.cost, &solution.values) {
+    match written(alloc, solution.is_optimum, &solution.values) {
         Ok(text) => print_answer(&text, status_of(solution.is_optimum), out, err),
         Err(error) => tell(err, &error),
     }
 }
 
-/// The text of a solution.
+/// What is printed behind the costs of solutions.
 fn written<A: Allocator + Copy>(
     alloc: A,
     is_optimum: bool,
-    cost: u64,
     values: &[bool],
 ) -> Result<Vec<u8, A>, AllocError>
-    ensures { IfOk result (λ text. text.items ≡ solution_text is_optimum cost values.now) }
+    ensures { IfOk result (λ text. text.items ≡ solution_text is_optimum values.now) }
 {
     let mut text = Vec::new(alloc);
-    let mut buffer = Buffer::new();
-    text.extend_from_slice(b"o ")?;
-    text.extend_from_slice(buffer.format(cost).as_bytes())?;
-    text.extend_from_slice(b"\n")?;
     text.extend_from_slice(verdict_of(is_optimum))?;
     text.extend_from_slice(b"v ")?;
     put_values(&mut text, values)?;

@@ -1,9 +1,9 @@
 -- A client that holds a problem as it was brought down.
-use Rattle.std.specs.Prelude.{◌≡◌, ◌≤◌, ℕ, Bool, true, false, Option, Some, None, List, []}
+use Rattle.std.specs.Prelude.{◌≡◌, ◌≤◌, ℕ, Bool, true, false, Option, Some, None, option_map, List, []}
 use Rattle.varisat_theory.specs.promises.Literals.{Literal, Clause, Assignment, SatisfiesAll, IsFailedCore, IsSatisfiable}
 use Rattle.varisat_client.specs.promises.Pasts.{Past, IsFoundModel, count}
 use Rattle.varisat_client.specs.inside.Clients.{Client, RepresentsPast}
-use Rattle.varisat_maxsat.specs.promises.Problems.{Problem, cost}
+use Rattle.varisat_maxsat.specs.promises.Problems.{Problem, cost, Found, Improve, last_found}
 use Rattle.varisat_maxsat.specs.inside.Charges.{ClausesAreBelow, Exchanges, IsParted, Reduces, ReducesBelow, AreAssumed, IsPending}
 use Rattle.varisat_maxsat.specs.declared.charge.Charge.{Charge}
 use Rattle.varisat_maxsat.specs.declared.counter.Counter.{Counter}
@@ -164,3 +164,15 @@ pub record AssumesSoFar (g : Client) (threshold : ℕ) (charges : List Charge) (
   pub far : (p : Past) → IsReady g p →
       (q : Past) × (ls : List Literal) × AreAssumed threshold charges ls × RepresentsPast h q
       × (q.refusal ≡ None → q ≡ record p { assumptions = ls })
+
+-- What a sink took since x: solutions, of which the best one is the last.
+pub record Took {S : Type 0} (takes : S → List Found → S → Type 0) (x : S) (p : Problem) (best : Option Found) (s : S) : Type 0 where
+  pub found : List Found
+  pub taken : takes x found s
+  pub improve : Improve p found
+  pub last : last_found found ≡ best
+
+-- The best solution was handed on, each time that it changed.
+abbrev pub HandsOn : {S X : Type 0} → (S → List Found → S → Type 0) → Problem → S → Option X → S → Option X → (X → Found) → Type 0
+HandsOn {S} takes p s o t u found_of =
+    (x : S) → Took takes x p (option_map found_of o) s → Took takes x p (option_map found_of u) t

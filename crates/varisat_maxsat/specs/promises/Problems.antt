@@ -1,5 +1,5 @@
 -- What is asked of a solver, and what its answer says.
-use Rattle.std.specs.Prelude.{◌≡◌, ℕ, ◌+◌, ◌≤◌, Bool, true, false, if◌then◌else◌, List, [], ◌∷◌, ◌++◌, length, slice_index_or}
+use Rattle.std.specs.Prelude.{◌≡◌, ℕ, ◌+◌, ◌≤◌, ◌<◌, Option, Some, None, Bool, true, false, if◌then◌else◌, List, [], ◌∷◌, ◌++◌, length, slice_index_or}
 use Rattle.std.specs.List.{list_any}
 use Rattle.varisat_theory.specs.promises.Literals.{Clause, Assignment, value, SatisfiesAll}
 
@@ -63,3 +63,19 @@ pub record IsOptimum (p : Problem) (c : ℕ) (values : List Bool) : Type 0 where
 abbrev pub IsAnswer : Bool → Problem → ℕ → List Bool → Type 0
 IsAnswer true = IsOptimum
 IsAnswer false = IsSolution
+
+-- A solution that was handed on: what it costs, and values.
+pub record Found : Type 0 where
+  pub cost : ℕ
+  pub values : List Bool
+
+-- solutions, the last one first, of which each costs less than the one before it
+abbrev pub Improve : Problem → List Found → Type 0
+Improve p [] = Unit {0}
+Improve p (f ∷ []) = IsSolution p f.cost f.values
+Improve p (f ∷ g ∷ fs) = IsSolution p f.cost f.values × (f.cost < g.cost) × Improve p (g ∷ fs)
+
+-- the last one
+abbrev pub last_found : List Found → Option Found
+last_found [] = None
+last_found (f ∷ fs) = Some f

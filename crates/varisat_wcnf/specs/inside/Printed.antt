@@ -2,7 +2,7 @@
 use Rattle.std.specs.Prelude.{◌≡◌, ◌⊎◌, ℕ, Bool, true, false, if◌then◌else◌, List, [], ◌∷◌, ◌++◌, take, codes, decimal, Ok, Err}
 use Rattle.varisat_theory.specs.promises.Literals.{IsSatisfiable}
 use Rattle.varisat_formula.specs.promises.Streams.{Taken}
-use Rattle.varisat_maxsat.specs.promises.Problems.{Problem, IsAnswer}
+use Rattle.varisat_maxsat.specs.promises.Problems.{Problem, IsAnswer, Found, Improve}
 use Rattle.varisat_wcnf.specs.declared.wcnf.WcnfFault.TheVariants.{OutOfMemory}
 use Rattle.varisat_wcnf.specs.declared.wcnf.WcnfError.{WcnfError}
 use Rattle.varisat_wcnf.specs.inside.Texts.{Reading, wcnf}
@@ -21,10 +21,17 @@ abbrev pub verdict_status : Bool → ℕ
 verdict_status true = 30
 verdict_status false = 0
 
--- the cost of a solution, the verdict, and the values of the variables in turn
-abbrev pub solution_text : Bool → ℕ → List Bool → List ℕ
-solution_text is_optimum cost values =
-    codes "o " ++ decimal cost ++ codes "\n" ++ verdict_line is_optimum ++ codes "v " ++ value_digits values ++ codes "\n"
+-- the verdict on a solution, and the values of the variables in turn
+abbrev pub solution_text : Bool → List Bool → List ℕ
+solution_text is_optimum values = verdict_line is_optimum ++ codes "v " ++ value_digits values ++ codes "\n"
+
+-- a line for each solution, the first one of which comes last in the list
+abbrev pub cost_line : ℕ → List ℕ
+cost_line cost = codes "o " ++ decimal cost ++ codes "\n"
+
+abbrev pub cost_lines : List Found → List ℕ
+cost_lines [] = []
+cost_lines (f ∷ fs) = cost_lines fs ++ cost_line f.cost
 
 -- The text was printed, with this status; or a beginning of it, with the status of a fault.
 abbrev pub Prints : List ℕ → ℕ → Taken → Taken → ℕ → Type 0
@@ -32,13 +39,15 @@ Prints text status old new result =
     ((new.bytes ≡ old.bytes ++ text) × (result ≡ status))
     ⊎ ((n : ℕ) × (new.bytes ≡ old.bytes ++ take n text) × (result ≡ 2))
 
--- What is printed of a problem: an optimum; or that no assignment satisfies its hard clauses; or that a limit was met, with a solution
--- that was found until then, or without one.
+-- What is printed of a problem: the costs of solutions, each less than the one before it, and the last one as an optimum, or as
+-- one that is not known to be; or that no assignment satisfies its hard clauses; or such costs alone, as a limit was met.
 pub data Answers (p : Problem) (old new : Taken) (result : ℕ) : Type 0 where
-  Solved : (is_optimum : Bool) (cost : ℕ) (values : List Bool) → IsAnswer is_optimum p cost values →
-      Prints (solution_text is_optimum cost values) (verdict_status is_optimum) old new result → Answers p old new result
+  Solved : (is_optimum : Bool) (f : Found) (fs : List Found) → Improve p (f ∷ fs) → IsAnswer is_optimum p f.cost f.values →
+      Prints (cost_lines (f ∷ fs) ++ solution_text is_optimum f.values) (verdict_status is_optimum) old new result →
+      Answers p old new result
   Unsatisfiable : (IsSatisfiable p.hard → ⊥) → Prints (codes "s UNSATISFIABLE\n") 20 old new result → Answers p old new result
-  Unknown : Prints (codes "s UNKNOWN\n") 0 old new result → Answers p old new result
+  Unknown : (fs : List Found) → Improve p fs → Prints (cost_lines fs ++ codes "s UNKNOWN\n") 0 old new result →
+      Answers p old new result
 
 -- What is printed of a text: what it is of its problem; or nothing, where the text has a fault, or memory ran out for it.
 pub data AnswersText (text : List ℕ) (old new : Taken) (result : ℕ) : Type 0 where

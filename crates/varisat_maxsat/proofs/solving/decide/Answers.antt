@@ -8,41 +8,64 @@ returns-then-not-found-clause-ends g c = λ st h.
     let e : c.in_ok-found.found ≡ false = first_of (assumption c.if-not-found.true, search (not-true, c.if-not-found.true)) in
     not-decided c.args.problem.now c.search_lightly.new.self c.in_ok-found.found e (c.in_ok-found.ensures c.args.problem.now st)
 
-pub returns-in_err-keep_better-clause-best : goal.returns-in_err-keep_better-clause-best
-returns-in_err-keep_better-clause-best g c =
+pub returns-in_err-keep_model-clause-best : goal.returns-in_err-keep_model-clause-best
+returns-in_err-keep_model-clause-best g c =
     let e : c.in_ok-found.found ≡ true = first_of (assumption c.if-not-found.false, search (not-false, c.if-not-found.false)) in λ st h.
-    c.keep_better.ensures (decided c.args.problem.now c.search_lightly.new.self c.in_ok-found.found e (c.in_ok-found.ensures c.args.problem.now st)).1 h
+    c.keep_model.ensures.best (decided c.args.problem.now c.search_lightly.new.self c.in_ok-found.found e (c.in_ok-found.ensures c.args.problem.now st)).1 h
+
+pub returns-in_err-keep_model-clause-taken : goal.returns-in_err-keep_model-clause-taken
+returns-in_err-keep_model-clause-taken g c =
+    let e : c.in_ok-found.found ≡ true = first_of (assumption c.if-not-found.false, search (not-false, c.if-not-found.false)) in λ st x b.
+    c.keep_model.ensures.taken (decided c.args.problem.now c.search_lightly.new.self c.in_ok-found.found e (c.in_ok-found.ensures c.args.problem.now st)).1 x b
 
 pub returns-then-is_countable : goal.returns-then-is_countable
 returns-then-is_countable g c =
     let e : c.in_ok-found.found ≡ true = first_of (assumption c.if-not-found.false, search (not-false, c.if-not-found.false)) in record {
       ends = λ st h.
           let d = decided c.args.problem.now c.search_lightly.new.self c.in_ok-found.found e (c.in_ok-found.ensures c.args.problem.now st) in
-          c.in_ok-improve.ensures.ends d.0 (c.keep_better.ensures d.1 h);
+          c.in_ok-improve.ensures.ends d.0 (c.keep_model.ensures.best d.1 h);
       best = λ st h.
           let d = decided c.args.problem.now c.search_lightly.new.self c.in_ok-found.found e (c.in_ok-found.ensures c.args.problem.now st) in
-          c.improve.ensures.best d.0 (c.keep_better.ensures d.1 h);
+          c.improve.ensures.best d.0 (c.keep_model.ensures.best d.1 h);
+      taken = λ st x b.
+          let d = decided c.args.problem.now c.search_lightly.new.self c.in_ok-found.found e (c.in_ok-found.ensures c.args.problem.now st) in
+          c.improve.ensures.taken d.0 x (c.keep_model.ensures.taken d.1 x b);
     }
+
+pub returns-in_err-improve-clause-taken : goal.returns-in_err-improve-clause-taken
+returns-in_err-improve-clause-taken g c =
+    let e : c.in_ok-found.found ≡ true = first_of (assumption c.if-not-found.false, search (not-false, c.if-not-found.false)) in λ st x b.
+    let d = decided c.args.problem.now c.search_lightly.new.self c.in_ok-found.found e (c.in_ok-found.ensures c.args.problem.now st) in
+    c.improve.ensures.taken d.0 x (c.keep_model.ensures.taken d.1 x b)
 
 pub returns-in_err-improve-clause-best : goal.returns-in_err-improve-clause-best
 returns-in_err-improve-clause-best g c =
     let e : c.in_ok-found.found ≡ true = first_of (assumption c.if-not-found.false, search (not-false, c.if-not-found.false)) in λ st h.
     let d = decided c.args.problem.now c.search_lightly.new.self c.in_ok-found.found e (c.in_ok-found.ensures c.args.problem.now st) in
-    c.improve.ensures.best d.0 (c.keep_better.ensures d.1 h)
+    c.improve.ensures.best d.0 (c.keep_model.ensures.best d.1 h)
+
+pub returns-in_err-ended-clause-taken : goal.returns-in_err-ended-clause-taken
+returns-in_err-ended-clause-taken g c =
+    let e : c.in_ok-found.found ≡ true = first_of (assumption c.if-not-found.false, search (not-false, c.if-not-found.false)) in λ st x b.
+    let d = decided c.args.problem.now c.search_lightly.new.self c.in_ok-found.found e (c.in_ok-found.ensures c.args.problem.now st) in
+    c.descend.ensures.taken d.0 x (c.keep_model.ensures.taken d.1 x b)
 
 pub returns-in_err-ended-clause-best : goal.returns-in_err-ended-clause-best
 returns-in_err-ended-clause-best g c =
     let e : c.in_ok-found.found ≡ true = first_of (assumption c.if-not-found.false, search (not-false, c.if-not-found.false)) in λ st h.
     let d = decided c.args.problem.now c.search_lightly.new.self c.in_ok-found.found e (c.in_ok-found.ensures c.args.problem.now st) in
-    c.descend.ensures.best d.0 (c.keep_better.ensures d.1 h)
+    c.descend.ensures.best d.0 (c.keep_model.ensures.best d.1 h)
 
 pub returns : goal.returns
 returns g c =
     let e : c.in_ok-found.found ≡ true = first_of (assumption c.if-not-found.false, search (not-false, c.if-not-found.false)) in record {
       ends = λ st h.
           let d = decided c.args.problem.now c.search_lightly.new.self c.in_ok-found.found e (c.in_ok-found.ensures c.args.problem.now st) in
-          c.in_ok-ended.ensures.ends d.0;
+          c.in_ok-ended.ensures.ends d.0 (c.keep_model.ensures.best d.1 h);
       best = λ st h.
           let d = decided c.args.problem.now c.search_lightly.new.self c.in_ok-found.found e (c.in_ok-found.ensures c.args.problem.now st) in
-          c.descend.ensures.best d.0 (c.keep_better.ensures d.1 h);
+          c.descend.ensures.best d.0 (c.keep_model.ensures.best d.1 h);
+      taken = λ st x b.
+          let d = decided c.args.problem.now c.search_lightly.new.self c.in_ok-found.found e (c.in_ok-found.ensures c.args.problem.now st) in
+          c.descend.ensures.taken d.0 x (c.keep_model.ensures.taken d.1 x b);
     }

@@ -2,35 +2,69 @@ use Rattle.std.proofs.Common.{◌≡◌, true, sym, subst}
 use Rattle.varisat_maxsat.specs.inside.Reductions.{ReducesTo, ReducesToAfter, IsRelaxed}
 use Rattle.varisat_maxsat.proofs.Standing.{stands-still, best-moves, not-false}
 use Rattle.varisat_maxsat.proofs.Below.{after-solution}
+use Rattle.varisat_maxsat.proofs.Handing.{also-optimal, took-moves}
 use Rattle.varisat_maxsat.proofs.solving.descend.Goals as goal
-use Rattle.varisat_maxsat.proofs.solving.descend.Goals.{then-branch+else-threshold-eq0+in_ok-keep_better, else-branch+in_ok-relax+else-not-branch}
+use Rattle.varisat_maxsat.proofs.solving.descend.Goals.{then-branch+else-threshold-eq0+in_ok-keep_model, else-branch+in_ok-relax+else-not-branch}
 
-pub returns-then-threshold-eq0-clause-ends : goal.returns-then-threshold-eq0-clause-ends
-returns-then-threshold-eq0-clause-ends g c = λ st.
-    c.in_ok-optimum.ensures c.args.problem.now (subst (λ t. ReducesToAfter true t c.args.problem.now c.search.new.self) c.if-threshold-eq0.true
-    (subst (λ b. ReducesToAfter b c.turns.threshold c.args.problem.now c.search.new.self) c.if-branch.true
-    (c.in_ok-search.ensures c.args.problem.now (c.turns.invariant.ready st))))
-
-pub returns-then-threshold-eq0-clause-best : goal.returns-then-threshold-eq0-clause-best
-returns-then-threshold-eq0-clause-best g c = λ st h.
-    (c.in_ok-optimum.ensures c.args.problem.now (subst (λ t. ReducesToAfter true t c.args.problem.now c.search.new.self) c.if-threshold-eq0.true
-    (subst (λ b. ReducesToAfter b c.turns.threshold c.args.problem.now c.search.new.self) c.if-branch.true
-    (c.in_ok-search.ensures c.args.problem.now (c.turns.invariant.ready st))))).solution
+pub turns-init : goal.turns-init
+turns-init g c = record { ready = λ st. st; best = λ st h. h; taken = λ st x b. b }
 
 pub returns-in_err-keep_better-clause-best : goal.returns-in_err-keep_better-clause-best
 returns-in_err-keep_better-clause-best g c = λ st h.
-    c.keep_better.ensures (after-solution _ _ c.turns.threshold (subst (λ b. ReducesToAfter b c.turns.threshold c.args.problem.now c.search.new.self) c.if-branch.true
+    c.keep_better.ensures.best c.args.problem.now
+    (c.in_ok-optimum.ensures c.args.problem.now (subst (λ t. ReducesToAfter true t c.args.problem.now c.search.new.self) c.if-threshold-eq0.true
+    (subst (λ b. ReducesToAfter b c.turns.threshold c.args.problem.now c.search.new.self) c.if-branch.true
+    (c.in_ok-search.ensures c.args.problem.now (c.turns.invariant.ready st))))).solution (c.turns.invariant.best st h)
+
+pub returns-in_err-keep_better-clause-taken : goal.returns-in_err-keep_better-clause-taken
+returns-in_err-keep_better-clause-taken g c = λ st x b.
+    c.keep_better.ensures.taken c.args.problem.now
+    (c.in_ok-optimum.ensures c.args.problem.now (subst (λ t. ReducesToAfter true t c.args.problem.now c.search.new.self) c.if-threshold-eq0.true
+    (subst (λ b. ReducesToAfter b c.turns.threshold c.args.problem.now c.search.new.self) c.if-branch.true
+    (c.in_ok-search.ensures c.args.problem.now (c.turns.invariant.ready st))))).solution x (c.turns.invariant.taken st x b)
+
+pub returns-then-threshold-eq0 : goal.returns-then-threshold-eq0
+returns-then-threshold-eq0 g c = record {
+  ends = λ st h.
+      let o = c.in_ok-optimum.ensures c.args.problem.now (subst (λ t. ReducesToAfter true t c.args.problem.now c.search.new.self) c.if-threshold-eq0.true
+      (subst (λ b. ReducesToAfter b c.turns.threshold c.args.problem.now c.search.new.self) c.if-branch.true
+      (c.in_ok-search.ensures c.args.problem.now (c.turns.invariant.ready st)))) in
+      also-optimal (λ s. s.cost) (λ s. s.values.items) c.args.problem.now _ _ _ c.in_ok-keep_better.ensures.least o
+      (c.keep_better.ensures.best c.args.problem.now o.solution (c.turns.invariant.best st h));
+  best = λ st h.
+      c.keep_better.ensures.best c.args.problem.now
+      (c.in_ok-optimum.ensures c.args.problem.now (subst (λ t. ReducesToAfter true t c.args.problem.now c.search.new.self) c.if-threshold-eq0.true
+      (subst (λ b. ReducesToAfter b c.turns.threshold c.args.problem.now c.search.new.self) c.if-branch.true
+      (c.in_ok-search.ensures c.args.problem.now (c.turns.invariant.ready st))))).solution (c.turns.invariant.best st h);
+  taken = λ st x b.
+      c.keep_better.ensures.taken c.args.problem.now
+      (c.in_ok-optimum.ensures c.args.problem.now (subst (λ t. ReducesToAfter true t c.args.problem.now c.search.new.self) c.if-threshold-eq0.true
+      (subst (λ b. ReducesToAfter b c.turns.threshold c.args.problem.now c.search.new.self) c.if-branch.true
+      (c.in_ok-search.ensures c.args.problem.now (c.turns.invariant.ready st))))).solution x (c.turns.invariant.taken st x b);
+}
+
+pub returns-in_err-keep_model-clause-best : goal.returns-in_err-keep_model-clause-best
+returns-in_err-keep_model-clause-best g c = λ st h.
+    c.keep_model.ensures.best (after-solution _ _ c.turns.threshold (subst (λ b. ReducesToAfter b c.turns.threshold c.args.problem.now c.search.new.self) c.if-branch.true
     (c.in_ok-search.ensures c.args.problem.now (c.turns.invariant.ready st)))) (c.turns.invariant.best st h)
+
+pub returns-in_err-keep_model-clause-taken : goal.returns-in_err-keep_model-clause-taken
+returns-in_err-keep_model-clause-taken g c = λ st x b.
+    c.keep_model.ensures.taken (after-solution _ _ c.turns.threshold (subst (λ b. ReducesToAfter b c.turns.threshold c.args.problem.now c.search.new.self) c.if-branch.true
+    (c.in_ok-search.ensures c.args.problem.now (c.turns.invariant.ready st)))) x (c.turns.invariant.taken st x b)
 
 pub turns-preserved : goal.turns-preserved
 turns-preserved g c =
     elim c.if-branch.branch [
-      | then-branch+else-threshold-eq0+in_ok-keep_better w ↦ record {
+      | then-branch+else-threshold-eq0+in_ok-keep_model w ↦ record {
         ready = λ st. subst (ReducesTo c.args.problem.now) (sym w.reduction-is)
             (stands-still c.args.problem.now _ _ _ (c.in_ok-search.ensures c.args.problem.now (c.turns.invariant.ready st)));
-        best = λ st h. best-moves _ _ _ w.best-is (w.keep_better.ensures (after-solution _ _ c.turns.threshold
+        best = λ st h. best-moves _ _ _ w.best-is (w.keep_model.ensures.best (after-solution _ _ c.turns.threshold
             (subst (λ b. ReducesToAfter b c.turns.threshold c.args.problem.now c.search.new.self) w.if-branch.true
             (c.in_ok-search.ensures c.args.problem.now (c.turns.invariant.ready st)))) (c.turns.invariant.best st h));
+        taken = λ st x b. took-moves g.S.SolutionSink.takes _ _ _ _ _ _ x w.best-is w.sink-is (w.keep_model.ensures.taken (after-solution _ _ c.turns.threshold
+            (subst (λ b. ReducesToAfter b c.turns.threshold c.args.problem.now c.search.new.self) w.if-branch.true
+            (c.in_ok-search.ensures c.args.problem.now (c.turns.invariant.ready st)))) x (c.turns.invariant.taken st x b));
       }
       | else-branch+in_ok-relax+else-not-branch w ↦ record {
         ready = λ st.
@@ -40,5 +74,6 @@ turns-preserved g c =
             (subst (λ b. ReducesToAfter b c.turns.threshold c.args.problem.now c.search.new.self) w.if-branch.false
             (c.in_ok-search.ensures c.args.problem.now (c.turns.invariant.ready st)))));
         best = λ st h. best-moves _ _ _ w.best-is (c.turns.invariant.best st h);
+        taken = λ st x b. took-moves g.S.SolutionSink.takes _ _ _ _ _ _ x w.best-is w.sink-is (c.turns.invariant.taken st x b);
       }
     ]

@@ -9,4 +9,4 @@ returns g c =
     let e : c.in-Some.solution.is_optimum ≡ true = first_of (assumption c.if-not-solution.false, search (not-false, c.if-not-solution.false)) in
     subst (λ b. IsAnswer b c.args.problem.now c.in-Some.solution.cost c.in-Some.solution.values.items) e
     (subst (λ o. MatchOption o (IsSatisfiable c.args.problem.now.hard → ⊥) (λ s. IsAnswer s.is_optimum c.args.problem.now s.cost s.values.items))
-    c.in-Some.is c.in_ok-solution.ensures)
+    c.in-Some.is c.in_ok-solution.ensures.answer)

@@ -6,5 +6,7 @@ use Rattle.varisat_maxsat.proofs.solving.optimize_within.Goals as goal
 
 pub returns : goal.returns
 returns g c =
-    if-ok c.solve-found.result _ _ (λ o f. f (subst (λ n. ReducesTo (starting n) c.new_in-reduction.result) c.var_count.ensures.count c.new_in-reduction.ensures))
-    c.solve-found.ensures
+    let start = subst (λ n. ReducesTo (starting n) c.new_in-reduction.result) c.var_count.ensures.count c.new_in-reduction.ensures in record {
+      answer = if-ok c.solve-found.result _ _ (λ o f. f start) c.solve-found.ensures.answer;
+      taken = c.solve-found.ensures.taken start;
+    }

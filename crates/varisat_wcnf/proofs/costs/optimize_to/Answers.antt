@@ -1,0 +1,10 @@
+use Rattle.varisat_wcnf.proofs.Printing.{both-said}
+use Rattle.varisat_wcnf.proofs.costs.optimize_to.Goals as goal
+
+pub returns : goal.returns
+returns g c =
+    let (found, improve, (same, fault, printed), last) = c.optimize_within.ensures.taken in record {
+      same_reference = same;
+      same_fault = fault;
+      printed = (found, improve, printed, both-said c.optimize_within.result _ _ _ _ c.optimize_within.ensures.answer last);
+    }

@@ -43,11 +43,14 @@ def solvers(arguments):
 
 
 def optimum(solver, path, limit):
-    """The cost that the solver found to be the least, or None, and its seconds of the processor."""
+    """The cost that the solver found to be the least, "none" where nothing satisfies the hard clauses, or None, and its seconds of the
+    processor."""
     with tempfile.TemporaryFile("w+", encoding="utf-8") as output:
         _, taken = programs.run_once(solver, path, output, limit)
         output.seek(0)
         text = output.read()
+    if "s UNSATISFIABLE" in text:
+        return "none", taken.processor
     costs = re.findall(r"^o (\d+)$", text, re.MULTILINE)
     if "s OPTIMUM FOUND" not in text or not costs:
         return None, taken.processor
@@ -78,11 +81,11 @@ def run(arguments):
                 print(f"different costs on {name}: {results}")
                 failed = True
             times = [f"{seconds:.2f}" if cost is not None else f"> {arguments.limit}" for cost, seconds in results.values()]
-            print(f"| {name} | {min(costs, default='')} |", " | ".join(times), "|", flush=True)
+            print(f"| {name} | {min(costs, key=str, default='')} |", " | ".join(times), "|", flush=True)
             (cost, ours), (other, theirs) = results["maxsat"], results.get("clasp", (None, 0))
             if other is not None and theirs < WITHIN and (cost is None or ours > EACH * max(theirs, 0.01)):
                 failed = True
-            if cost is not None and other is not None:
+            if cost is not None and other is not None and cost != "none":
                 ratios.append(max(ours, 0.01) / max(theirs, 0.01))
     if ratios:
         mean = math.exp(sum(map(math.log, ratios)) / len(ratios))

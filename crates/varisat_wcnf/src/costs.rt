@@ -1,9 +1,8 @@
 //! Prints the cost of each solution as it is found.
-ghost use Rattle.std.specs.Prelude.{◌≡◌, ℕ, ◌-◌, ◌<◌, ◌^◌, ◌++◌, List, [], Some, take, OnOk, OnErr, IfOk, MatchOption, MatchResult};
-ghost use Rattle.varisat_theory.specs.promises.Literals.{IsSatisfiable};
-ghost use Rattle.varisat_maxsat.specs.promises.Problems.{IsAnswer, Found, Improve, last_found};
+ghost use Rattle.std.specs.Prelude.{◌≡◌, ℕ, ◌-◌, ◌<◌, ◌^◌, ◌++◌, List, Some, take, OnOk, OnErr, MatchResult};
+ghost use Rattle.varisat_maxsat.specs.promises.Problems.{Found, Improve};
 ghost use Rattle.varisat_wcnf.specs.inside.Printed.{cost_line, cost_lines};
-ghost use Rattle.varisat_wcnf.specs.inside.Costs.{PrintsCosts};
+ghost use Rattle.varisat_wcnf.specs.inside.Costs.{PrintsCosts, ReturnsLast};
 
 use itoa::Buffer;
 use std::alloc::Allocator;
@@ -87,9 +86,7 @@ fn optimize_to<A: Allocator + Copy, T: ProofTarget>(
     ensures same_fault { printer.new.fault.ghost_name ≡ printer.old.fault.ghost_name }
     ensures printed { (found : List Found) × Improve problem.now found
         × PrintsCosts printer.new.fault.now found (T.taken printer.old.out.now) (T.taken printer.new.out.now)
-        × IfOk result (λ o. MatchOption o ((IsSatisfiable problem.now.hard → ⊥) × (found ≡ []))
-        (λ s. IsAnswer s.is_optimum problem.now s.cost s.values.items
-        × (last_found found ≡ Some (record { cost = s.cost; values = s.values.items })))) }
+        × ReturnsLast problem.now found result (λ s. s.is_optimum) (λ s. record { cost = s.cost; values = s.values.items }) }
 {
     optimize_within(problem, steps, printer, alloc)
 }
@@ -104,9 +101,7 @@ fn optimize_or_keep<A: Allocator + Copy, T: ProofTarget>(
 ) -> Result<Option<Solution<A>>, MaxSatError>
     ensures { (found : List Found) × Improve problem.now found
         × PrintsCosts fault.new found (T.taken out.old) (T.taken out.new)
-        × IfOk result (λ o. MatchOption o ((IsSatisfiable problem.now.hard → ⊥) × (found ≡ []))
-        (λ s. IsAnswer s.is_optimum problem.now s.cost s.values.items
-        × (last_found found ≡ Some (record { cost = s.cost; values = s.values.items })))) }
+        × ReturnsLast problem.now found result (λ s. s.is_optimum) (λ s. record { cost = s.cost; values = s.values.items }) }
 {
     let mut printer = CostPrinter { out, fault };
     optimize_to(alloc, problem, steps, &mut printer)
@@ -122,9 +117,7 @@ pub(crate) fn optimize_printing<A: Allocator + Copy, T: ProofTarget>(
     ensures { (found : List Found) × Improve problem.now found × MatchResult result
         (λ r. ((T.taken out.new).bytes ≡ (T.taken out.old).bytes ++ cost_lines found)
         × ((T.taken out.new).faults ≡ (T.taken out.old).faults)
-        × IfOk r (λ o. MatchOption o ((IsSatisfiable problem.now.hard → ⊥) × (found ≡ []))
-        (λ s. IsAnswer s.is_optimum problem.now s.cost s.values.items
-        × (last_found found ≡ Some (record { cost = s.cost; values = s.values.items })))))
+        × ReturnsLast problem.now found r (λ s. s.is_optimum) (λ s. record { cost = s.cost; values = s.values.items }))
         (λ _. (n : ℕ) × ((T.taken out.new).bytes ≡ (T.taken out.old).bytes ++ take n (cost_lines found))) }
 {
     let mut fault = None;

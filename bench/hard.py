@@ -1,7 +1,6 @@
 """Formulas that take a search longer than those of the other benchmarks."""
 import os
 
-import circuits
 import clients
 import formulas
 import puzzles
@@ -19,7 +18,7 @@ FORMULAS = {
     "parity-34-unsat": lambda: formulas.parity(34, 31400),
     "parity-36-unsat": lambda: formulas.parity(36, 31400),
     "multiplier-8-unsat": lambda: formulas.commutativity(8),
-    "two-multipliers-8-unsat": lambda: circuits.two_multipliers(8),
+    "two-multipliers-8-unsat": lambda: formulas.two_multipliers(8),
     "factoring-36-unsat": lambda: formulas.factoring(19, 68719476731),
     "degrees-31-unsat": lambda: formulas.odd_degrees(31, 4, 8008),
     "progressions-114-unsat": lambda: formulas.two_kinds(114, 3, 11),

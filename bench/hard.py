@@ -33,6 +33,7 @@ FORMULAS = {
     "booth-8-unsat": lambda: clients.of_circuit("-N 8 -b"),
     "root-26-unsat": lambda: clients.of_c("root", BITS=26),
     "quotient-19-unsat": lambda: clients.of_c("quotient", BITS=19),
+    "quotient-20-unsat": lambda: clients.of_c("quotient", BITS=20),
     "sorting-8-unsat": lambda: clients.of_c("sorting", BYTES=8),
 }
 # Some that take ours a few seconds, on which changes of the search were tried too.

@@ -13,36 +13,23 @@ PACKAGES = {"cbmc": "cbmc", "yosys": "yosys", "berkeley-abc": "berkeley-abc"}
 REWRITING = "balance; rewrite; refactor; balance; rewrite; rewrite -z; balance; refactor -z; rewrite -z; balance"
 
 
-class Missing(Exception):
-    """The program is not there."""
-
-
-def clauses_of(path):
-    """The clauses of a text, each as a list of numbers."""
-    clause = []
-    with open(path, encoding="ascii") as file:
-        for line in file:
-            if line[:1] in ("c", "p"):
-                continue
-            for number in map(int, line.split()):
-                if number:
-                    clause.append(number)
-                else:
-                    yield clause
-                    clause = []
+class NotMade(Exception):
+    """Why a formula is not made."""
 
 
 def written_by(tool, words, seconds):
     """The formula that the program writes to the file `out`, in a folder of its own. Past the seconds it is ended."""
     if not shutil.which(tool):
-        raise Missing(f"{tool}, of Debian's package {PACKAGES[tool]}")
+        raise NotMade(f"missing {tool}, of Debian's package {PACKAGES[tool]}")
     with tempfile.TemporaryDirectory() as folder:
         quiet = {"stdin": subprocess.DEVNULL, "stdout": subprocess.DEVNULL, "stderr": subprocess.DEVNULL}
         try:
             subprocess.run([tool, *words], cwd=folder, timeout=seconds, **quiet)
         except subprocess.TimeoutExpired:
             pass
-        clauses = list(clauses_of(f"{folder}/out"))
+        if not os.path.exists(f"{folder}/out"):
+            raise NotMade(f"{tool} wrote none")
+        clauses = list(formulas.clauses_of(f"{folder}/out"))
     # Some tell another number of variables than they use.
     return formulas.Formula(max(abs(literal) for clause in clauses for literal in clause), clauses)
 

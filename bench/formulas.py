@@ -59,6 +59,21 @@ def write_clauses(path, variables, count, clauses):
     return literals
 
 
+def clauses_of(path):
+    """The clauses of a text, each as a list of numbers."""
+    clause = []
+    with open(path, encoding="ascii") as file:
+        for line in file:
+            if line[:1] in ("c", "p"):
+                continue
+            for number in map(int, line.split()):
+                if number:
+                    clause.append(number)
+                else:
+                    yield clause
+                    clause = []
+
+
 def write(path, formula):
     """Writes the formula, and counts its literals."""
     return write_clauses(path, formula.variables, len(formula.clauses), formula.clauses)

@@ -58,8 +58,8 @@ def run(arguments):
     for name in arguments.only or (known if arguments.shorter else FORMULAS):
         try:
             formula = known[name]()
-        except clients.Missing as missing:
-            print(f"{name:24} is not made: missing {missing}", flush=True)
+        except clients.NotMade as reason:
+            print(f"{name:24} is not made: {reason}", flush=True)
             continue
         literals = formulas.write(os.path.join(arguments.folder, f"{name}.cnf"), formula)
         print(f"{name:24} {formula.variables:9} variables {len(formula.clauses):9} clauses {literals:9} literals", flush=True)

@@ -96,10 +96,6 @@ def ours():
     return Program("varisat", [PROGRAM, "solve"], options=("--no-simplify",))
 
 
-def ours_simplifying():
-    return Program("varisat", [PROGRAM, "solve"])
-
-
 def cadical():
     return Program("cadical", ["cadical", "-q"])
 

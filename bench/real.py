@@ -8,18 +8,17 @@ import subprocess
 import tempfile
 import threading
 from concurrent.futures import ThreadPoolExecutor
+from dataclasses import replace
 
 import learning
 import programs
-from clients import clauses_of
+from formulas import clauses_of
 
 SUMMARY = "times deciding the formulas of a folder, beside minisat, cadical and kissat"
 CHECKER = "drat-trim"
 # What a check by the checker may take, in seconds.
 CHECK_LIMIT = 600
-
-
-# A run alone writes to the file of results.
+# One run at a time writes to the file of results.
 WRITING = threading.Lock()
 
 
@@ -46,10 +45,9 @@ def solvers(kissat):
         programs.Program("varisat", ours, conflicts_told, ("--progress",)),
         programs.Program("--no-simplify", ours, conflicts_told, ("--progress", "--no-simplify")),
         programs.Program("minisat", ["minisat", "-verb=1"], programs.minisat_conflicts),
-        programs.learning_minisat(),
+        replace(programs.learning_minisat(), name="minisat -no-pre"),
         programs.Program("cadical", ["cadical"], conflicts_told),
     ]
-    found[3].name = "minisat -no-pre"
     return found + ([programs.Program("kissat", [kissat], conflicts_told)] if kissat else [])
 
 

@@ -2,7 +2,7 @@
 //!
 //! A name that is in use leads to a global variable, and a global variable that the search speaks of to a solver
 //! variable.
-ghost use Rattle.std.specs.Prelude.{◌≡◌, ◌≤◌, ◌<◌, ◌^◌, false, length, Some, MatchOption, OnOk, OnErr, IsSome, IsTrue, ◌↔◌};
+ghost use Rattle.std.specs.Prelude.{◌≡◌, ◌≤◌, ◌<◌, ◌^◌, false, length, Some, MatchOption, OnOk, OnErr, IsSome, IsTrue, ◌↔◌, slice_set};
 ghost use Rattle.std.specs.Borrow.{sem};
 ghost use Rattle.varisat_names.specs.promises.Maps.{chain};
 ghost use Rattle.varisat_names.specs.promises.VarMap.{at, mapped_from, IsLeastUnmapped};
@@ -10,12 +10,15 @@ ghost use Rattle.varisat_names.specs.promises.VarBiMap.{turned};
 ghost use Rattle.varisat_names.specs.promises.VarData.{data_at, reaching, live_from, IsLeastRetired, AreDeleted};
 ghost use Rattle.varisat_names.specs.promises.Variables.{no_variables, AreFree, AreListed};
 
+mod code_pages;
 pub mod data;
 mod globals;
 pub mod iter;
+mod kept_list;
 pub mod linked;
 mod names;
 pub mod naming;
+mod number_set;
 pub mod var_map;
 
 pub use data::{SamplingMode, VarData};
@@ -126,9 +129,9 @@ impl<A: Allocator + Copy> Variables<A> {
     }
 
     /// What is kept of the global variable.
-    pub fn var_data_global(&self, global: Var) -> &VarData
+    pub fn var_data_global(&self, global: Var) -> VarData
         requires { global < length self.now.tables.kept }
-        ensures { result.now ≡ data_at self.now.tables.kept global }
+        ensures { result ≡ data_at self.now.tables.kept global }
     {
         self.globals.data(global)
     }
@@ -191,7 +194,7 @@ impl<A: Allocator + Copy> Variables<A> {
 
 /// Parts that are lent to be changed. The other parts stay, and so do the lists of what is free.
 impl<A: Allocator + Copy> Variables<A> {
-    ghost use Rattle.varisat_names.specs.inside.Lending.{number_or_zero, lends_users, lends_solvers, lends_data, lends_data_of_solver};
+    ghost use Rattle.varisat_names.specs.inside.Lending.{lends_users, lends_solvers};
 
     /// The map from names to global variables, to be changed.
     pub fn global_from_user_mut(&mut self) -> VarBiMapMut<'_, A>
@@ -241,24 +244,24 @@ impl<A: Allocator + Copy> Variables<A> {
         Ok(())
     }
 
-    /// What is kept of the global variable, to be changed.
-    pub fn var_data_global_mut(&mut self, global: Var) -> &mut VarData
+    /// Keeps this of the global variable.
+    pub fn set_var_data_global(&mut self, global: Var, new_data: VarData)
         requires { global < length self.old.tables.kept }
-        ensures* lends { sem 𝓛 (lends_data A.row A.Allocator self.entry global result) }
-        ensures value { result.now ≡ data_at self.old.tables.kept global }
+        ensures { self.new
+            ≡ record self.old { tables = record self.old.tables { kept = slice_set self.old.tables.kept global new_data } } }
     {
-        self.globals.data_mut(global)
+        self.globals.write_data(global, new_data);
     }
 
-    /// What is kept of the global variable that has the solver variable, to be changed.
-    pub fn var_data_solver_mut(&mut self, solver: Var) -> &mut VarData
+    /// Keeps this of the global variable that has the solver variable.
+    pub fn set_var_data_solver(&mut self, solver: Var, new_data: VarData)
         requires { MatchOption (at self.old.tables.solvers.backward solver) ⊥
             (λ global. global < length self.old.tables.kept) }
-        ensures* lends { sem 𝓛 (lends_data_of_solver A.row A.Allocator self.entry solver result) }
-        ensures value { result.now
-            ≡ data_at self.old.tables.kept (number_or_zero (at self.old.tables.solvers.backward solver)) }
+        ensures { MatchOption (at self.old.tables.solvers.backward solver) ⊥
+            (λ global. self.new
+            ≡ record self.old { tables = record self.old.tables { kept = slice_set self.old.tables.kept global new_data } }) }
     {
         let global = self.global_from_solver().get(solver).unwrap();
-        self.globals.data_mut(global)
+        self.globals.write_data(global, new_data);
     }
 }

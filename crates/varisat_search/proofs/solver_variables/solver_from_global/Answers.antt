@@ -57,7 +57,7 @@ returns-clause-solver g c =
     let x = c.args.global in
     let left : at m.solvers.forward x ≡ None = ap (λ b. at b x) (sym c.solver_from_global.ensures) ∙ sym c.get.ensures ∙ c.in_default.is in
     let same = ap (λ (ds : List VarData). data_at ds x) (sym t.kept) ∙ sym c.var_data_global.ensures in
-    solver-case x c.in_ok-solver.solver m n c.args.ctx.now c.set_var_count.new.ctx c.initialize_solver_var.new.ctx c.var_data_global.result.now.unit left t
+    solver-case x c.in_ok-solver.solver m n c.args.ctx.now c.set_var_count.new.ctx c.initialize_solver_var.new.ctx c.var_data_global.result.unit left t
     (ap (λ (d : VarData). d.unit) same)
     (record {
       seen = (c.in_ok-set_var_count.ensures {u = tt}).raised.seen;

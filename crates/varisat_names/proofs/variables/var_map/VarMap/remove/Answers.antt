@@ -1,14 +1,26 @@
-use Rattle.std.proofs.lemmas.Grind.{common_steps}
-use Rattle.std.proofs.Common.{None, refl, arith}
-use Rattle.varisat_names.proofs.VarMap.{put-entry}
+use Rattle.varisat_names.specs.inside.Entries.{entry}
+use Rattle.varisat_names.proofs.Entries.{take-out, none-ends, none-entries, none-above}
 use Rattle.varisat_names.proofs.variables.var_map.VarMap.remove.Goals as goal
 
-pub returns-then-index-len-clause-below : goal.returns-then-index-len-clause-below
-returns-then-index-len-clause-below g c h = put-entry c.self.inside.mapping.items c.args.self.now c.args.from c.index-then-index-len.result
-    0x8000_0000 None c.self.view_is c.index-then-index-len.ensures.index refl h
+pub invariant_of-self : goal.invariant_of-self
+invariant_of-self g c =
+    let own = c.self.inside.own in
+    let codes = c.self.inside.codes in
+    none-ends (entry own codes) (entry c.remove.new.self c.remove-2.new.self) c.self.inside.watermark c.args.from c.self.invariant
+    (take-out own c.remove.new.self codes c.remove-2.new.self c.args.from c.index-index.result c.index-index.ensures.index c.remove.ensures c.remove-2.ensures)
 
-pub returns-then-index-len-clause-above : goal.returns-then-index-len-clause-above
-returns-then-index-len-clause-above g c = grind (arith, common_steps)
+pub returns-clause-below : goal.returns-clause-below
+returns-clause-below g c h =
+    let own = c.self.inside.own in
+    let codes = c.self.inside.codes in
+    none-entries (entry own codes) (entry c.remove.new.self c.remove-2.new.self) c.self.inside.watermark c.args.from c.args.self.now
+    c.self.view_is c.self.invariant (invariant_of-self g c) h
+    (take-out own c.remove.new.self codes c.remove-2.new.self c.args.from c.index-index.result c.index-index.ensures.index c.remove.ensures c.remove-2.ensures)
 
-pub returns-else-index-len-clause-below : goal.returns-else-index-len-clause-below
-returns-else-index-len-clause-below g c = grind (arith, common_steps)
+pub returns-clause-above : goal.returns-clause-above
+returns-clause-above g c h =
+    let own = c.self.inside.own in
+    let codes = c.self.inside.codes in
+    none-above (entry own codes) (entry c.remove.new.self c.remove-2.new.self) c.self.inside.watermark c.args.from c.args.self.now
+    c.self.view_is c.self.invariant h
+    (take-out own c.remove.new.self codes c.remove-2.new.self c.args.from c.index-index.result c.index-index.ensures.index c.remove.ensures c.remove-2.ensures)

@@ -2,7 +2,7 @@
 //!
 //! A name that is in use leads to a global variable, and a global variable that the search speaks of to a solver
 //! variable.
-ghost use Rattle.std.specs.Prelude.{◌≡◌, ◌≤◌, ◌<◌, ◌^◌, false, length, Some, MatchOption, OnOk, OnErr, IsSome, IsTrue, ◌↔◌, slice_set};
+ghost use Rattle.std.specs.Prelude.{◌≡◌, ◌≤◌, ◌<◌, ◌^◌, false, length, Some, MatchOption, OnOk, OnErr, IsSome, IsTrue, ◌↔◌};
 ghost use Rattle.std.specs.Borrow.{sem};
 ghost use Rattle.varisat_names.specs.promises.Maps.{chain};
 ghost use Rattle.varisat_names.specs.promises.VarMap.{at, mapped_from, IsLeastUnmapped};
@@ -12,6 +12,7 @@ ghost use Rattle.varisat_names.specs.promises.Variables.{no_variables, AreFree, 
 
 mod code_pages;
 pub mod data;
+mod data_mut;
 mod globals;
 pub mod iter;
 mod kept_list;
@@ -22,6 +23,7 @@ mod number_set;
 pub mod var_map;
 
 pub use data::{SamplingMode, VarData};
+pub use data_mut::VarDataMut;
 use globals::Globals;
 pub use iter::{GlobalVars, UserVars};
 pub use linked::LinkedVariables;
@@ -194,7 +196,7 @@ impl<A: Allocator + Copy> Variables<A> {
 
 /// Parts that are lent to be changed. The other parts stay, and so do the lists of what is free.
 impl<A: Allocator + Copy> Variables<A> {
-    ghost use Rattle.varisat_names.specs.inside.Lending.{lends_users, lends_solvers};
+    ghost use Rattle.varisat_names.specs.inside.Lending.{lends_users, lends_solvers, lends_globals};
 
     /// The map from names to global variables, to be changed.
     pub fn global_from_user_mut(&mut self) -> VarBiMapMut<'_, A>
@@ -244,24 +246,33 @@ impl<A: Allocator + Copy> Variables<A> {
         Ok(())
     }
 
-    /// Keeps this of the global variable.
-    pub fn set_var_data_global(&mut self, global: Var, new_data: VarData)
+    /// What is kept of the global variable, to be changed.
+    pub fn var_data_global_mut(&mut self, global: Var) -> VarDataMut<'_, A>
         requires { global < length self.old.tables.kept }
-        ensures { self.new
-            ≡ record self.old { tables = record self.old.tables { kept = slice_set self.old.tables.kept global new_data } } }
+        ensures* lends { sem 𝓛 (lends_globals A.row A.Allocator self.entry result) }
+        ensures kept { result.globals.now.kept ≡ self.old.tables.kept }
+        ensures free { result.globals.now.free ≡ self.old.free.globals }
+        ensures global { result.global ≡ global }
     {
-        self.globals.write_data(global, new_data);
+        VarDataMut {
+            globals: &mut self.globals,
+            global,
+        }
     }
 
-    /// Keeps this of the global variable that has the solver variable.
-    pub fn set_var_data_solver(&mut self, solver: Var, new_data: VarData)
+    /// What is kept of the global variable that has the solver variable, to be changed.
+    pub fn var_data_solver_mut(&mut self, solver: Var) -> VarDataMut<'_, A>
         requires { MatchOption (at self.old.tables.solvers.backward solver) ⊥
             (λ global. global < length self.old.tables.kept) }
-        ensures { MatchOption (at self.old.tables.solvers.backward solver) ⊥
-            (λ global. self.new
-            ≡ record self.old { tables = record self.old.tables { kept = slice_set self.old.tables.kept global new_data } }) }
+        ensures* lends { sem 𝓛 (lends_globals A.row A.Allocator self.entry result) }
+        ensures kept { result.globals.now.kept ≡ self.old.tables.kept }
+        ensures free { result.globals.now.free ≡ self.old.free.globals }
+        ensures global { at self.old.tables.solvers.backward solver ≡ Some result.global }
     {
         let global = self.global_from_solver().get(solver).unwrap();
-        self.globals.write_data(global, new_data);
+        VarDataMut {
+            globals: &mut self.globals,
+            global,
+        }
     }
 }

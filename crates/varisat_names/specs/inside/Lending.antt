@@ -7,8 +7,10 @@ use Rattle.std.specs.declared.alloc.Allocator.{Ghosts}
 use Rattle.varisat_names.specs.contracts.variables.code_pages.CodePages.{the_row as pages_row}
 use Rattle.varisat_names.specs.contracts.variables.var_map.VarBiMap.{the_row as map_row}
 use Rattle.varisat_names.specs.contracts.variables.names.NameSpace.{the_row as names_row}
+use Rattle.varisat_names.specs.contracts.variables.globals.Globals.{the_row as globals_row}
 use Rattle.varisat_names.specs.contracts.variables.Variables.{the_row}
 use Rattle.varisat_names.specs.declared.variables.var_map.VarBiMapMut.{VarBiMapMut}
+use Rattle.varisat_names.specs.declared.variables.data_mut.VarDataMut.{VarDataMut}
 use Rattle.varisat_names.specs.promises.VarBiMap.{turned}
 use Rattle.varisat_names.specs.promises.Variables.{NamePairs, VariableParts}
 
@@ -33,3 +35,9 @@ module _ (A : RattleType) (alloc : Ghosts A.Denot) where
   lends_solvers s r =
       follows (the_row A alloc) (map_row A alloc) s.ghost_name r.map.ghost_name
       (λ w. record s.now { tables = record s.now.tables { solvers = turned w } })
+
+  -- what is kept of the global variables, and which may be used again
+  abbrev pub lends_globals : MutBor VariableParts → VarDataMut A.Denot → Fml
+  lends_globals s r =
+      follows (the_row A alloc) (globals_row A alloc) s.ghost_name r.globals.ghost_name
+      (λ w. record s.now { tables = record s.now.tables { kept = w.kept }; free = record s.now.free { globals = w.free } })

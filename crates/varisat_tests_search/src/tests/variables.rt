@@ -38,9 +38,10 @@ fn join(variables: &mut Variables<Global>) -> Result<(), AllocError> {
 fn change(variables: &mut Variables<Global>) {
     if let Some(taken) = variables.global_from_solver().get(var!(1)) {
         if taken.index() < variables.global_watermark() {
-            let mut data = variables.var_data_global(taken);
-            data.deleted = false;
-            variables.set_var_data_solver(var!(1), data);
+            let mut lent = variables.var_data_solver_mut(var!(1));
+            let mut kept = lent.get();
+            kept.deleted = false;
+            lent.set(kept);
         }
     }
 }

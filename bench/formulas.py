@@ -308,25 +308,46 @@ def two_kinds(largest, one, other):
     return Formula(largest, first + [list(numbers) for numbers in progressions(largest, other)])
 
 
-def add_count(formula, digits, take):
-    """Adds the binary digits, of which `take` takes the next one out of a list, and gives the digits of their sum."""
-    columns, total = [list(digits)], []
-    for column in columns:
+def first(column):
+    return column.pop(0)
+
+
+def add_columns(formula, columns, take):
+    """Adds the binary digits of each column, of which `take` takes the next one out, and what is carried, and gives the digits of the sum."""
+    total = []
+    for place, column in enumerate(columns):
         while len(column) > 1:
             digit, carry = add_digits(formula, [take(column) for _ in range(min(3, len(column)))])
             column.append(digit)
-            if len(columns) == len(total) + 1:
+            if place + 1 == len(columns):
                 columns.append([])
-            columns[len(total) + 1].append(carry)
+            columns[place + 1].append(carry)
         total += column
     return total
+
+
+def add_count(formula, digits, take):
+    """Adds the binary digits, and gives the digits of their sum."""
+    return add_columns(formula, [list(digits)], take)
+
+
+def two_multipliers(bits):
+    """Do a multiplier that adds row by row and one that adds column by column differ? Unsatisfiable."""
+    formula = Formula()
+    one, other = two_numbers(formula, bits)
+    rows = add_product(formula, one, other)
+    columns = [[] for _ in range(2 * bits - 1)]
+    for (here, digit), (there, factor) in itertools.product(enumerate(one), enumerate(other)):
+        columns[here + there].append(formula.both(digit, factor))
+    formula.clauses.append([formula.differ(here, there) for here, there in zip(rows, add_columns(formula, columns, first))])
+    return formula
 
 
 def counts(variables, seed):
     """Are more of the variables true if they are counted in one order than in another? Unsatisfiable."""
     formula = Formula(variables)
     mixed = different(Numbers(seed), variables, variables)
-    one = add_count(formula, range(1, variables + 1), lambda column: column.pop(0))
+    one = add_count(formula, range(1, variables + 1), first)
     other = add_count(formula, mixed, list.pop)
     formula.clauses.append([formula.differ(here, there) for here, there in zip(one, other)])
     return formula

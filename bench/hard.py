@@ -1,24 +1,40 @@
 """Formulas that take a search longer than those of the other benchmarks."""
 import os
 
+import clients
 import formulas
+import puzzles
 
 SUMMARY = "makes formulas that take minisat 10 seconds and more"
 # A function that makes each formula.
 FORMULAS = {
     "random-280-unsat": lambda: formulas.random_3_sat(280, 1204, 8001),
-    "random-290": lambda: formulas.random_3_sat(290, 1247, 8012),
     "random-300-sat": lambda: formulas.random_3_sat(300, 1290, 8002),
-    "random-5-70": lambda: formulas.random_sat(70, 1505, 5, 8004),
-    "colouring-178": lambda: formulas.colouring(178, 819, 4, 8005),
-    "pigeonhole-10": lambda: formulas.pigeonhole(10),
+    "random-4-100-unsat": lambda: formulas.random_sat(100, 993, 4, 8003),
+    "random-5-65-unsat": lambda: formulas.random_sat(65, 1385, 5, 8006),
+    "random-7-40-unsat": lambda: formulas.random_sat(40, 3512, 7, 8007),
+    "colouring-174-unsat": lambda: formulas.colouring(174, 800, 4, 8005),
     "counter-10-unsat": lambda: formulas.counter(10, 800, 801),
+    "parity-34-unsat": lambda: formulas.parity(34, 31400),
+    "parity-36-unsat": lambda: formulas.parity(36, 31400),
     "multiplier-8-unsat": lambda: formulas.commutativity(8),
+    "two-multipliers-8-unsat": lambda: formulas.two_multipliers(8),
     "factoring-36-unsat": lambda: formulas.factoring(19, 68719476731),
-    "degrees-35-unsat": lambda: formulas.odd_degrees(35, 4, 8008),
-    "degrees-39-unsat": lambda: formulas.odd_degrees(39, 4, 8008),
+    "degrees-31-unsat": lambda: formulas.odd_degrees(31, 4, 8008),
     "progressions-114-unsat": lambda: formulas.two_kinds(114, 3, 11),
+    "three-kinds-51-unsat": lambda: puzzles.many_kinds(51, (3, 3, 4)),
     "counts-22-unsat": lambda: formulas.counts(22, 8009),
+    "dominoes-12-unsat": lambda: puzzles.dominoes(12),
+    "life-15-sat": lambda: puzzles.life(15, 2, 4, 1),
+    "core-7-unsat": lambda: clients.of_verilog("core", "same", 7, WIDTH=8),
+    "queue-14-unsat": lambda: clients.of_verilog("queue", "same", 14, WIDTH=4, BITS=3),
+    "arbiter-10-unsat": lambda: clients.of_verilog("arbiter", "right", 16, SIZE=10),
+    "product-8-unsat": lambda: clients.of_verilog("product", "same", 10, WIDTH=8),
+    "booth-8-unsat": lambda: clients.of_circuit("-N 8 -b"),
+    "root-26-unsat": lambda: clients.of_c("root", BITS=26),
+    "quotient-19-unsat": lambda: clients.of_c("quotient", BITS=19),
+    "quotient-20-unsat": lambda: clients.of_c("quotient", BITS=20),
+    "sorting-8-unsat": lambda: clients.of_c("sorting", BYTES=8),
 }
 # Some that take ours a few seconds, on which changes of the search were tried too.
 SHORTER = {
@@ -40,6 +56,11 @@ def run(arguments):
     os.makedirs(arguments.folder, exist_ok=True)
     known = {**FORMULAS, **SHORTER}
     for name in arguments.only or (known if arguments.shorter else FORMULAS):
-        literals = formulas.write(os.path.join(arguments.folder, f"{name}.cnf"), known[name]())
-        print(f"{name:24} {literals:9} literals", flush=True)
+        try:
+            formula = known[name]()
+        except clients.Missing as missing:
+            print(f"{name:24} is not made: missing {missing}", flush=True)
+            continue
+        literals = formulas.write(os.path.join(arguments.folder, f"{name}.cnf"), formula)
+        print(f"{name:24} {formula.variables:9} variables {len(formula.clauses):9} clauses {literals:9} literals", flush=True)
     return 0

@@ -1,17 +1,26 @@
 """How long formulas from clients take, in a folder of DIMACS CNF texts, and what simplifying them takes."""
+import json
 import os
+import re
 import shutil
 import statistics
 import subprocess
 import tempfile
+import threading
+from concurrent.futures import ThreadPoolExecutor
 
 import learning
 import programs
+from clients import clauses_of
 
-SUMMARY = "times deciding the formulas of a folder, beside minisat and cadical"
+SUMMARY = "times deciding the formulas of a folder, beside minisat, cadical and kissat"
 CHECKER = "drat-trim"
 # What a check by the checker may take, in seconds.
 CHECK_LIMIT = 600
+
+
+# A run alone writes to the file of results.
+WRITING = threading.Lock()
 
 
 def add_arguments(command):
@@ -19,15 +28,29 @@ def add_arguments(command):
     command.add_argument("--limit", type=learning.positive, default=30, help="seconds of the processor for a run (30)")
     command.add_argument("--check", action="store_true", help=f"check each proof by {CHECKER}, where it is there, and that of a search without simplification")
     command.add_argument("--program", metavar="FILE", help="our program, in place of the proved one, which else is built where that is due")
+    command.add_argument("--kissat", metavar="FILE", default=shutil.which("kissat"), help="the program kissat (the one on the PATH)")
+    command.add_argument("--at-once", type=learning.positive, default=1, metavar="COUNT", help="runs at a time (1)")
+    command.add_argument("--results", metavar="FILE", help="a line of JSON for each run is added to it, and the runs that it has are not made again")
+    command.add_argument("--deciding", action="store_true", help="measure no simplifying")
 
 
-def solvers():
-    return [
-        programs.ours_simplifying(),
-        programs.Program("minisat", ["minisat", "-verb=0"]),
-        programs.Program("minisat -no-pre", ["minisat", "-verb=0", "-no-pre"]),
-        programs.cadical(),
+def conflicts_told(output):
+    """How many conflicts a run of ours, of cadical or of kissat told, or None."""
+    counts = re.findall(r"^c conflicts:? +(\d+)", output, re.MULTILINE)
+    return int(counts[-1]) if counts else None
+
+
+def solvers(kissat):
+    ours = [programs.PROGRAM, "solve"]
+    found = [
+        programs.Program("varisat", ours, conflicts_told, ("--progress",)),
+        programs.Program("--no-simplify", ours, conflicts_told, ("--progress", "--no-simplify")),
+        programs.Program("minisat", ["minisat", "-verb=1"], programs.minisat_conflicts),
+        programs.learning_minisat(),
+        programs.Program("cadical", ["cadical"], conflicts_told),
     ]
+    found[3].name = "minisat -no-pre"
+    return found + ([programs.Program("kissat", [kissat], conflicts_told)] if kissat else [])
 
 
 def unpacked(path, folder):
@@ -38,21 +61,6 @@ def unpacked(path, folder):
     with open(text, "wb") as file:
         subprocess.run(["xz", "-dc", path], stdout=file, check=True)
     return text
-
-
-def clauses_of(path):
-    """The clauses of a text, each as a list of numbers."""
-    clause = []
-    with open(path, encoding="ascii") as file:
-        for line in file:
-            if line[:1] in ("c", "p"):
-                continue
-            for number in map(int, line.split()):
-                if number:
-                    clause.append(number)
-                else:
-                    yield clause
-                    clause = []
 
 
 def check_model(path, output):
@@ -66,16 +74,27 @@ def check_model(path, output):
 
 
 def decide(program, path, limit):
-    """The status, None past the limit, with what was printed and the seconds of the processor."""
+    """The status, None past the limit, the seconds of the processor, and the conflicts that were told, or None."""
+    name = os.path.basename(path)[:-4]
     with tempfile.TemporaryFile("w+", encoding="utf-8") as output:
-        status, taken = programs.run_once(program, path, output, limit)
+        command = [*program.command, path, *program.options]
+        status, taken = programs.run_command(command, subprocess.DEVNULL, output, limit, output)
         output.seek(0)
         printed = output.read()
     if programs.was_killed(status, taken, limit):
-        return None, printed, float(limit)
-    if status not in (programs.SATISFIABLE, programs.UNSATISFIABLE):
-        programs.stop(f"{program.name} ended with status {status} on {os.path.basename(path)}")
-    return status, printed, taken.processor
+        status = None
+    elif status not in (programs.SATISFIABLE, programs.UNSATISFIABLE):
+        programs.stop(f"{program.name} ended with status {status} on {name}")
+    elif status == programs.SATISFIABLE and program.command[0] == programs.PROGRAM:
+        check_model(path, printed)
+    return {
+        "formula": name,
+        "program": program.name,
+        "limit": limit,
+        "status": status,
+        "seconds": taken.processor if status else limit,
+        "conflicts": program.conflicts_of(printed),
+    }
 
 
 def simplifiers():
@@ -126,23 +145,46 @@ def check_proof(path, folder, limit, *options):
     return taken.processor if "s VERIFIED" in printed else None
 
 
-def run_formula(path, folder, arguments):
-    """Prints a row, and gives the seconds of each program."""
-    found = [decide(program, path, arguments.limit) for program in solvers()]
-    verdicts = {status for status, _, _ in found if status}
+def known_results(arguments):
+    """The runs of the file that had this limit, by formula and program."""
+    if not arguments.results or not os.path.exists(arguments.results):
+        return {}
+    with open(arguments.results, encoding="utf-8") as file:
+        results = map(json.loads, file)
+        return {(result["formula"], result["program"]): result for result in results if result["limit"] == arguments.limit}
+
+
+def decide_or_know(known, program, path, arguments):
+    """The run's result, out of the file of results where it is there, else put into it."""
+    result = known.get((os.path.basename(path)[:-4], program.name))
+    if not result:
+        result = decide(program, path, arguments.limit)
+        if arguments.results:
+            with WRITING, open(arguments.results, "a", encoding="utf-8") as file:
+                print(json.dumps(result), file=file)
+    return result
+
+
+def print_formula(path, found, folder, arguments):
+    """Prints a row, and gives the seconds of each program. `*` is a run past the limit."""
+    name = os.path.basename(path)[:-4]
+    verdicts = {result["status"] for result in found if result["status"]}
     if len(verdicts) > 1:
-        programs.stop(f"the programs do not agree on {os.path.basename(path)}")
-    ours, printed, _ = found[0]
-    if ours == programs.SATISFIABLE:
-        check_model(path, printed)
-    row = f"{os.path.basename(path)[:-4]:24} {str(ours or '-'):>7}"
-    row += "".join(f" {seconds:15.2f}" for _, _, seconds in found)
-    if arguments.check and ours == programs.UNSATISFIABLE:
+        programs.stop(f"the programs do not agree on {name}")
+    verdict = max(verdicts, default=None)
+    row = f"{name:24} {str(verdict or '-'):>7}"
+    row += "".join(f" {result['seconds']:14.2f}{' ' if result['status'] else '*'}" for result in found)
+    row += "".join(f" {'-' if result['conflicts'] is None else result['conflicts']:>15}" for result in found)
+    if arguments.check and found[0]["status"] == programs.UNSATISFIABLE:
         for options in ((), ("--no-simplify",)):
             seconds = check_proof(path, folder, arguments.limit, *options)
             row += f" {seconds:12.2f}" if seconds is not None else f" {'-':>12}"
     print(row, flush=True)
-    return [seconds for _, _, seconds in found]
+    return [result["seconds"] for result in found]
+
+
+def mean_ratio(rows, ours, theirs):
+    return statistics.geometric_mean(max(row[ours], 0.01) / max(row[theirs], 0.01) for row in rows)
 
 
 def each_text(arguments, names, run_text):
@@ -154,14 +196,24 @@ def each_text(arguments, names, run_text):
     return found
 
 
+def print_heads(programs_run, arguments):
+    print(f"seconds of the processor, at most {arguments.limit}, and conflicts\n")
+    heads = f"{'formula':24} {'verdict':>7}" + "".join(f" {program.name:>14} " for program in programs_run)
+    heads += "".join(f" {program.name:>15}" for program in programs_run)
+    print(heads + (f" {CHECKER:>12} {'unsimplified':>12}" if arguments.check else ""))
+
+
 def decide_all(arguments, names):
-    print(f"seconds of the processor, at most {arguments.limit}\n")
-    checks = f" {CHECKER:>12} {'unsimplified':>12}" if arguments.check else ""
-    print(f"{'formula':24} {'verdict':>7}" + "".join(f" {program.name:>15}" for program in solvers()) + checks)
-    rows = each_text(arguments, names, lambda path, folder: run_formula(path, folder, arguments))
-    for index, program in enumerate(solvers()[1:], start=1):
-        ratio = statistics.geometric_mean(max(row[0], 0.01) / max(row[index], 0.01) for row in rows)
-        print(f"in the mean {ratio:.2f} of {program.name}")
+    """Runs go on over all formulas, so many at once, and a row is printed as soon as those of its formula have ended."""
+    known, compared = known_results(arguments), solvers(arguments.kissat)
+    print_heads(compared, arguments)
+    with tempfile.TemporaryDirectory() as folder, ThreadPoolExecutor(arguments.at_once) as pool:
+        texts = [unpacked(os.path.join(arguments.folder, name), folder) for name in names]
+        runs = [[pool.submit(decide_or_know, known, program, text, arguments) for program in compared] for text in texts]
+        rows = [print_formula(text, [run.result() for run in started], folder, arguments) for text, started in zip(texts, runs)]
+    for index, program in enumerate(compared[2:], start=2):
+        ratios = mean_ratio(rows, 0, index), mean_ratio(rows, 1, index)
+        print(f"in the mean {ratios[0]:.2f} of {program.name}, and without simplification {ratios[1]:.2f}")
 
 
 def simplify_all(arguments, names):
@@ -176,6 +228,8 @@ def simplify_all(arguments, names):
 
 def run(arguments):
     programs.check_tools("minisat", "cadical", "/usr/bin/time")
+    if arguments.kissat and not shutil.which(arguments.kissat):
+        programs.stop(f"missing: {arguments.kissat}")
     if arguments.check and not shutil.which(CHECKER):
         programs.stop(f"missing: {CHECKER}")
     names = sorted(name for name in os.listdir(arguments.folder) if name.endswith((".cnf", ".cnf.xz")))
@@ -184,5 +238,6 @@ def run(arguments):
     programs.take_ours(arguments.program)
     print(programs.machine())
     decide_all(arguments, names)
-    simplify_all(arguments, names)
+    if not arguments.deciding:
+        simplify_all(arguments, names)
     return 0

@@ -1,12 +1,12 @@
 -- What a map keeps of each variable, and the list that its contract sees.
-use Rattle.std.proofs.Common.{◌≡◌, ℕ, ◌+◌, ◌<◌, ◌≤◌, ◌^◌, max, Bool, true, false, nat_eq, if◌then◌else◌, Option, Some, None, Result, Ok, Err, OnErr, List, length, take, sym, ap, ◌∙◌, subst, refl, arith, ⊎_elim}
+use Rattle.std.proofs.Common.{◌≡◌, ℕ, ◌+◌, ◌<◌, ◌≤◌, ◌^◌, min, max, Bool, true, false, nat_eq, if◌then◌else◌, Option, Some, None, Result, Ok, Err, OnErr, List, length, take, sym, ap, ◌∙◌, subst, refl, arith, ◌⊎◌, ⊎_elim}
 use Rattle.std.proofs.lemmas.Bool.{cases_lt}
 use Rattle.std.proofs.lemmas.List.FromFn.{length-map-range_with_len, get_or-map-range_with_len, take-map-range_with_len, fill_by_all}
 use Rattle.varisat_names.specs.promises.Maps.{updated}
 use Rattle.varisat_names.specs.promises.VarMap.{at, mapped, IsPut}
 use Rattle.varisat_names.specs.inside.NumberSets.{holds}
 use Rattle.varisat_names.specs.inside.CodePages.{code_at}
-use Rattle.varisat_names.specs.inside.Entries.{entry, entries, EndsAt}
+use Rattle.varisat_names.specs.inside.Entries.{or_own, entry, entries, EndsAt, AreOwnBelow}
 use Rattle.varisat_names.proofs.Maps.{updated-all, updated-at, updated-other}
 use Rattle.varisat_names.proofs.VarMap.{at-past, mapped-variable}
 
@@ -54,18 +54,8 @@ put-entries e f w n k v old seen a b m h =
     }
 
 -- what a map leads to, as it is read
-pub read-own : (own : List ℕ) (codes : List (List ℕ)) (w from i : ℕ) (old : List (Option ℕ)) → entries (entry own codes) w ≡ old →
-    EndsAt (entry own codes) w → i ≡ from → holds own i ≡ true → Some from ≡ at old from
-read-own own codes w from i old seen a q h =
-    sym (sym (ap (λ m. at m from) seen) ∙ at-entries (entry own codes) w a from
-    ∙ ap (λ b. if b then Some from else mapped (code_at codes from)) (ap (holds own) (sym q) ∙ h))
-
-pub read-code : (own : List ℕ) (codes : List (List ℕ)) (w from i code : ℕ) (o : Option ℕ) (old : List (Option ℕ)) → entries (entry own codes) w ≡ old →
-    EndsAt (entry own codes) w → i ≡ from → holds own i ≡ false → code ≡ code_at codes i → o ≡ mapped code → o ≡ at old from
-read-code own codes w from i code o old seen a q h c m =
-    m ∙ ap mapped (c ∙ ap (code_at codes) q)
-    ∙ sym (sym (ap (λ m. at m from) seen) ∙ at-entries (entry own codes) w a from
-    ∙ ap (λ b. if b then Some from else mapped (code_at codes from)) (ap (holds own) (sym q) ∙ h))
+pub read-list : (e : ℕ → Option ℕ) (w i : ℕ) (o : Option ℕ) (old : List (Option ℕ)) → entries e w ≡ old → EndsAt e w → o ≡ e i → o ≡ at old i
+read-list e w i o old seen a h = h ∙ sym (at-entries e w a i) ∙ ap (λ m. at m i) seen
 
 -- no entry
 pub none-ends : (e f : ℕ → Option ℕ) (w k : ℕ) → EndsAt e w → ((i : ℕ) → f i ≡ updated e k None i) → EndsAt f w
@@ -111,35 +101,36 @@ cut-entries e w n old seen b =
     let c = ap length seen in
     sym (take-map-range_with_len e 0 w n (omega (arith, l, b, c))) ∙ ap (take n) seen
 
--- Of an entry that leads nowhere the variable is not mapped to itself.
-not-own : (b : Bool) (k : ℕ) (o : Option ℕ) → (if b then Some k else o) ≡ None → b ≡ false
-not-own true k o e = absurd cc
-not-own false k o e = refl
+-- Of an entry that leads nowhere the code is that of no variable.
+no-code : (o : Option ℕ) (b : Bool) (k : ℕ) → or_own o b k ≡ None → o ≡ None
+no-code (Some x) b k e = absurd cc
+no-code None b k e = refl
 
 -- a variable that is mapped to itself
-pub put-own : (own new : List ℕ) (codes : List (List ℕ)) (k : ℕ) → ((i : ℕ) → holds new i ≡ updated (holds own) k true i) →
+pub put-own : (own new : List ℕ) (codes : List (List ℕ)) (k : ℕ) → entry own codes k ≡ None → ((i : ℕ) → holds new i ≡ updated (holds own) k true i) →
     (i : ℕ) → entry new codes i ≡ updated (entry own codes) k (Some k) i
-put-own own new codes k h i =
-    let from : ℕ → Bool → Option ℕ = λ j b. if b then Some j else mapped (code_at codes j) in
+put-own own new codes k free h i =
+    let from : ℕ → Bool → Option ℕ = λ j b. or_own (mapped (code_at codes j)) b j in
     ap (from i) (h i) ∙ updated-all (λ j o. from j (updated (holds own) k true j) ≡ o) (entry own codes) k (Some k)
-    (ap (from k) (updated-at (holds own) k true)) i (λ n. ap (from i) (updated-other (holds own) k true i n))
+    (ap (from k) (updated-at (holds own) k true)
+    ∙ ap (λ o. or_own o true k) (no-code (mapped (code_at codes k)) (holds own k) k free))
+    i (λ n. ap (from i) (updated-other (holds own) k true i n))
 
 -- a variable that is mapped to another one
-pub put-other : (own : List ℕ) (codes new : List (List ℕ)) (k v : ℕ) → entry own codes k ≡ None → v < 2 ^ 31 →
+pub put-other : (own : List ℕ) (codes new : List (List ℕ)) (k v : ℕ) → v < 2 ^ 31 →
     ((i : ℕ) → code_at new i ≡ updated (code_at codes) k v i) → (i : ℕ) → entry own new i ≡ updated (entry own codes) k (Some v) i
-put-other own codes new k v free b h i =
-    let from : ℕ → ℕ → Option ℕ = λ j c. if holds own j then Some j else mapped c in
+put-other own codes new k v b h i =
+    let from : ℕ → ℕ → Option ℕ = λ j c. or_own (mapped c) (holds own j) j in
     ap (from i) (h i) ∙ updated-all (λ j o. from j (updated (code_at codes) k v j) ≡ o) (entry own codes) k (Some v)
     (ap (from k) (updated-at (code_at codes) k v)
-    ∙ ap (λ o. if o then Some k else mapped v) (not-own (holds own k) k (mapped (code_at codes k)) free)
-    ∙ mapped-variable v v refl b)
+    ∙ ap (λ o. or_own o (holds own k) k) (mapped-variable v v refl b))
     i (λ n. ap (from i) (updated-other (code_at codes) k v i n))
 
 -- a variable that is mapped no longer
 pub take-out : (own less : List ℕ) (codes new : List (List ℕ)) (k j : ℕ) → j ≡ k → ((i : ℕ) → holds less i ≡ updated (holds own) j false i) →
     ((i : ℕ) → code_at new i ≡ updated (code_at codes) j 0x8000_0000 i) → (i : ℕ) → entry less new i ≡ updated (entry own codes) k None i
 take-out own less codes new k j q h c i =
-    let from : ℕ → Bool → ℕ → Option ℕ = λ n b x. if b then Some n else mapped x in
+    let from : ℕ → Bool → ℕ → Option ℕ = λ n b x. or_own (mapped x) b n in
     ap (λ b. from i b (code_at new i)) (h i) ∙ ap (from i (updated (holds own) j false i)) (c i)
     ∙ updated-all (λ n o. from n (updated (holds own) j false n) (updated (code_at codes) j 0x8000_0000 n) ≡ o) (entry own codes) j None
     (ap (λ b. from j b (updated (code_at codes) j 0x8000_0000 j)) (updated-at (holds own) j false)
@@ -153,5 +144,24 @@ take-out own less codes new k j q h c i =
 pub same-parts : (own new : List ℕ) (codes after : List (List ℕ)) → ((i : ℕ) → holds new i ≡ holds own i) →
     ((i : ℕ) → code_at after i ≡ code_at codes i) → (i : ℕ) → entry new after i ≡ entry own codes i
 same-parts own new codes after h c i =
-    let from : Bool → ℕ → Option ℕ = λ b c. if b then Some i else mapped c in
+    let from : Bool → ℕ → Option ℕ = λ b x. or_own (mapped x) b i in
     ap (λ b. from b (code_at after i)) (h i) ∙ ap (from (holds own i)) (c i)
+
+-- All below are mapped to themselves as before, where the entries are the same.
+pub own-same : (e f : ℕ → Option ℕ) (same : ℕ) → AreOwnBelow e same → ((i : ℕ) → f i ≡ e i) → AreOwnBelow f same
+own-same e f same a h i b = h i ∙ a i b
+
+-- one more entry
+pub own-put : (e f : ℕ → Option ℕ) (same n k v : ℕ) → AreOwnBelow e same → e k ≡ None → ((i : ℕ) → f i ≡ updated e k (Some v) i) →
+    ((i : ℕ) → i < n → (i < same) ⊎ ((i ≡ k) × (v ≡ k))) → AreOwnBelow f n
+own-put e f same n k v a free h m i b = h i ∙ ⊎_elim
+    (λ p. updated-all (λ j o. (j < same) → o ≡ Some j) e k (Some v)
+    (λ q. let z : None ≡ Some k = sym free ∙ a k q in absurd cc) i (λ _ q. a i q) p)
+    (λ q. ap (updated e k (Some v)) q.0 ∙ updated-at e k (Some v) ∙ ap Some (q.1 ∙ sym q.0))
+    (m i b)
+
+-- no entry
+pub own-none : (e f : ℕ → Option ℕ) (same n j k : ℕ) → AreOwnBelow e same → ((i : ℕ) → f i ≡ updated e k None i) → n ≡ min same j → j ≡ k →
+    AreOwnBelow f n
+own-none e f same n j k a h m q i b =
+    h i ∙ updated-other e k None i (λ p. absurd omega (arith, m, q, p, b)) ∙ a i (omega (arith, m, b))

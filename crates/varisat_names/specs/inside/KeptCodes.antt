@@ -1,5 +1,5 @@
--- What is kept of a global variable, as a number: the mode, 4 times the unit, and 16, 32 and 64 where the variable is isolated, assumed
--- and not live.
+-- What is kept of a global variable, as a number: the mode, 4 times the unit, and 16, 32 and 64 where the variable is
+-- isolated, assumed and not live.
 use Rattle.std.specs.Prelude.{ℕ, ◌/◌, ◌%◌, Bool, true, false, Option, Some, None, List, nat_eq, if◌then◌else◌}
 use Rattle.varisat_names.specs.declared.variables.data.VarData.{VarData}
 use Rattle.varisat_names.specs.declared.variables.data.SamplingMode.{SamplingMode}

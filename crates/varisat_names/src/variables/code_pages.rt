@@ -52,6 +52,8 @@ impl<A: Allocator + Copy> CodePages<A> {
     }
 
     /// Sets the code of the number. Where memory is refused all codes stay.
+    // Out of line, since names seldom lead to a variable of another index.
+    #[inline(never)]
     pub fn insert(&mut self, number: usize, code: u32) -> Result<(), AllocError>
         ensures set { OnOk result ((i : ℕ) → code_at self.new i ≡ updated (code_at self.old) number code i) }
         ensures refused { OnErr result ((i : ℕ) → code_at self.new i ≡ code_at self.old i) }

@@ -107,6 +107,7 @@ impl<A: Allocator + Copy> LinkedVariables<A> {
     }
 
     /// What is kept of the global variable.
+    #[inline(always)]
     pub fn var_data_global(&self, global: Var) -> VarData
         requires { global < length self.now.kept }
         ensures { result ≡ data_at self.now.kept global }
@@ -254,6 +255,9 @@ impl<A: Allocator + Copy> LinkedVariables<A> {
         ensures { IsChangedTo self.old self.new global (record (data_at self.old.kept global) { isolated = isolated }) }
     {
         let mut kept = self.variables.globals.data(global);
+        if kept.isolated == isolated {
+            return;
+        }
         kept.isolated = isolated;
         self.variables.globals.set_data(global, kept);
     }
@@ -264,6 +268,9 @@ impl<A: Allocator + Copy> LinkedVariables<A> {
         ensures { IsChangedTo self.old self.new global (record (data_at self.old.kept global) { assumed = assumed }) }
     {
         let mut kept = self.variables.globals.data(global);
+        if kept.assumed == assumed {
+            return;
+        }
         kept.assumed = assumed;
         self.variables.globals.set_data(global, kept);
     }

@@ -50,6 +50,10 @@ impl<A: Allocator + Copy> NumberSet<A> {
         ensures joined { OnOk result ((i : ℕ) → holds self.new i ≡ updated (holds self.old) number true i) }
         ensures refused { OnErr result ((i : ℕ) → holds self.new i ≡ holds self.old i) }
     {
+        if number / WORD < self.words.len() {
+            self.set(number);
+            return Ok(());
+        }
         self.reach(number)?;
         self.set(number);
         Ok(())
@@ -66,6 +70,9 @@ impl<A: Allocator + Copy> NumberSet<A> {
     }
 
     /// Makes the word of the number, and those before it.
+    // Out of line, so that a number whose word is there joins without a frame on the stack.
+    #[cold]
+    #[inline(never)]
     fn reach(&mut self, number: usize) -> Result<(), AllocError>
         ensures same { (p : ℕ) → slice_index_or self.new p 0 ≡ slice_index_or self.old p 0 }
         ensures made { OnOk result (number / 64 < length self.new) }

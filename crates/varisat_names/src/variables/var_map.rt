@@ -1,7 +1,7 @@
 //! Maps between the variables of two name spaces.
-ghost use Rattle.std.specs.Prelude.{ℕ, ◌≡◌, ◌<◌, ◌≤◌, ◌^◌, length, take, [], Some, None, OnOk, OnErr};
+ghost use Rattle.std.specs.Prelude.{ℕ, ◌≡◌, ◌<◌, ◌≤◌, ◌^◌, ◌⊎◌, length, take, [], Some, None, OnOk, OnErr};
 ghost use Rattle.varisat_names.specs.promises.Maps.{updated, IsInverse};
-ghost use Rattle.varisat_names.specs.promises.VarMap.{at, mapped, IsPut};
+ghost use Rattle.varisat_names.specs.promises.VarMap.{at, IsPut};
 ghost use Rattle.varisat_names.specs.promises.VarBiMap.{no_pairs, directed, IsJoined, RemovesPair};
 ghost use Rattle.varisat_names.specs.inside.Entries.{entry};
 
@@ -11,26 +11,28 @@ use std::alloc::{AllocError, Allocator};
 use std::marker::Model;
 use varisat_literals::Var;
 
-/// A map from variables to variables. It takes a bit for each variable below the watermark that is mapped to itself, and
-/// four bytes for each of 1024 variables in a row of which another one is mapped.
+/// A map from variables to variables. It takes a bit for each variable below the watermark that is mapped to itself,
+/// and four bytes for each of 1024 variables in a row of which another one is mapped.
 #[derive(Drop)]
 pub struct VarMap<A: Allocator + Copy> {
     watermark: usize,
-    // The variables that are mapped to themselves.
-    own: NumberSet<A>,
+    // All variables below are mapped to themselves. For those one comparison settles what they are mapped to.
+    same: usize,
     // What the others are mapped to.
     codes: CodePages<A>,
+    // The variables that are mapped to themselves.
+    own: NumberSet<A>,
 }
 
 impl<A: Allocator + Copy> Model for VarMap<A> {
     ghost use Rattle.std.specs.Prelude.{List, Option, ℕ};
-    ghost use Rattle.varisat_names.specs.inside.Entries.{entry, entries, EndsAt};
+    ghost use Rattle.varisat_names.specs.inside.Entries.{entry, entries, EndsAt, AreOwnBelow};
 
     ghost Value = { List (Option ℕ) };
 
     ghost view = { λ m. entries (entry m.own m.codes) m.watermark };
 
-    ghost invariant = { λ m. EndsAt (entry m.own m.codes) m.watermark };
+    ghost invariant = { λ m. EndsAt (entry m.own m.codes) m.watermark × AreOwnBelow (entry m.own m.codes) m.same };
 }
 
 impl<A: Allocator + Copy> VarMap<A> {
@@ -40,20 +42,21 @@ impl<A: Allocator + Copy> VarMap<A> {
     {
         VarMap {
             watermark: 0,
-            own: NumberSet::new_in(alloc),
+            same: 0,
             codes: CodePages::new_in(alloc),
+            own: NumberSet::new_in(alloc),
         }
     }
 
     /// What the variable is mapped to.
+    #[inline(always)]
     pub fn get(&self, from: Var) -> Option<Var>
         ensures { result ≡ at self.now from }
     {
-        let index = from.index();
-        if self.own.contains(index) {
+        if from.index() < self.same {
             Some(from)
         } else {
-            decode(self.codes.get(index))
+            read_entry(&self.own, &self.codes, from)
         }
     }
 
@@ -79,6 +82,7 @@ impl<A: Allocator + Copy> VarMap<A> {
     {
         put_entry(&mut self.own, &mut self.codes, into, from)?;
         self.watermark = self.watermark.max(from.index() + 1);
+        self.same = same_with(self.same, into, from);
         Ok(())
     }
 
@@ -90,6 +94,7 @@ impl<A: Allocator + Copy> VarMap<A> {
         let index = from.index();
         self.own.remove(index);
         self.codes.remove(index);
+        self.same = self.same.min(index);
     }
 
     /// Lowers the watermark, from which on nothing is mapped.
@@ -99,6 +104,39 @@ impl<A: Allocator + Copy> VarMap<A> {
         ensures { self.new ≡ take watermark self.old }
     {
         self.watermark = watermark;
+    }
+}
+
+/// What the variable is mapped to in the parts of a map.
+// The codes come first: a map that is asked here has mostly other variables than itself for them.
+#[inline(always)]
+fn read_entry<A: Allocator + Copy>(
+    own: &NumberSet<A>,
+    codes: &CodePages<A>,
+    from: Var,
+) -> Option<Var>
+    ensures { result ≡ entry own.now codes.now from }
+{
+    let index = from.index();
+    let code = codes.get(index);
+    if code < NO_VAR {
+        return Some(Var::from_index(code as usize));
+    }
+    if own.contains(index) {
+        Some(from)
+    } else {
+        None
+    }
+}
+
+/// Up to where all variables are mapped to themselves, once the variable is mapped too.
+fn same_with(same: usize, into: Var, from: Var) -> usize
+    ensures { (i : ℕ) → i < result → (i < same) ⊎ ((i ≡ from) × (into ≡ from)) }
+{
+    if from.index() == same && into.index() == same {
+        same + 1
+    } else {
+        same
     }
 }
 
@@ -122,17 +160,6 @@ fn put_entry<A: Allocator + Copy>(
         codes.insert(index, target as u32)?;
     }
     Ok(())
-}
-
-/// The variable for which this stands in a map.
-fn decode(code: u32) -> Option<Var>
-    ensures { result ≡ mapped code }
-{
-    if code < NO_VAR {
-        Some(Var::from_index(code as usize))
-    } else {
-        None
-    }
 }
 
 /// A one-to-one map between variables of two spaces, and the way back.

@@ -7,5 +7,5 @@ pub returns : goal.returns
 returns g c =
     let l = length-entries (entry c.self.inside.own c.self.inside.codes) c.self.inside.watermark in
     let e = ap length c.self.view_is in
-    let small = c.self.invariant.small in
+    let small = c.self.invariant.0.small in
     omega (arith, l, e, small)

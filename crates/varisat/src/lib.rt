@@ -71,7 +71,7 @@ pub mod variables {
     };
     pub use varisat_names::variables::{
         Direction, GlobalVars, LinkedVariables, SamplingMode, UserVars, VarBiMap, VarBiMapMut,
-        VarData, VarMap, Variables,
+        VarData, VarDataMut, VarMap, Variables,
     };
     pub use varisat_search::solver_variables::{
         initialize_solver_var, remove_solver_var, solver_from_global, solver_from_user,

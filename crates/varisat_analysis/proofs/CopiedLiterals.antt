@@ -76,6 +76,14 @@ flagged-more flags xs v f h l =
     ))
     (equal_or_not l v)
 
+-- one more is flagged, by flags that were made longer
+pub flagged-longer : (xs ys : List Literal) (f g : List Bool) (v i : ℕ) → AreFlagged f xs → ((l : ℕ) → get_or g l false ≡ get_or f l false) →
+    i < length g → i ≡ v → ys ≡ xs ++ v ∷ [] → AreFlagged (set g i true) ys
+flagged-longer xs ys f g v i a s h e q =
+    subst (λ j. AreFlagged (set g j true) ys) (sym e)
+    (subst (AreFlagged (set g v true)) (sym q)
+    (flagged-more g xs v (λ l. ((λ m. (a l).0 (sym (s l) ∙ m)), (λ m. s l ∙ (a l).1 m))) (omega (arith, h, e))))
+
 pub flagged-none : (flags : List Bool) → ((l : Literal) → get_or flags l false ≡ false) → AreFlagged flags []
 flagged-none flags c l = ((λ e. let z : true ≡ false = sym e ∙ c l in absurd cc), (λ i. absurd i))
 

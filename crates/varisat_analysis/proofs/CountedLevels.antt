@@ -1,5 +1,6 @@
 -- How many levels literals have, as flags count them.
-use Rattle.std.proofs.Common.{◌≡◌, ℕ, suc, ◌+◌, ◌<◌, ◌||◌, Bool, true, false, cond, nat_eq, List, [], ◌∷◌, ◌++◌, length, map, get_or, set, inl, inr, ⊎_elim, refl, sym, ap, ◌∙◌, arith, get_or-set_same, get_or-set_other}
+use Rattle.std.proofs.Common.{◌≡◌, ℕ, suc, ◌+◌, ◌<◌, ◌||◌, Bool, true, false, cond, nat_eq, List, [], ◌∷◌, ◌++◌, length, map, get_or, set, inl, inr, ⊎_elim, refl, sym, ap, subst, ◌∙◌, arith, get_or-set_same, get_or-set_other}
+use mir.Val.{bool_byte}
 use Rattle.std.specs.Cmp.{IsEquivalence}
 use Rattle.std.specs.Set.{is_member, unique_keys, distinct_count}
 use Rattle.std.proofs.lemmas.Map.Made.{length-from_keys, IsDistinct-from_count}
@@ -12,6 +13,11 @@ use Rattle.varisat_prop.specs.View.{no_node}
 use Rattle.varisat_analysis.specs.Bumps.{level_in}
 use Rattle.varisat_analysis.proofs.BumpedVariables.{all-false, item-below}
 use Rattle.varisat_clause.proofs.DatabaseTracks.{true-or-false}
+
+-- a truth value as a number
+pub one-at-most : (b : Bool) → bool_byte b < 2
+one-at-most true = omega arith
+one-at-most false = omega arith
 
 or-none : (b : Bool) → (b || false) ≡ b
 or-none true = refl
@@ -115,6 +121,28 @@ module _ (level : Literal → ℕ) where
         (equal_or_not n (level l));
     same = λ n. or-swap (nat_eq n (level l)) (is_member nat_eq d.levels n) ∙ ap (λ b. b || nat_eq n (level l)) (d.same n) ∙ sym (member-snoc ls l n);
   }
+
+  -- the level of one literal more has a flag from then on, and counts where it had none
+  pub counts-marked : (ls : List Literal) (l : Literal) (flags : List Bool) (count more : ℕ) → Counts level ls flags count →
+      level l < length flags → (get_or flags (level l) false ≡ true → more ≡ 0) → (get_or flags (level l) false ≡ false → more ≡ 1) →
+      Counts level (ls ++ l ∷ []) (set flags (level l) true) (count + more)
+  counts-marked ls l flags count more d k old new =
+      ⊎_elim
+      (λ h. let e = old h in
+      let c = counts-old ls l flags count d h in
+      record {
+        levels = c.levels;
+        count_is = let q = c.count_is in omega (arith, q, e);
+        distinct = let q = c.distinct in omega (arith, q, e);
+        flagged = λ n. ⊎_elim
+            (λ s. ap (λ (u : ℕ). get_or (set flags (level l) true) u false) s ∙ get_or-set_same flags (level l) true false k ∙ sym h
+            ∙ sym (ap (λ (u : ℕ). get_or flags u false) s) ∙ c.flagged n)
+            (λ o. get_or-set_other flags (level l) n true false o ∙ c.flagged n)
+            (equal_or_not n (level l));
+        same = c.same;
+      })
+      (λ h. subst (λ m. Counts level (ls ++ l ∷ []) (set flags (level l) true) (count + m)) (sym (new h)) (counts-new ls l flags count d k h))
+      (true-or-false (get_or flags (level l) false))
 
   pub counts-all : (ls : List Literal) (flags : List Bool) (count : ℕ) → Counts level ls flags count → count ≡ distinct_count nat_eq (map level ls)
   counts-all ls flags count d =

@@ -11,6 +11,7 @@ ghost use Rattle.varisat_analysis.specs.Bumps.{literals_among, AreVariablesAbove
 ghost use Rattle.varisat_analysis.specs.Redundancy.{Explores, FindsRedundancy};
 
 use crate::glue::LevelAbstraction;
+use crate::unimplied::Unimplied;
 use std::alloc::{AllocError, Allocator};
 use std::marker::Model;
 use varisat_literals::{Lit, Var};
@@ -38,6 +39,8 @@ struct Scratch<A: Allocator + Copy> {
     to_clean: Vec<Var, A>,
     /// True literals whose reasons the search for a redundant literal has still to look at.
     stack: Vec<Lit, A>,
+    /// The variables that such searches have found not to be implied.
+    unimplied: Unimplied<A>,
 }
 
 /// What analysis reads of a search.
@@ -76,6 +79,7 @@ impl<A: Allocator + Copy> AnalyzeConflict<A> {
                 met: Vec::new(alloc),
                 to_clean: Vec::new(alloc),
                 stack: Vec::new(alloc),
+                unimplied: Unimplied::new_in(alloc),
             },
             var_flags: Vec::new(alloc),
         }
@@ -236,7 +240,7 @@ fn resolve<A: Allocator + Copy>(
 }
 
 /// Clears the variables' flags.
-fn clear_flags(var_flags: &mut [bool], vars: &[Var])
+pub(crate) fn clear_flags(var_flags: &mut [bool], vars: &[Var])
     requires { (v : ℕ) → v ∈ vars.now → v < length var_flags.old }
     ensures gone { (v : ℕ) → v ∈ vars.now → slice_index_or var_flags.new v false ≡ false }
     ensures rest { (v : ℕ) → (v ∈ vars.now → ⊥) →
@@ -280,6 +284,10 @@ fn mark_causes<A: Allocator + Copy>(
         if parts.impl_graph.reason(lit.var()).is_unit() || !levels.test(level) {
             return Ok(false);
         }
+        // An earlier search of this clause ended here, and no later one gets beyond it.
+        if scratch.unimplied.holds(lit.var()) {
+            return Ok(false);
+        }
         scratch.to_clean.push(lit.var())?;
         scratch.stack.push(!*lit)?;
         var_flags[lit.index()] = true;
@@ -319,6 +327,7 @@ fn is_redundant<A: Allocator + Copy>(
             // search that came to its end stay: what they stand for is implied, and is not searched again.
             clear_flags(var_flags, &scratch.to_clean[top..]);
             scratch.to_clean.truncate(top);
+            scratch.unimplied.add(implied.var())?;
             return Ok(false);
         }
     }
@@ -481,6 +490,7 @@ pub fn analyze_conflict<A: Allocator + Copy>(
     analyze.scratch.involved.clear();
     analyze.scratch.met.clear();
     analyze.scratch.to_clean.clear();
+    analyze.scratch.unimplied.clear();
     if trail.current_level() == 0 {
         return Ok(0);
     }

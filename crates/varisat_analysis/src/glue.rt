@@ -77,11 +77,9 @@ fn flag_levels<A: Allocator + Copy>(
     let mut count = 0;
     for lit in lits {
         let level = impl_graph.level(lit.var());
-        if flags[level] {
-            continue;
-        }
+        // Whether a level was counted before can't be predicted, so that there is no branch on it.
+        count += !flags[level] as usize;
         flags[level] = true;
-        count += 1;
     }
     count
 }

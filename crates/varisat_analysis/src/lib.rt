@@ -10,3 +10,4 @@ pub mod failed_core;
 pub mod glue;
 pub mod reasons;
 pub mod tmp;
+mod unimplied;

@@ -1,5 +1,10 @@
 pub mod Maps
+pub mod Padded
+pub mod NumberSets
+pub mod CodePages
 pub mod VarMap
+pub mod Entries
+pub mod KeptCodes
 pub mod Tables
 pub mod Linked
 pub mod LinkedCalls

@@ -1,5 +1,5 @@
 -- Changes that keep the tables linked.
-use Rattle.std.proofs.Common.{◌≡◌, ◌<◌, ℕ, zero, suc, true, false, Option, Some, None, Result, Ok, Err, OnOk, OnErr, List, [], ◌∷◌, length, ◌⊎◌, ⊎_elim, sym, ap, ◌∙◌, subst, refl, arith}
+use Rattle.std.proofs.Common.{◌≡◌, ◌<◌, ℕ, zero, suc, true, false, Option, Some, None, Result, Ok, Err, OnOk, OnErr, List, [], ◌∷◌, length, ⊎_elim, sym, ap, ◌∙◌, subst, refl, arith}
 use Rattle.varisat_names.specs.promises.VarMap.{at}
 use Rattle.varisat_names.specs.promises.VarBiMap.{BiMap, turned, IsJoined, IsParted}
 use Rattle.varisat_names.specs.promises.VarData.{dead, data_at, IsDataAt, AreDeleted}

@@ -1,15 +1,16 @@
 -- What changes of the tables add up to.
-use Rattle.std.proofs.Common.{◌≡◌, ◌<◌, ◌≤◌, ℕ, is_gt, zero, suc, ◌+◌, ◌-◌, true, false, Option, Some, None, List, [], ◌∷◌, length, slice_set, sym, ap, ◌∙◌, subst, refl, arith, ⊎_elim}
+use Rattle.std.proofs.Common.{◌≡◌, ◌<◌, ◌≤◌, ◌↔◌, ℕ, is_gt, zero, suc, ◌+◌, ◌-◌, true, false, Option, Some, None, List, [], ◌∷◌, length, slice_set, sym, ap, ◌∙◌, subst, refl, arith, ⊎_elim}
 use Rattle.std.proofs.lemmas.Bool.{cases_lt}
 use Rattle.std.proofs.lemmas.List.{length-set, get_or-set_same, get_or-set_other}
 use Rattle.std.proofs.lemmas.Bool.Decides.{nat_tests}
 use Rattle.std.specs.Ordering.{nat_cmp}
 use Rattle.std.specs.BTreeSet.{BTreeSet, contains}
+use Rattle.std.specs.BTreeMap.{is_at}
+use Rattle.varisat_theory.proofs.clauses.Members.{equal_or_not}
 use Rattle.varisat_names.specs.promises.VarMap.{at, IsPut, IsFull, IsLeastUnmapped}
-use Rattle.varisat_names.specs.promises.VarData.{fresh, dead, data_at, IsDataAt, IsLeastRetired}
+use Rattle.varisat_names.specs.promises.VarData.{fresh, dead, data_at, IsDataAt, IsLeastRetired, AreDeleted}
 use Rattle.varisat_names.specs.promises.Variables.{Tables, AreLinked, IsGiven, AreNextGiven, IsTaken, IsNothingHidden, AreFree}
 use Rattle.varisat_names.specs.declared.variables.data.VarData.{VarData}
-use Rattle.varisat_names.specs.declared.variables.data.SamplingMode.TheVariants as sampling
 use Rattle.varisat_names.proofs.VarMap.{at-inside}
 use Rattle.varisat_names.proofs.Maps.{updated-all, updated-at, updated-other}
 use Rattle.varisat_names.specs.promises.Maps.{updated}
@@ -23,6 +24,31 @@ set-kept xs x i d e h =
       at_each = λ j. ap (λ k. data_at (slice_set xs k d) j) e ∙ updated-all (λ m o. data_at (slice_set xs x d) m ≡ o) (data_at xs) x d
           (get_or-set_same xs x d dead h) j (λ n. get_or-set_other xs x j d dead n);
     }
+
+-- other data, and a list of what may be used again that changed at the same place
+module _ (old new : List VarData) (free changed : BTreeSet ℕ) (x i : ℕ) (d : VarData) (is : i ≡ x) (inside : x < length old) (put : IsDataAt old x d new)
+    (listed : AreDeleted old free) (there : contains nat_cmp changed i ≡ d.deleted)
+    (others : (y : ℕ) → is_at (nat_cmp i) y ≡ false → contains nat_cmp changed y ≡ contains nat_cmp free y) where
+  other-place : (y : ℕ) → (y ≡ x → ⊥) → is_at (nat_cmp i) y ≡ false
+  other-place y n = grind (arith, nat_tests, is, n)
+
+  pub listed-put : AreDeleted new changed
+  listed-put y =
+      let count = put.count in
+      ⊎_elim
+      (λ e. subst (λ j. (contains nat_cmp changed j ≡ true) ↔ ((j < length new) × ((data_at new j).deleted ≡ true))) (sym e)
+      (let flag = ap (λ k. k.deleted) (put.at_each x ∙ updated-at (data_at old) x d) in
+      let here = subst (λ j. contains nat_cmp changed j ≡ d.deleted) is there in (
+        (λ m. (omega (arith, count, inside), flag ∙ sym here ∙ m)),
+        (λ p. here ∙ sym flag ∙ p.1),
+      )))
+      (λ n.
+      let flag = ap (λ k. k.deleted) (put.at_each y ∙ updated-other (data_at old) x d y n) in
+      let same = others y (other-place y n) in (
+        (λ m. let r = (listed y).0 (sym same ∙ m) in let below = r.0 in (omega (arith, below, count, inside), flag ∙ r.1)),
+        (λ p. let below = p.0 in same ∙ (listed y).1 (omega (arith, below, count, inside), sym flag ∙ p.1)),
+      ))
+      (equal_or_not y x)
 
 -- no variable past the list is live
 pub kept-past : (xs : List VarData) (i : ℕ) → length xs ≤ i → (data_at xs i).deleted ≡ true

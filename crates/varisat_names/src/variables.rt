@@ -10,15 +10,20 @@ ghost use Rattle.varisat_names.specs.promises.VarBiMap.{turned};
 ghost use Rattle.varisat_names.specs.promises.VarData.{data_at, reaching, live_from, IsLeastRetired, AreDeleted};
 ghost use Rattle.varisat_names.specs.promises.Variables.{no_variables, AreFree, AreListed};
 
+mod code_pages;
 pub mod data;
+mod data_mut;
 mod globals;
 pub mod iter;
+mod kept_list;
 pub mod linked;
 mod names;
 pub mod naming;
+mod number_set;
 pub mod var_map;
 
 pub use data::{SamplingMode, VarData};
+pub use data_mut::VarDataMut;
 use globals::Globals;
 pub use iter::{GlobalVars, UserVars};
 pub use linked::LinkedVariables;
@@ -126,9 +131,9 @@ impl<A: Allocator + Copy> Variables<A> {
     }
 
     /// What is kept of the global variable.
-    pub fn var_data_global(&self, global: Var) -> &VarData
+    pub fn var_data_global(&self, global: Var) -> VarData
         requires { global < length self.now.tables.kept }
-        ensures { result.now ≡ data_at self.now.tables.kept global }
+        ensures { result ≡ data_at self.now.tables.kept global }
     {
         self.globals.data(global)
     }
@@ -191,7 +196,7 @@ impl<A: Allocator + Copy> Variables<A> {
 
 /// Parts that are lent to be changed. The other parts stay, and so do the lists of what is free.
 impl<A: Allocator + Copy> Variables<A> {
-    ghost use Rattle.varisat_names.specs.inside.Lending.{number_or_zero, lends_users, lends_solvers, lends_data, lends_data_of_solver};
+    ghost use Rattle.varisat_names.specs.inside.Lending.{lends_users, lends_solvers, lends_globals};
 
     /// The map from names to global variables, to be changed.
     pub fn global_from_user_mut(&mut self) -> VarBiMapMut<'_, A>
@@ -242,23 +247,32 @@ impl<A: Allocator + Copy> Variables<A> {
     }
 
     /// What is kept of the global variable, to be changed.
-    pub fn var_data_global_mut(&mut self, global: Var) -> &mut VarData
+    pub fn var_data_global_mut(&mut self, global: Var) -> VarDataMut<'_, A>
         requires { global < length self.old.tables.kept }
-        ensures* lends { sem 𝓛 (lends_data A.row A.Allocator self.entry global result) }
-        ensures value { result.now ≡ data_at self.old.tables.kept global }
+        ensures* lends { sem 𝓛 (lends_globals A.row A.Allocator self.entry result) }
+        ensures kept { result.globals.now.kept ≡ self.old.tables.kept }
+        ensures free { result.globals.now.free ≡ self.old.free.globals }
+        ensures global { result.global ≡ global }
     {
-        self.globals.data_mut(global)
+        VarDataMut {
+            globals: &mut self.globals,
+            global,
+        }
     }
 
     /// What is kept of the global variable that has the solver variable, to be changed.
-    pub fn var_data_solver_mut(&mut self, solver: Var) -> &mut VarData
+    pub fn var_data_solver_mut(&mut self, solver: Var) -> VarDataMut<'_, A>
         requires { MatchOption (at self.old.tables.solvers.backward solver) ⊥
             (λ global. global < length self.old.tables.kept) }
-        ensures* lends { sem 𝓛 (lends_data_of_solver A.row A.Allocator self.entry solver result) }
-        ensures value { result.now
-            ≡ data_at self.old.tables.kept (number_or_zero (at self.old.tables.solvers.backward solver)) }
+        ensures* lends { sem 𝓛 (lends_globals A.row A.Allocator self.entry result) }
+        ensures kept { result.globals.now.kept ≡ self.old.tables.kept }
+        ensures free { result.globals.now.free ≡ self.old.free.globals }
+        ensures global { at self.old.tables.solvers.backward solver ≡ Some result.global }
     {
         let global = self.global_from_solver().get(solver).unwrap();
-        self.globals.data_mut(global)
+        VarDataMut {
+            globals: &mut self.globals,
+            global,
+        }
     }
 }

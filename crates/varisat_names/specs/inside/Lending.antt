@@ -1,23 +1,18 @@
 -- What is lent of the variables, and what they end as with what is written to it.
-use Rattle.std.specs.Prelude.{ℕ, Some, None, Option, slice_set}
-use Rattle.std.specs.Borrow.{Lends, follows, Fml, RattleType, MutBor}
+use Rattle.std.specs.Prelude.{ℕ, List, slice_set}
+use Rattle.std.specs.Borrow.{Lends, follows, Fml, RattleType, MutBor, u32}
+use Rattle.std.specs.declared.vec.Vec.{Vec}
+use Rattle.std.specs.contracts.vec.Vec as vec
 use Rattle.std.specs.declared.alloc.Allocator.{Ghosts}
-use Rattle.varisat_names.specs.contracts.variables.data.VarData.{the_row as data_row}
+use Rattle.varisat_names.specs.contracts.variables.code_pages.CodePages.{the_row as pages_row}
 use Rattle.varisat_names.specs.contracts.variables.var_map.VarBiMap.{the_row as map_row}
 use Rattle.varisat_names.specs.contracts.variables.names.NameSpace.{the_row as names_row}
 use Rattle.varisat_names.specs.contracts.variables.globals.Globals.{the_row as globals_row}
 use Rattle.varisat_names.specs.contracts.variables.Variables.{the_row}
-use Rattle.varisat_names.specs.declared.variables.data.VarData.{VarData}
 use Rattle.varisat_names.specs.declared.variables.var_map.VarBiMapMut.{VarBiMapMut}
-use Rattle.varisat_names.specs.promises.VarMap.{at}
+use Rattle.varisat_names.specs.declared.variables.data_mut.VarDataMut.{VarDataMut}
 use Rattle.varisat_names.specs.promises.VarBiMap.{turned}
-use Rattle.varisat_names.specs.promises.VarData.{DataList}
 use Rattle.varisat_names.specs.promises.Variables.{NamePairs, VariableParts}
-
--- the number, or 0
-abbrev pub number_or_zero : Option ℕ → ℕ
-number_or_zero None = 0
-number_or_zero (Some x) = x
 
 module _ (A : RattleType) (alloc : Ghosts A.Denot) where
   -- the pairs of a name space
@@ -25,9 +20,9 @@ module _ (A : RattleType) (alloc : Ghosts A.Denot) where
   lends_pairs s r =
       follows (names_row A alloc) (map_row A alloc) s.ghost_name r.map.ghost_name (λ w. record s.now { pairs = w })
 
-  -- what is kept of the global variable x
-  abbrev pub lends_data_at : MutBor DataList → ℕ → MutBor VarData → Fml
-  lends_data_at s x r = Lends (globals_row A alloc) data_row s r (λ w. record s.now { kept = slice_set s.now.kept x w })
+  -- a page of codes
+  abbrev pub lends_page : MutBor (List (List ℕ)) → ℕ → MutBor (Vec ℕ A.Denot) → Fml
+  lends_page s x r = Lends (pages_row A alloc) (vec.the_row u32 A alloc) s r (λ v. slice_set s.now x v.items)
 
   -- the map between names and global variables
   abbrev pub lends_users : MutBor VariableParts → VarBiMapMut A.Denot → Fml
@@ -41,12 +36,8 @@ module _ (A : RattleType) (alloc : Ghosts A.Denot) where
       follows (the_row A alloc) (map_row A alloc) s.ghost_name r.map.ghost_name
       (λ w. record s.now { tables = record s.now.tables { solvers = turned w } })
 
-  -- what is kept of the global variable x
-  abbrev pub lends_data : MutBor VariableParts → ℕ → MutBor VarData → Fml
-  lends_data s x r =
-      Lends (the_row A alloc) data_row s r
-      (λ w. record s.now { tables = record s.now.tables { kept = slice_set s.now.tables.kept x w } })
-
-  -- what is kept of the global variable that has the solver variable v
-  abbrev pub lends_data_of_solver : MutBor VariableParts → ℕ → MutBor VarData → Fml
-  lends_data_of_solver s v r = lends_data s (number_or_zero (at s.now.tables.solvers.backward v)) r
+  -- what is kept of the global variables, and which may be used again
+  abbrev pub lends_globals : MutBor VariableParts → VarDataMut A.Denot → Fml
+  lends_globals s r =
+      follows (the_row A alloc) (globals_row A alloc) s.ghost_name r.globals.ghost_name
+      (λ w. record s.now { tables = record s.now.tables { kept = w.kept }; free = record s.now.free { globals = w.free } })

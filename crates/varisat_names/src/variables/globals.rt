@@ -1,9 +1,9 @@
 //! What is kept of the global variables, and which may be used again.
-ghost use Rattle.std.specs.Prelude.{◌≡◌, ◌<◌, ◌≤◌, ◌^◌, true, false, [], length, OnOk, OnErr};
-ghost use Rattle.std.specs.Borrow.{sem};
+ghost use Rattle.std.specs.Prelude.{◌≡◌, ◌<◌, ◌≤◌, ◌^◌, true, false, [], length, slice_set, OnOk, OnErr};
 ghost use Rattle.varisat_names.specs.promises.VarData.{fresh, dead, data_at, reaching, IsDataAt, IsLeastRetired, AreDeleted};
 
 use super::data::VarData;
+use super::kept_list::KeptList;
 use std::alloc::{AllocError, Allocator};
 use std::collections::BTreeSet;
 use std::marker::Model;
@@ -12,32 +12,29 @@ use varisat_literals::Var;
 /// The data of each global variable, with a list of those that may be used again.
 #[derive(Drop)]
 pub struct Globals<A: Allocator + Copy> {
-    data: Vec<VarData, A>,
+    data: KeptList<A>,
     free: BTreeSet<usize, A>,
 }
 
 impl<A: Allocator + Copy> Model for Globals<A> {
     ghost use Rattle.std.specs.Prelude.{◌≤◌, ◌^◌, length};
-    ghost use Rattle.std.specs.Vec.{vec_capacity};
     ghost use Rattle.varisat_names.specs.promises.VarData.{DataList};
 
     ghost Value = { DataList };
 
-    ghost view = { λ g. record { kept = g.data.items; capacity = vec_capacity g.data; free = g.free } };
+    ghost view = { λ g. record { kept = g.data.items; capacity = g.data.capacity; free = g.free } };
 
     ghost invariant = { λ g. length g.data.items ≤ 2 ^ 31 };
 }
 
 impl<A: Allocator + Copy> Globals<A> {
-    ghost use Rattle.varisat_names.specs.inside.Lending.{lends_data_at};
-
     /// No variables. It takes no memory.
     pub fn new_in(alloc: A) -> Globals<A>
         ensures kept { result.kept ≡ [] }
         ensures listed { AreDeleted result.kept result.free }
     {
         Globals {
-            data: Vec::new(alloc),
+            data: KeptList::new_in(alloc),
             free: BTreeSet::new(alloc),
         }
     }
@@ -74,7 +71,7 @@ impl<A: Allocator + Copy> Globals<A> {
         ensures free { self.new.free ≡ self.old.free }
         ensures room { OnOk result (length self.new.kept < self.new.capacity) }
     {
-        self.data.reserve(1)?;
+        self.data.reserve()?;
         Ok(())
     }
 
@@ -89,7 +86,7 @@ impl<A: Allocator + Copy> Globals<A> {
     {
         if global.index() < self.data.len() {
             self.free.remove(&global.index());
-            self.data[global.index()] = VarData::user_default();
+            self.data.set(global, VarData::user_default());
         } else {
             self.data.push_reserved(VarData::user_default());
         }
@@ -104,7 +101,7 @@ impl<A: Allocator + Copy> Globals<A> {
         ensures listed { AreDeleted self.new.kept self.new.free }
     {
         self.free.insert(global.index())?;
-        self.data[global.index()] = VarData::default();
+        self.data.set(global, VarData::default());
         Ok(())
     }
 
@@ -117,24 +114,24 @@ impl<A: Allocator + Copy> Globals<A> {
         ensures listed { AreDeleted self.new.kept self.new.free }
     {
         self.free.remove(&global.index());
-        self.data[global.index()] = old_data;
+        self.data.set(global, old_data);
     }
 
     /// What is kept of the variable.
-    pub fn data(&self, global: Var) -> &VarData
+    pub fn data(&self, global: Var) -> VarData
         requires { global < length self.now.kept }
-        ensures { result.now ≡ data_at self.now.kept global }
+        ensures { result ≡ data_at self.now.kept global }
     {
-        &self.data[global.index()]
+        self.data.get(global)
     }
 
-    /// What is kept of the variable, to be changed. The list of those that may be used again stays.
-    pub fn data_mut(&mut self, global: Var) -> &mut VarData
+    /// Keeps this of the variable. The list of those that may be used again stays.
+    pub fn write_data(&mut self, global: Var, new_data: VarData)
         requires { global < length self.old.kept }
-        ensures* lends { sem 𝓛 (lends_data_at A.row A.Allocator self.entry global result) }
-        ensures value { result.now ≡ data_at self.old.kept global }
+        ensures kept { self.new.kept ≡ slice_set self.old.kept global new_data }
+        ensures free { self.new.free ≡ self.old.free }
     {
-        &mut self.data[global.index()]
+        self.data.set(global, new_data);
     }
 
     /// Raises the count above the variable. Those that join are not live. Where memory is refused nothing changes.
@@ -143,9 +140,7 @@ impl<A: Allocator + Copy> Globals<A> {
         ensures refused { OnErr result (self.new.kept ≡ self.old.kept) }
         ensures free { self.new.free ≡ self.old.free }
     {
-        if self.data.len() <= global.index() {
-            self.data.resize(global.index() + 1, VarData::default())?;
-        }
+        self.data.reach(global)?;
         Ok(())
     }
 
@@ -157,6 +152,6 @@ impl<A: Allocator + Copy> Globals<A> {
         ensures kept { IsDataAt self.old.kept global new_data self.new.kept }
         ensures listed { AreDeleted self.new.kept self.new.free }
     {
-        self.data[global.index()] = new_data;
+        self.data.set(global, new_data);
     }
 }

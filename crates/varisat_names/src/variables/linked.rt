@@ -107,9 +107,10 @@ impl<A: Allocator + Copy> LinkedVariables<A> {
     }
 
     /// What is kept of the global variable.
-    pub fn var_data_global(&self, global: Var) -> &VarData
+    #[inline(always)]
+    pub fn var_data_global(&self, global: Var) -> VarData
         requires { global < length self.now.kept }
-        ensures { result.now ≡ data_at self.now.kept global }
+        ensures { result ≡ data_at self.now.kept global }
     {
         self.variables.var_data_global(global)
     }
@@ -213,7 +214,7 @@ impl<A: Allocator + Copy> LinkedVariables<A> {
     {
         let global = self.variables.global_from_solver().get(solver).unwrap();
         let user = self.variables.user_from_global().get(global);
-        let kept = *self.variables.globals.data(global);
+        let kept = self.variables.globals.data(global);
         if is_unused(user, kept) {
             free_and_retire(
                 &mut self.variables.solvers,
@@ -233,7 +234,7 @@ impl<A: Allocator + Copy> LinkedVariables<A> {
         ensures { IsChangedTo self.old self.new global
             (record (data_at self.old.kept global) { sampling_mode = sampling_mode }) }
     {
-        let mut kept = *self.variables.globals.data(global);
+        let mut kept = self.variables.globals.data(global);
         kept.sampling_mode = sampling_mode;
         self.variables.globals.set_data(global, kept);
     }
@@ -243,7 +244,7 @@ impl<A: Allocator + Copy> LinkedVariables<A> {
         requires { (data_at self.old.kept global).deleted ≡ false }
         ensures { IsChangedTo self.old self.new global (record (data_at self.old.kept global) { unit = Some value }) }
     {
-        let mut kept = *self.variables.globals.data(global);
+        let mut kept = self.variables.globals.data(global);
         kept.unit = Some(value);
         self.variables.globals.set_data(global, kept);
     }
@@ -253,7 +254,10 @@ impl<A: Allocator + Copy> LinkedVariables<A> {
         requires { (data_at self.old.kept global).deleted ≡ false }
         ensures { IsChangedTo self.old self.new global (record (data_at self.old.kept global) { isolated = isolated }) }
     {
-        let mut kept = *self.variables.globals.data(global);
+        let mut kept = self.variables.globals.data(global);
+        if kept.isolated == isolated {
+            return;
+        }
         kept.isolated = isolated;
         self.variables.globals.set_data(global, kept);
     }
@@ -263,7 +267,10 @@ impl<A: Allocator + Copy> LinkedVariables<A> {
         requires { (data_at self.old.kept global).deleted ≡ false }
         ensures { IsChangedTo self.old self.new global (record (data_at self.old.kept global) { assumed = assumed }) }
     {
-        let mut kept = *self.variables.globals.data(global);
+        let mut kept = self.variables.globals.data(global);
+        if kept.assumed == assumed {
+            return;
+        }
         kept.assumed = assumed;
         self.variables.globals.set_data(global, kept);
     }
@@ -274,7 +281,7 @@ impl<A: Allocator + Copy> LinkedVariables<A> {
         ensures hidden { OnOk result (IsHidden self.old self.new user global) }
         ensures refused { OnErr result (self.new ≡ self.old) }
     {
-        let mut kept = *self.variables.globals.data(global);
+        let mut kept = self.variables.globals.data(global);
         self.variables.users.release(global, user)?;
         kept.sampling_mode = SamplingMode::Hide;
         self.variables.globals.set_data(global, kept);
@@ -290,7 +297,7 @@ impl<A: Allocator + Copy> LinkedVariables<A> {
         ensures refused { OnErr result (self.new ≡ self.old) }
     {
         let solver = self.variables.solver_from_global().get(global);
-        let kept = *self.variables.globals.data(global);
+        let kept = self.variables.globals.data(global);
         if is_unused(solver, kept) {
             self.variables.globals.delete(global)?;
         }
@@ -307,7 +314,7 @@ impl<A: Allocator + Copy> LinkedVariables<A> {
         ensures refused { OnErr result (self.new ≡ self.old) }
     {
         let user = self.variables.next_unmapped_user();
-        let mut kept = *self.variables.globals.data(global);
+        let mut kept = self.variables.globals.data(global);
         self.variables.users.give(global, user)?;
         kept.sampling_mode = sampling_mode;
         self.variables.globals.set_data(global, kept);
@@ -342,7 +349,7 @@ fn free_and_retire<A: Allocator + Copy>(
     ensures globals_refused { OnErr result (globals.new.kept ≡ globals.old.kept) }
 {
     // Both lists of what is free may have to grow. Where the second may not, the variable comes back as it was.
-    let kept = *globals.data(variable);
+    let kept = globals.data(variable);
     globals.delete(variable)?;
     if let Err(error) = names.release(variable, name) {
         globals.restore(variable, kept);

@@ -12,6 +12,7 @@ use varisat_literals::Var;
 
 /// Names the name, and returns its global variable. A free name comes into use, above the watermark with all names up
 /// to it. Where memory is refused, which it isn't for a name in use, some of these are in use.
+#[inline(always)]
 pub fn global_from_user<A: Allocator + Copy>(
     variables: &mut LinkedVariables<A>,
     user: Var,

@@ -1,31 +1,38 @@
 //! Maps between the variables of two name spaces.
-ghost use Rattle.std.specs.Prelude.{ℕ, ◌≡◌, ◌≢◌, ◌<◌, ◌≤◌, ◌+◌, ◌-◌, ◌^◌, ◌++◌, max, length, replicate, take, List, [], Option, Some, None, OnOk, OnErr};
-ghost use Rattle.varisat_names.specs.promises.Maps.{IsInverse};
-ghost use Rattle.varisat_names.specs.promises.VarMap.{at, mapped, IsPut};
+ghost use Rattle.std.specs.Prelude.{ℕ, ◌≡◌, ◌<◌, ◌≤◌, ◌^◌, ◌⊎◌, length, take, [], Some, None, OnOk, OnErr};
+ghost use Rattle.varisat_names.specs.promises.Maps.{updated, IsInverse};
+ghost use Rattle.varisat_names.specs.promises.VarMap.{at, IsPut};
 ghost use Rattle.varisat_names.specs.promises.VarBiMap.{no_pairs, directed, IsJoined, RemovesPair};
+ghost use Rattle.varisat_names.specs.inside.Entries.{entry};
 
+use super::code_pages::{CodePages, NO_VAR};
+use super::number_set::NumberSet;
 use std::alloc::{AllocError, Allocator};
 use std::marker::Model;
 use varisat_literals::Var;
 
-/// What stands in a map for no variable: it is above each variable's index.
-const NO_VAR: u32 = 0x8000_0000;
-
-/// A map from variables to variables. It takes four bytes a variable below the watermark.
+/// A map from variables to variables. It takes a bit for each variable below the watermark that is mapped to itself,
+/// and four bytes for each of 1024 variables in a row of which another one is mapped.
 #[derive(Drop)]
 pub struct VarMap<A: Allocator + Copy> {
-    mapping: Vec<u32, A>,
+    watermark: usize,
+    // All variables below are mapped to themselves. For those one comparison settles what they are mapped to.
+    same: usize,
+    // What the others are mapped to.
+    codes: CodePages<A>,
+    // The variables that are mapped to themselves.
+    own: NumberSet<A>,
 }
 
 impl<A: Allocator + Copy> Model for VarMap<A> {
-    ghost use Rattle.std.specs.Prelude.{List, Option, ℕ, ◌≤◌, ◌^◌, length, map};
-    ghost use Rattle.varisat_names.specs.promises.VarMap.{mapped};
+    ghost use Rattle.std.specs.Prelude.{List, Option, ℕ};
+    ghost use Rattle.varisat_names.specs.inside.Entries.{entry, entries, EndsAt, AreOwnBelow};
 
     ghost Value = { List (Option ℕ) };
 
-    ghost view = { λ m. map mapped m.mapping.items };
+    ghost view = { λ m. entries (entry m.own m.codes) m.watermark };
 
-    ghost invariant = { λ m. length m.mapping.items ≤ 2 ^ 31 };
+    ghost invariant = { λ m. EndsAt (entry m.own m.codes) m.watermark × AreOwnBelow (entry m.own m.codes) m.same };
 }
 
 impl<A: Allocator + Copy> VarMap<A> {
@@ -34,18 +41,22 @@ impl<A: Allocator + Copy> VarMap<A> {
         ensures { result ≡ [] }
     {
         VarMap {
-            mapping: Vec::new(alloc),
+            watermark: 0,
+            same: 0,
+            codes: CodePages::new_in(alloc),
+            own: NumberSet::new_in(alloc),
         }
     }
 
     /// What the variable is mapped to.
+    #[inline(always)]
     pub fn get(&self, from: Var) -> Option<Var>
         ensures { result ≡ at self.now from }
     {
-        if from.index() < self.mapping.len() {
-            decode(self.mapping[from.index()])
+        if from.index() < self.same {
+            Some(from)
         } else {
-            None
+            read_entry(&self.own, &self.codes, from)
         }
     }
 
@@ -53,14 +64,14 @@ impl<A: Allocator + Copy> VarMap<A> {
     pub fn watermark(&self) -> usize
         ensures { result ≡ length self.now }
     {
-        self.mapping.len()
+        self.watermark
     }
 
     /// The watermark is at most the number of variables that there can be.
     pub fn prove_small(&self)
         ensures { length self.now ≤ 2 ^ 31 }
     {
-        let _ = &self.mapping;
+        let _ = &self.watermark;
     }
 
     /// Maps the variable, which is not mapped. Where memory is refused nothing changes.
@@ -69,8 +80,9 @@ impl<A: Allocator + Copy> VarMap<A> {
         ensures put { OnOk result (IsPut self.old from (Some into) self.new) }
         ensures refused { OnErr result (self.new ≡ self.old) }
     {
-        self.reach(from)?;
-        self.put(into, from);
+        put_entry(&mut self.own, &mut self.codes, into, from)?;
+        self.watermark = self.watermark.max(from.index() + 1);
+        self.same = same_with(self.same, into, from);
         Ok(())
     }
 
@@ -79,47 +91,75 @@ impl<A: Allocator + Copy> VarMap<A> {
         ensures below { from < length self.old → IsPut self.old from None self.new }
         ensures above { length self.old ≤ from → self.new ≡ self.old }
     {
-        if from.index() < self.mapping.len() {
-            self.mapping[from.index()] = NO_VAR;
-        }
+        let index = from.index();
+        self.own.remove(index);
+        self.codes.remove(index);
+        self.same = self.same.min(index);
     }
 
-    /// Raises the watermark above the variable. Where that is refused nothing changes.
-    fn reach(&mut self, from: Var) -> Result<(), AllocError>
-        ensures reached { OnOk result (self.new ≡ self.old ++ replicate (from + 1 - length self.old) None) }
-        ensures refused { OnErr result (self.new ≡ self.old) }
-    {
-        if self.mapping.len() <= from.index() {
-            self.mapping.resize(from.index() + 1, NO_VAR)?;
-        }
-        Ok(())
-    }
-
-    /// Maps the variable, which is below the watermark.
-    fn put(&mut self, into: Var, from: Var)
-        requires { from < length self.old }
-        ensures { IsPut self.old from (Some into) self.new }
-    {
-        self.mapping[from.index()] = into.index() as u32;
-    }
-
-    /// Takes the variables from a lower watermark on off.
+    /// Lowers the watermark, from which on nothing is mapped.
     fn cut(&mut self, watermark: usize)
+        requires lower { watermark ≤ length self.old }
+        requires above { (i : ℕ) → watermark ≤ i → at self.old i ≡ None }
         ensures { self.new ≡ take watermark self.old }
     {
-        self.mapping.truncate(watermark);
+        self.watermark = watermark;
     }
 }
 
-/// The variable for which this stands in a map.
-fn decode(code: u32) -> Option<Var>
-    ensures { result ≡ mapped code }
+/// What the variable is mapped to in the parts of a map.
+// The codes come first: a map that is asked here has mostly other variables than itself for them.
+#[inline(always)]
+fn read_entry<A: Allocator + Copy>(
+    own: &NumberSet<A>,
+    codes: &CodePages<A>,
+    from: Var,
+) -> Option<Var>
+    ensures { result ≡ entry own.now codes.now from }
 {
+    let index = from.index();
+    let code = codes.get(index);
     if code < NO_VAR {
-        Some(Var::from_index(code as usize))
+        return Some(Var::from_index(code as usize));
+    }
+    if own.contains(index) {
+        Some(from)
     } else {
         None
     }
+}
+
+/// Up to where all variables are mapped to themselves, once the variable is mapped too.
+fn same_with(same: usize, into: Var, from: Var) -> usize
+    ensures { (i : ℕ) → i < result → (i < same) ⊎ ((i ≡ from) × (into ≡ from)) }
+{
+    if from.index() == same && into.index() == same {
+        same + 1
+    } else {
+        same
+    }
+}
+
+/// Maps the variable, which is not mapped, in the parts of a map. Where memory is refused each stays mapped as it was.
+fn put_entry<A: Allocator + Copy>(
+    own: &mut NumberSet<A>,
+    codes: &mut CodePages<A>,
+    into: Var,
+    from: Var,
+) -> Result<(), AllocError>
+    requires { entry own.old codes.old from ≡ None }
+    ensures put { OnOk result
+        ((i : ℕ) → entry own.new codes.new i ≡ updated (entry own.old codes.old) from (Some into) i) }
+    ensures refused { OnErr result ((i : ℕ) → entry own.new codes.new i ≡ entry own.old codes.old i) }
+{
+    let target = into.index();
+    let index = from.index();
+    if target == index {
+        own.insert(index)?;
+    } else {
+        codes.insert(index, target as u32)?;
+    }
+    Ok(())
 }
 
 /// A one-to-one map between variables of two spaces, and the way back.
@@ -204,15 +244,14 @@ impl<A: Allocator + Copy> VarBiMap<A> {
         ensures joined { OnOk result (IsJoined self.old self.new from into) }
         ensures refused { OnErr result (self.new ≡ self.old) }
     {
-        // Both maps grow before either says anything, and the first one shrinks again where the second may not grow.
+        // Where the second map may not grow, the first one is as it was before.
         let watermark = self.fwd.watermark();
-        self.fwd.reach(from)?;
-        if let Err(error) = self.bwd.reach(into) {
+        self.fwd.insert(into, from)?;
+        if let Err(error) = self.bwd.insert(from, into) {
+            self.fwd.remove(from);
             self.fwd.cut(watermark);
             return Err(error);
         }
-        self.fwd.put(into, from);
-        self.bwd.put(from, into);
         Ok(())
     }
 

@@ -143,6 +143,20 @@ impl<A: Allocator + Copy> Trail<A> {
     pub fn push(&mut self, lit: Lit) -> Result<(), AllocError>
         ensures { OnOk result (self.new ≡ record self.old { literals = self.old.literals ++ lit ∷ [] }) }
     {
+        if self.trail.len() < self.trail.capacity() {
+            self.trail.push_reserved(lit);
+            return Ok(());
+        }
+        self.push_growing(lit)
+    }
+
+    /// Puts a literal at the end, for which more memory may be needed.
+    // It is kept out of the function that makes literals true, which would save registers for it each time.
+    #[cold]
+    #[inline(never)]
+    fn push_growing(&mut self, lit: Lit) -> Result<(), AllocError>
+        ensures { OnOk result (self.new ≡ record self.old { literals = self.old.literals ++ lit ∷ [] }) }
+    {
         self.trail.push(lit)?;
         Ok(())
     }

@@ -85,8 +85,8 @@ impl<A: Allocator + Copy> WatchList<A> {
     pub fn push(&mut self, watch: Watch) -> Result<(), AllocError>
         ensures { OnOk result (self.new ≡ self.old ++ watch ∷ []) }
     {
-        if self.count as usize > FEW {
-            self.many.push(watch)?;
+        if self.count as usize > FEW && self.many.len() < self.many.capacity() {
+            self.many.push_reserved(watch);
             return Ok(());
         }
         self.push_out_of_line(watch)

@@ -4,13 +4,17 @@ use Rattle.std.proofs.lemmas.Bool.{cases_lt}
 use Rattle.varisat_theory.specs.promises.Membership.{◌∈◌, IsDistinct}
 use Rattle.varisat_theory.proofs.clauses.Members.{equal_or_not}
 use Rattle.varisat_theory.proofs.bounds.Count.{length-distinct}
-use Rattle.varisat_names.specs.inside.Lending.{number_or_zero}
 use Rattle.varisat_names.specs.promises.VarMap.{at, IsFull}
 use Rattle.varisat_names.specs.promises.Variables.{Tables, AreLinked, IsTaken}
 use Rattle.varisat_names.proofs.Maps.{updated-at, updated-other, updated-all, is-some}
 use Rattle.varisat_names.proofs.Tables.{live-inside}
 
 -- 1. How many numbers a map leads somewhere.
+
+-- the number, or 0
+abbrev number_or_zero : Option ℕ → ℕ
+number_or_zero None = 0
+number_or_zero (Some x) = x
 
 -- where the numbers below n lead
 images : (ℕ → Option ℕ) → ℕ → List ℕ

@@ -38,7 +38,10 @@ fn join(variables: &mut Variables<Global>) -> Result<(), AllocError> {
 fn change(variables: &mut Variables<Global>) {
     if let Some(taken) = variables.global_from_solver().get(var!(1)) {
         if taken.index() < variables.global_watermark() {
-            variables.var_data_solver_mut(var!(1)).deleted = false;
+            let mut lent = variables.var_data_solver_mut(var!(1));
+            let mut kept = lent.get();
+            kept.deleted = false;
+            lent.set(kept);
         }
     }
 }

@@ -37,9 +37,9 @@ pub mod config {
 pub mod variables {
     pub use varisat::variables::{
         Direction, GlobalVars, LinkedVariables, SamplingMode, UserVars, VarBiMap, VarBiMapMut,
-        VarData, VarMap, Variables, global_from_user, initialize_solver_var, new_user_var,
-        observe_internal_vars, remove_solver_var, set_sampling_mode, solver_from_global,
-        solver_from_user, solver_from_user_lits,
+        VarData, VarDataMut, VarMap, Variables, global_from_user, initialize_solver_var,
+        new_user_var, observe_internal_vars, remove_solver_var, set_sampling_mode,
+        solver_from_global, solver_from_user, solver_from_user_lits,
     };
 }
 

@@ -32,8 +32,8 @@ loop-lit-preserved g c =
     c.var.ensures c.reason.ensures in
     explored-one p c.loop-lit.auto.var_flags c.loop-lit.invariant c.index.result c.reason.result.now c.index.ensures.index r
     (λ q. let b = c.if-is_unit.ensures.1 q in absurd cc) c.in-Some.ensures.2
-    c.push.new.self.items c.push-in-loop-lit.new.self.items c.var-in-loop-lit.result c.not.result c.in_ok-push.ensures.items
-    c.var-in-loop-lit.ensures c.in_ok-push-2.ensures.items c.not.ensures
+    c.push.new.self.items c.push-in-loop-lit.new.self.items c.var-in-loop-lit-2.result c.not.result c.in_ok-push.ensures.items
+    c.var-in-loop-lit-2.ensures c.in_ok-push-2.ensures.items c.not.ensures
 
 pub returns : goal.returns
 returns g c = grind (arith, common_steps)

@@ -56,8 +56,8 @@ returns-clause-solver g c =
     let t = c.in_ok-solver.ensures.taken in
     let x = c.args.global in
     let left : at m.solvers.forward x ≡ None = ap (λ b. at b x) (sym c.solver_from_global.ensures) ∙ sym c.get.ensures ∙ c.in_default.is in
-    let same = ap (λ (ds : List VarData). data_at ds x) (sym t.kept) ∙ sym c.var_data_global.ensures in
-    solver-case x c.in_ok-solver.solver m n c.args.ctx.now c.set_var_count.new.ctx c.initialize_solver_var.new.ctx c.var_data_global.result.now.unit left t
+    let same = ap (λ (ds : List VarData). data_at ds x) (sym t.kept) ∙ sym c.var_data_global-unit.ensures in
+    solver-case x c.in_ok-solver.solver m n c.args.ctx.now c.set_var_count.new.ctx c.initialize_solver_var.new.ctx c.var_data_global-unit.result.unit left t
     (ap (λ (d : VarData). d.unit) same)
     (record {
       seen = (c.in_ok-set_var_count.ensures {u = tt}).raised.seen;
@@ -66,5 +66,5 @@ returns-clause-solver g c =
     })
     (c.in_ok-initialize_solver_var.ensures {u = tt}).unit
 
-pub var_data_global-requires : goal.var_data_global-requires
-var_data_global-requires g c = grind (arith, common_steps)
+pub var_data_global-unit-requires : goal.var_data_global-unit-requires
+var_data_global-unit-requires g c = grind (arith, common_steps)

@@ -1,6 +1,5 @@
 use Rattle.std.proofs.Common.{sym, ap, ◌∙◌, refl}
 use Rattle.varisat_names.specs.promises.VarMap.{at}
-use Rattle.varisat_names.specs.promises.VarBiMap.{turned}
 use Rattle.varisat_names.specs.promises.Variables.{Tables}
 use Rattle.varisat_names.proofs.Linked.{keep-dead, same-tables, on-either, unused-none}
 use Rattle.varisat_names.proofs.LinkedCalls.{begun}
@@ -14,7 +13,7 @@ invariant_of-self g c =
     let x = c.args.global in
     let unnamed = ap (λ s. at s.variables.tables.users.backward x) w ∙ ap (λ (t : Tables). at t.users.backward x) c.self.view_is ∙ c.requires.unnamed in
     let untaken = ap (λ s. at s.variables.tables.solvers.forward x) w ∙ ap (λ m. at m x) (sym c.solver_from_global.ensures)
-    ∙ sym c.get-solver.ensures ∙ unused-none c.get-solver.result c.data-kept.result.now (sym c.is_unused.ensures ∙ c.if-is_unused.true) in
+    ∙ sym c.get-solver.ensures ∙ unused-none c.get-solver.result c.data-kept.result (sym c.is_unused.ensures ∙ c.if-is_unused.true) in
     let kept = c.delete.new.self.kept in (
       on-either c.delete.result c.delete.ensures.deleted c.delete.ensures.refused
           (λ k. keep-dead _ kept x dead linked unnamed untaken k)

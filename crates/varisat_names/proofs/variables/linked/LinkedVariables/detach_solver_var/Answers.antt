@@ -1,5 +1,5 @@
 use Rattle.std.proofs.lemmas.Grind.{common_steps}
-use Rattle.std.proofs.Common.{sym, ap, ◌∙◌, refl, true, arith}
+use Rattle.std.proofs.Common.{sym, ap, ◌∙◌, refl, arith}
 use Rattle.varisat_names.specs.promises.VarMap.{at}
 use Rattle.varisat_names.specs.promises.VarBiMap.{turned}
 use Rattle.varisat_names.proofs.Tables.{live-inside}
@@ -25,7 +25,7 @@ invariant_of-self g c =
     let v = c.args.solver in
     let back = taken-before same c.self.invariant c.unwrap-global.result c.args.solver c.global_from_solver.ensures c.get.ensures c.unwrap-global.ensures in
     let unnamed = ap (λ s. at s.variables.tables.users.backward x) w ∙ ap (λ m. at m x) (sym c.user_from_global.ensures) ∙ sym c.get-user.ensures
-    ∙ unused-none c.get-user.result c.data-kept.result.now (sym c.is_unused.ensures ∙ c.if-is_unused.true) in
+    ∙ unused-none c.get-user.result c.data-kept.result (sym c.is_unused.ensures ∙ c.if-is_unused.true) in
     let solvers = c.free_and_retire.new.names.pairs in
     let kept = c.free_and_retire.new.globals.kept in
     let done = c.free_and_retire.ensures in (

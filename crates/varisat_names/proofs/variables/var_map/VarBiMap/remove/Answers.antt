@@ -1,6 +1,4 @@
-use Rattle.std.proofs.Common.{sym, ap, ◌∙◌}
-use Rattle.varisat_names.specs.promises.VarMap.{at}
-use Rattle.varisat_names.specs.promises.VarBiMap.{IsParted}
+use Rattle.std.proofs.Common.{sym, ◌∙◌}
 use Rattle.varisat_names.proofs.VarMap.{at-inside, parted-inverse}
 use Rattle.varisat_names.proofs.variables.var_map.VarBiMap.remove.Goals as goal
 

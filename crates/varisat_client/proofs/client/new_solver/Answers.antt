@@ -1,5 +1,5 @@
 -- A new solver does not refuse the settings.
-use Rattle.std.proofs.Common.{◌≡◌, Some, None, false, refl, subst}
+use Rattle.std.proofs.Common.{Some, None, false, refl, subst}
 use Rattle.varisat_names.specs.promises.Settings.{no_update}
 use Rattle.varisat_names.specs.declared.config.SolverConfigUpdate.{SolverConfigUpdate}
 use Rattle.varisat_solver.specs.promises.States.{State, empty_state}

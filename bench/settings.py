@@ -8,18 +8,18 @@ import programs
 
 SUMMARY = "times deciding formulas under other settings than those of solve"
 # The settings of `solve`, where they are others than those of a new solver.
-OURS = {"reduce_locals_interval": 2000, "luby_restart_interval_scale": 64}
+OURS = {"reduce_locals_interval": 2000, "luby_restart_interval_scale": 1, "restart_glue": 110}
 # What is tried in place of ours, one at a time.
 TRIED = [
-    {"reduce_locals_interval": 15000, "luby_restart_interval_scale": 128},
+    {"reduce_locals_interval": 15000, "luby_restart_interval_scale": 128, "restart_glue": 0},
+    {"luby_restart_interval_scale": 64, "restart_glue": 0},
     {"reduce_locals_interval": 1000},
     {"reduce_locals_interval": 1400},
     {"reduce_locals_interval": 2800},
     {"reduce_locals_interval": 4000},
-    {"luby_restart_interval_scale": 32},
-    {"luby_restart_interval_scale": 45},
-    {"luby_restart_interval_scale": 90},
-    {"luby_restart_interval_scale": 128},
+    {"restart_glue": 105},
+    {"restart_glue": 125},
+    {"restart_glue": 150},
     {"reduce_mids_interval": 2500},
     {"reduce_mids_interval": 5000},
     {"reduce_mids_interval": 20000},

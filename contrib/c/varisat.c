@@ -363,7 +363,8 @@ int varisat_set(varisat *solver, enum varisat_setting setting, uint64_t value) {
 
 int varisat_set_for_file(varisat *solver) {
     BEGIN(varisat_set(solver, VARISAT_REDUCE_LOCALS_INTERVAL, 2000));
-    return varisat_set(solver, VARISAT_LUBY_RESTART_INTERVAL_SCALE, 64);
+    BEGIN(varisat_set(solver, VARISAT_LUBY_RESTART_INTERVAL_SCALE, 1));
+    return varisat_set(solver, VARISAT_RESTART_GLUE, 110);
 }
 
 uint64_t varisat_count(varisat *solver, enum varisat_counter counter) {

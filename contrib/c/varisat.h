@@ -142,7 +142,7 @@ enum varisat_setting {
 };
 int varisat_set(varisat *solver, enum varisat_setting setting, uint64_t value);
 
-/* Settings for one formula as in a file: locals 2000, restarts 64. */
+/* Settings for one formula as in a file: locals 2000, restarts 1, glue 110. */
 int varisat_set_for_file(varisat *solver);
 
 enum varisat_counter {

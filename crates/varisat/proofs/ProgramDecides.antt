@@ -15,7 +15,7 @@ use Rattle.varisat_formula.specs.promises.Dimacs.{Reading, dimacs}
 use Rattle.varisat_formula.specs.promises.Streams.{Input, Taken, Reads, HasEnded}
 use Rattle.varisat_formula.proofs.ParsedSources.{gives_whole}
 use Rattle.varisat_names.specs.declared.config.SolverConfigUpdate.{SolverConfigUpdate}
-use Rattle.varisat_names.specs.promises.Settings.{Settings, no_update}
+use Rattle.varisat_names.specs.promises.Settings.{Settings, first_bad, no_update}
 use Rattle.varisat_lines.specs.declared.format.ProofFormat.{ProofFormat}
 use Rattle.varisat_solver.specs.promises.ProofCalls.{OpensProof, EnablesChecking}
 use Rattle.varisat.specs.promises.Proven.{file_update, configured, prepared, Concludes}
@@ -25,7 +25,7 @@ use Rattle.varisat_solver.specs.promises.Models.{IsCompletable}
 use Rattle.varisat.specs.inside.Counts.{count_with}
 use Rattle.varisat_solver.specs.promises.ClauseCalls.{AddsDimacs}
 use Rattle.varisat_solver.specs.promises.OpenProofs.{OpenProof, first_proof}
-use Rattle.varisat_solver.specs.promises.Calls.{by_state, count_anew, Ignored, Accepted}
+use Rattle.varisat_solver.specs.promises.Calls.{by_state, count_anew, with_update, Ignored, Accepted}
 use Rattle.varisat_solver.specs.promises.Additions.{NoFault, MemoryFault, Fault, ClauseRefused, ClausesAdded, RefusedEarly, Read, Unread}
 use Rattle.varisat.specs.promises.Pasts.{Findings, Past, empty_past, by_answers}
 use Rattle.varisat_solver.specs.promises.Budgets.{CountsSteps}
@@ -264,21 +264,24 @@ pub prepared-begun : {W : Type 0} (taken : W → Taken) (format : ProofFormat) (
 prepared-begun taken format check limit None = refl
 prepared-begun taken format check limit (Some target) = refl
 
+-- a new solver takes settings that are in their ranges
+pub takes-update : (check : Bool) (u : SolverConfigUpdate) (r : Result (Unit {0}) SolverError) (s : State) → first_bad u ≡ None →
+    state.Configures (new_state check) u r s → s ≡ with_update u (new_state check)
+takes-update check u (Ok x) s fits (v, n, k) = k
+takes-update check u (Err Invalid) s fits (v, k) = let z : true ≡ false = v in absurd cc
+takes-update check u (Err (ConfigOutOfRange field)) s fits (v, n, k) = let z : None ≡ Some field = sym fits ∙ n in absurd cc
+takes-update check u (Err e) s fits h = absurd h
+
 -- the update is made of one that changes nothing
 pub configures-new : (check : Bool) (limit : Option ℕ) (u : SolverConfigUpdate) (r : Result (Unit {0}) SolverError) (s : State) → u ≡ no_update →
     state.Configures (new_state check)
-    (record u { reduce_locals_interval = Some 2000; luby_restart_interval_scale = Some 64; max_steps = limit }) r s → s ≡ configured check limit
+    (record u { reduce_locals_interval = Some 2000; luby_restart_interval_scale = Some 1; restart_glue = Some 110; max_steps = limit }) r s →
+    s ≡ configured check limit
 configures-new check limit u r s e h =
-    go r
+    takes-update check (file_update limit) r s refl
     (subst
     (λ (x : SolverConfigUpdate). state.Configures (new_state check)
-    (record x { reduce_locals_interval = Some 2000; luby_restart_interval_scale = Some 64; max_steps = limit }) r s) e h)
-  where
-    go : (r : Result (Unit {0}) SolverError) → state.Configures (new_state check) (file_update limit) r s → s ≡ configured check limit
-    go (Ok x) (v, n, k) = k
-    go (Err Invalid) (v, k) = let z : true ≡ false = v in absurd cc
-    go (Err (ConfigOutOfRange field)) (v, n, k) = let z : None ≡ Some field = n in absurd cc
-    go (Err e) h = absurd h
+    (record x { reduce_locals_interval = Some 2000; luby_restart_interval_scale = Some 1; restart_glue = Some 110; max_steps = limit }) r s) e h)
 
 pub opens-configured : {W : Type 0} (taken : W → Taken) (target : W) (format : ProofFormat) (check : Bool) (limit : Option ℕ) (s t : State)
     (r : Result (Unit {0}) (SolverError × W)) → s ≡ configured check limit → OpensProof taken target format s r t →

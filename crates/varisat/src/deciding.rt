@@ -17,11 +17,14 @@ use varisat_proof::proof::ProofFormat;
 use varisat_solver::rounds::search;
 use varisat_solver::solver::{Solver, SolverError};
 
-// The settings by which a file is decided. Those of a new solver, 15000 and 128, are the crate's; with these a search
-// took between half and three quarters of the time over forty formulas.
+// The settings by which a file is decided. Those of a new solver, 15000, 128 and 0, are the crate's. With the first of
+// these a search took between half and three quarters of the time over forty formulas; a restart is due after few steps,
+// so that the policy of `restart_glue` chooses, which took 0.8 of the time over formulas of some 200,000 conflicts.
 const REDUCE_LOCALS_INTERVAL: u64 = 2000;
 
-const LUBY_RESTART_INTERVAL_SCALE: u64 = 64;
+const LUBY_RESTART_INTERVAL_SCALE: u64 = 1;
+
+const RESTART_GLUE: u64 = 110;
 
 /// What `solve` keeps to.
 #[derive(Clone, Copy, Debug)]
@@ -132,6 +135,7 @@ pub fn prepare<W: ProofTarget, A: Allocator + Copy>(
     let mut update = SolverConfigUpdate::new();
     update.reduce_locals_interval = Some(REDUCE_LOCALS_INTERVAL);
     update.luby_restart_interval_scale = Some(LUBY_RESTART_INTERVAL_SCALE);
+    update.restart_glue = Some(RESTART_GLUE);
     update.max_steps = options.max_steps;
     let _ = solver.config(&update);
     if let Some(target) = target {

@@ -11,7 +11,6 @@ use Rattle.varisat_names.specs.declared.config.SolverConfigUpdate.{SolverConfigU
 use Rattle.varisat_names.specs.declared.config.ConfigField.TheVariants.{MaxSteps}
 use Rattle.varisat_solver.specs.promises.States.{State}
 use Rattle.varisat_solver.proofs.calls.CallStates.{same-counted}
-use Rattle.varisat.specs.promises.Proven.{configured}
 use Rattle.varisat.proofs.NameLaws.{none-in-order}
 use Rattle.varisat_solver.specs.promises.Calls.{AddsClause, Assumes, Solves, Configures, by_state}
 use Rattle.varisat_solver.specs.declared.solver.SolverError.{SolverError}
@@ -26,7 +25,7 @@ use Rattle.varisat_client.specs.inside.Refusals.{refusal_for}
 use Rattle.varisat_client.specs.inside.LiteralSets.{Has, IsSetOf}
 use Rattle.varisat_client.specs.promises.Pasts.{Past, empty_past, refuse, count, Again, Memory, AddsNumber, AssumesNumber, Begins, LimitsSteps, IsSearchEnd, ReturnsFailed}
 use Rattle.varisat_client.specs.promises.Pasts as past
-use Rattle.varisat_client.specs.inside.Clients.{Client, HoldsPast, RepresentsPast, Moves, KeepsModel, KeepsCore}
+use Rattle.varisat_client.specs.inside.Clients.{first_state, Client, HoldsPast, RepresentsPast, Moves, KeepsModel, KeepsCore}
 use Rattle.varisat_client.specs.inside.Clients as client
 use Rattle.varisat_client.proofs.Fitting as fitting
 use Rattle.varisat_client.proofs.Refusing.{is-full, clause-refused, list-refused, list-stored, search-refused, never-refused}
@@ -38,10 +37,10 @@ stands-free : (g : Client) (p : Past) → g.refusal ≡ p.refusal → p.refusal 
 stands-free g p e free k = record { refusal = e; full = λ f. absurd (let z : None ≡ Some ClauseStoreFull = sym free ∙ f in cc); holds = λ _. k }
 
 -- nothing was given yet
-pub is-new : (g : Client) → g.refusal ≡ None → Represents g.solver (configured false None) → g.clause ≡ [] → g.assumptions ≡ [] → IsSetOf [] g.model → IsSetOf [] g.core →
+pub is-new : (g : Client) → g.refusal ≡ None → Represents g.solver first_state → g.clause ≡ [] → g.assumptions ≡ [] → IsSetOf [] g.model → IsSetOf [] g.core →
     RepresentsPast g empty_past
 is-new g r s c a m k = stands-free g empty_past r refl (record {
-  state = configured false None;
+  state = first_state;
   stands = s;
   fits = record {
     valid = refl;

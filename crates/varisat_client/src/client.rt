@@ -2,7 +2,7 @@
 ghost use Rattle.std.specs.Prelude.{◌≡◌, ◌≢◌, ◌∷◌, [], ◌++◌, pos, OnOk, false, None};
 ghost use Rattle.varisat_literals.specs.promises.Numbers.{literal_numbered};
 ghost use Rattle.varisat_solver.specs.inside.Representations.{Represents};
-ghost use Rattle.varisat.specs.promises.Proven.{configured};
+ghost use Rattle.varisat_client.specs.inside.Clients.{first_state};
 
 use crate::literal_set::LitSet;
 use crate::refusal::{Refusal, refusal_for};
@@ -13,8 +13,8 @@ use varisat::io::MemoryTarget;
 use varisat::solver::SolverError;
 use varisat::{Lit, Solver};
 
-// The settings of a client's solver: those by which the program decides a file. Where calls come to many conflicts they took
-// 0.7 of the time of a new solver's settings, and else the same.
+// The settings of a client's solver. Where calls come to many conflicts they took 0.7 of the time of a new solver's settings,
+// and else the same. Restarts that glue chooses, by which the program decides a file, were not tried on calls.
 const REDUCE_LOCALS_INTERVAL: u64 = 2000;
 
 const LUBY_RESTART_INTERVAL_SCALE: u64 = 64;
@@ -51,7 +51,7 @@ fn put_number<A: Allocator + Copy>(list: &mut Vec<Lit, A>, number: i32) -> Resul
 
 /// A new solver with the settings of a client. It takes no memory.
 fn new_solver<A: Allocator + Copy>(alloc: A) -> Solver<MemoryTarget<A>, A>
-    ensures { Represents result (configured false None) }
+    ensures { Represents result first_state }
 {
     let mut solver = Solver::new_in(alloc);
     let mut update = SolverConfigUpdate::new();

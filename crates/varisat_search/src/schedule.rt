@@ -24,16 +24,18 @@ pub use varisat_schedule::luby::LubySequence;
 pub use varisat_schedule::schedule::Schedule;
 use varisat_steps::{ProofTracer, TraceError};
 
-// At how many conflicts a search leaves stable mode first. Many satisfiable formulas are decided before.
-const STABLE_CONFLICTS: u64 = 4096;
+// In what units the lengths of modes are.
+const MODE_CONFLICTS: u64 = 1024;
 
 // A restart is made in stable mode where the next one is as many steps away or more.
-const STABLE_INTERVAL: u64 = 32;
+const STABLE_INTERVAL: u64 = 1024;
 
 /// Whether a search that had so many conflicts is in stable mode, where restarts are few, or else in focused mode. It
-/// begins stable, and changes its mode at `STABLE_CONFLICTS` and each time that conflicts have doubled since.
+/// begins stable, and changes its mode whenever it has had about 1.4 times as many. So both have their share in a search
+/// of any length: some formulas take far fewer conflicts in the one, and some in the other.
 fn is_stable(conflicts: u64) -> bool {
-    (conflicts / STABLE_CONFLICTS).leading_zeros() % 2 == 0
+    let units = conflicts / MODE_CONFLICTS;
+    units.saturating_mul(units).leading_zeros() % 2 == 0
 }
 
 /// The policy: whether a restart that is due is made. The bound on steps needs no restart, so any answer would do. At the

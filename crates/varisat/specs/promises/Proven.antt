@@ -38,7 +38,12 @@ CanCountFault taken (Some target) = (taken target).faults < 2 ^ 64 - 1
 -- the settings by which a file is decided, where they are others than those of a new solver, with a limit of steps, or none
 abbrev pub file_update : Option ℕ → SolverConfigUpdate
 file_update limit =
-    record no_update { reduce_locals_interval = Some 2000; luby_restart_interval_scale = Some 64; max_steps = limit }
+    record no_update {
+      reduce_locals_interval = Some 2000;
+      luby_restart_interval_scale = Some 1;
+      restart_glue = Some 110;
+      max_steps = limit;
+    }
 
 -- the state of a new solver with these, and with a checker inside or none
 abbrev pub configured : Bool → Option ℕ → State

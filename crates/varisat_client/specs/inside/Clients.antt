@@ -1,12 +1,15 @@
 -- What a client holds, and what of the calls and answers so far it stands for.
-use Rattle.std.specs.Prelude.{◌≡◌, ℕ, ◌<◌, ◌≤◌, Bool, true, Option, Some, None, List, map}
+use Rattle.std.specs.Prelude.{◌≡◌, ℕ, ◌<◌, ◌≤◌, Bool, true, false, Option, Some, None, List, map}
 use Rattle.varisat_theory.specs.promises.Membership.{◌∈◌, ◌⊆◌, IsDistinct}
 use Rattle.varisat_theory.specs.promises.Literals.{Literal, Clause, variable_of, IsSatisfiable, IsFailedCore}
 use Rattle.varisat_literals.specs.promises.Numbers.{variable_limit}
-use Rattle.varisat_solver.specs.promises.States.{State, Unsat}
+use Rattle.varisat_solver.specs.promises.States.{State, Unsat, new_state}
 use Rattle.varisat_solver.specs.promises.Names.{through_names, AreInOrder}
 use Rattle.varisat_solver.specs.promises.Models.{IsCompletable, AreNamesInUse}
 use Rattle.varisat_solver.specs.promises.Summaries.{Summary, HasFullStore}
+use Rattle.varisat_solver.specs.promises.Calls.{with_update}
+use Rattle.varisat_names.specs.promises.Settings.{no_update}
+use Rattle.varisat_names.specs.declared.config.SolverConfigUpdate.{SolverConfigUpdate}
 use Rattle.varisat_solver.specs.inside.Representations.{Represents}
 use Rattle.varisat_client.specs.inside.LiteralSets.{IsSetOf}
 use Rattle.varisat_client.specs.promises.Pasts.{Past}
@@ -14,6 +17,14 @@ use Rattle.varisat_client.specs.declared.client.SearchEnd.{SearchEnd}
 use Rattle.varisat_client.specs.declared.client.SearchEnd.TheVariants as end
 use Rattle.varisat_client.specs.declared.refusal.Refusal.{Refusal}
 use Rattle.varisat_client.specs.declared.refusal.Refusal.TheVariants.{OutOfMemory, ClauseStoreFull}
+
+-- the settings of a client's solver, where they are others than those of a new one
+abbrev pub client_update : SolverConfigUpdate
+client_update = record no_update { reduce_locals_interval = Some 2000; luby_restart_interval_scale = Some 64 }
+
+-- the state of a new solver with these
+abbrev pub first_state : State
+first_state = with_update client_update (new_state false)
 
 -- What the solver holds; the clause that is being given, and the assumptions for the next search; the literals of the last model and
 -- of the last core, as sets; why a call was refused, if one was.

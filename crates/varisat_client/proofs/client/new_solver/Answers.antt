@@ -1,11 +1,11 @@
 -- A new solver does not refuse the settings.
-use Rattle.std.proofs.Common.{Some, None, false, refl, subst}
-use Rattle.varisat_names.specs.promises.Settings.{no_update}
+use Rattle.std.proofs.Common.{Some, false, refl, subst}
 use Rattle.varisat_names.specs.declared.config.SolverConfigUpdate.{SolverConfigUpdate}
 use Rattle.varisat_solver.specs.promises.States.{State, empty_state}
 use Rattle.varisat_solver.specs.inside.Representations.{Represents}
 use Rattle.varisat_solver.specs.promises.Calls.{Configures}
-use Rattle.varisat.proofs.ProgramDecides.{configures-new}
+use Rattle.varisat.proofs.ProgramDecides.{takes-update}
+use Rattle.varisat_client.specs.inside.Clients.{client_update}
 use Rattle.varisat_client.proofs.client.new_solver.Goals as goal
 
 pub returns : goal.returns
@@ -14,4 +14,4 @@ returns g c =
     let b = subst
     (λ (u : SolverConfigUpdate). Configures empty_state
     (record u { reduce_locals_interval = Some 2000; luby_restart_interval_scale = Some 64 }) c.config.result s) c.new-update.ensures a in
-    subst (λ (o : State). Represents c.config.new.self o) (configures-new false None no_update c.config.result s refl b) x
+    subst (λ (o : State). Represents c.config.new.self o) (takes-update false client_update c.config.result s refl b) x

@@ -24,7 +24,7 @@ pub use varisat_schedule::luby::LubySequence;
 pub use varisat_schedule::schedule::Schedule;
 use varisat_steps::{ProofTracer, TraceError};
 
-// In what units the lengths of modes are.
+// In what units the lengths of modes are. A search is in stable mode for so many conflicts at first.
 const MODE_CONFLICTS: u64 = 1024;
 
 // A restart is made in stable mode where the next one is as many steps away or more.

@@ -4,9 +4,9 @@ use Rattle.std.specs.declared.vec.Vec.{Vec}
 use Rattle.std.proofs.lemmas.List.{length-map, map-set, get_or-map, get_or-set_same, get_or-set_other, get_or_past}
 use Rattle.std.proofs.lemmas.Nat.{div-add-mod'}
 use Rattle.varisat_theory.proofs.clauses.Members.{equal_or_not}
+use Rattle.varisat_theory.proofs.clauses.Padded.{padded}
 use Rattle.varisat_names.specs.promises.Maps.{updated}
 use Rattle.varisat_names.specs.inside.CodePages.{code_in, code_at}
-use Rattle.varisat_names.proofs.Padded.{padded}
 use Rattle.varisat_names.proofs.Maps.{updated-all, updated-at, updated-other}
 
 -- pages in vectors, seen as lists

@@ -1,5 +1,4 @@
 pub mod Maps
-pub mod Padded
 pub mod NumberSets
 pub mod CodePages
 pub mod VarMap

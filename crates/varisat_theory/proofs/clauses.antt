@@ -12,3 +12,4 @@ pub mod Example
 pub mod Held
 pub mod Lines
 pub mod Places
+pub mod Padded

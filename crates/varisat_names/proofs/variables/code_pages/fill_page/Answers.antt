@@ -1,5 +1,5 @@
 use Rattle.std.proofs.Common.{◌-◌, arith}
-use Rattle.varisat_names.proofs.Padded.{resized}
+use Rattle.varisat_theory.proofs.clauses.Padded.{resized}
 use Rattle.varisat_names.proofs.variables.code_pages.fill_page.Goals as goal
 
 pub returns-in_ok-resize-clause-same : goal.returns-in_ok-resize-clause-same

@@ -8,7 +8,7 @@ use Rattle.std.specs.BTreeSet.{BTreeSet, contains}
 use Rattle.std.specs.BTreeMap.{is_at}
 use Rattle.varisat_theory.proofs.clauses.Members.{equal_or_not}
 use Rattle.varisat_names.specs.promises.VarMap.{at, IsPut, IsFull, IsLeastUnmapped}
-use Rattle.varisat_names.specs.promises.VarData.{fresh, dead, data_at, IsDataAt, IsLeastRetired, AreDeleted}
+use Rattle.varisat_names.specs.promises.VarData.{fresh, dead, DataList, data_at, IsDataAt, IsLeastRetired, AreDeleted}
 use Rattle.varisat_names.specs.promises.Variables.{Tables, AreLinked, IsGiven, AreNextGiven, IsTaken, IsNothingHidden, AreFree}
 use Rattle.varisat_names.specs.declared.variables.data.VarData.{VarData}
 use Rattle.varisat_names.proofs.VarMap.{at-inside}
@@ -32,7 +32,7 @@ module _ (old new : List VarData) (free changed : BTreeSet ℕ) (x i : ℕ) (d :
   other-place : (y : ℕ) → (y ≡ x → ⊥) → is_at (nat_cmp i) y ≡ false
   other-place y n = grind (arith, nat_tests, is, n)
 
-  pub listed-put : AreDeleted new changed
+  listed-put : AreDeleted new changed
   listed-put y =
       let count = put.count in
       ⊎_elim
@@ -49,6 +49,16 @@ module _ (old new : List VarData) (free changed : BTreeSet ℕ) (x i : ℕ) (d :
         (λ p. let below = p.0 in same ∙ (listed y).1 (omega (arith, below, count, inside), sym flag ∙ p.1)),
       ))
       (equal_or_not y x)
+
+-- the same of tables whose list has other data at one place
+pub listed-set : {old given : DataList} {new : List VarData} {x i : ℕ} (changed : BTreeSet ℕ) (d : VarData) → old ≡ given → x < length given.kept →
+    AreDeleted given.kept given.free → new ≡ slice_set old.kept x d → i ≡ x → contains nat_cmp changed i ≡ d.deleted →
+    ((y : ℕ) → is_at (nat_cmp i) y ≡ false → contains nat_cmp changed y ≡ contains nat_cmp old.free y) → AreDeleted new changed
+listed-set {old} {given} {new} {x} {i} changed d same made listed e is there others =
+    let inside = subst (λ k. x < length k.kept) (sym same) made in
+    listed-put old.kept new old.free changed x i d is inside
+    (subst (λ ks. IsDataAt old.kept x d ks) (sym e) (set-kept old.kept x x d refl inside))
+    (subst (λ k. AreDeleted k.kept k.free) (sym same) listed) there others
 
 -- no variable past the list is live
 pub kept-past : (xs : List VarData) (i : ℕ) → length xs ≤ i → (data_at xs i).deleted ≡ true

@@ -152,6 +152,6 @@ impl<A: Allocator + Copy> Globals<A> {
         ensures kept { IsDataAt self.old.kept global new_data self.new.kept }
         ensures listed { AreDeleted self.new.kept self.new.free }
     {
-        self.data.set(global, new_data);
+        self.write_data(global, new_data);
     }
 }

@@ -1,7 +1,7 @@
 use Rattle.std.proofs.lemmas.Grind.{common_steps}
-use Rattle.std.proofs.Common.{◌<◌, length, slice_set, ◌∙◌, ap, sym, subst, refl, arith}
-use Rattle.varisat_names.specs.promises.VarData.{dead, IsDataAt, AreDeleted}
-use Rattle.varisat_names.proofs.Tables.{set-kept, listed-put}
+use Rattle.std.proofs.Common.{slice_set, ◌∙◌, ap, sym, subst, arith}
+use Rattle.varisat_names.specs.promises.VarData.{dead, AreDeleted}
+use Rattle.varisat_names.proofs.Tables.{listed-set}
 use Rattle.varisat_names.proofs.variables.globals.Globals.delete.Goals as goal
 
 pub returns-in_err-insert-clause-listed : goal.returns-in_err-insert-clause-listed
@@ -14,13 +14,6 @@ returns-clause-deleted g c = grind (arith, common_steps)
 
 pub returns-clause-listed : goal.returns-clause-listed
 returns-clause-listed g c =
-    let items = c.self.inside.data.items in
-    let x = c.args.global in
-    let e = ap (λ k. length k.kept) c.self.view_is in
-    let made = c.requires.made in
-    let inside : x < length items = omega (arith, e, made) in
-    let put = subst (λ ks. IsDataAt items x dead ks) (sym (c.set.ensures ∙ ap (slice_set items x) c.default.ensures)) (set-kept items x x dead refl inside) in
-    let listed = subst (λ k. AreDeleted k.kept k.free) (sym c.self.view_is) c.requires.listed in
     let updates = c.in_ok-insert.ensures.updates in
-    listed-put items c.set.new.self.items c.self.inside.free c.insert.new.self x c.index.result dead c.index.ensures.index inside put listed
-    updates.1 updates.2
+    listed-set c.insert.new.self dead c.self.view_is c.requires.made c.requires.listed (c.set.ensures ∙ ap (slice_set _ _) c.default.ensures)
+    c.index.ensures.index updates.1 updates.2

@@ -1,5 +1,5 @@
 -- Known literals and their marks.
-use Rattle.std.proofs.Common.{◌≡◌, ℕ, zero, suc, ◌+◌, ◌-◌, ◌<◌, ◌≤◌, Bool, true, false, IsTrue, ◌↔◌, List, [], ◌∷◌, ◌++◌, ◌⊎◌, inl, inr, length, take, take_all, drop, replicate, get_or, set, refl, sym, ◌∙◌, subst, ⊎_elim, arith}
+use Rattle.std.proofs.Common.{◌≡◌, ℕ, zero, suc, ◌+◌, ◌-◌, ◌<◌, ◌≤◌, Bool, true, false, IsTrue, ◌↔◌, List, [], ◌∷◌, ◌++◌, ◌⊎◌, inl, inr, length, take, take_all, drop, get_or, set, refl, sym, ◌∙◌, subst, ⊎_elim, arith}
 use Rattle.std.proofs.lemmas.List.{get_or-set_same, get_or-set_other, get_or_past, get_or_read, length-set, take_more, take-append-drop, length-drop}
 use Rattle.varisat_theory.specs.promises.Membership.{◌∈◌, IsDistinct}
 use Rattle.varisat_theory.proofs.clauses.Members.{∈-append_left, ∈-append_right, ∈-append_cases, ∈-or_not, distinct_append, equal_or_not}
@@ -73,23 +73,7 @@ marked_or_not xs ms l code b w p h e =
 pub not_past : (xs : List ℕ) (ms : List Bool) (l : ℕ) → MarksKnown xs ms → length ms ≤ l → l < place_limit → l ∈ xs → ⊥
 not_past xs ms l w h s m = let e : true ≡ false = sym (w.marked l m s) ∙ get_or_past ms l false h in absurd cc
 
--- 3. More marks.
-clear : (n k : ℕ) → get_or (replicate n false) k false ≡ false
-clear zero k = refl
-clear (suc n) zero = refl
-clear (suc n) (suc k) = clear n k
-
-padded : (ms : List Bool) (n k : ℕ) → get_or (ms ++ replicate n false) k false ≡ get_or ms k false
-padded [] n k = clear n k
-padded (m ∷ ms) n zero = refl
-padded (m ∷ ms) n (suc k) = padded ms n k
-
-pub resized : (ms ns : List Bool) (n m : ℕ) → length ms ≤ n → ns ≡ take n ms ++ replicate m false → (l : ℕ) → get_or ns l false ≡ get_or ms l false
-resized ms ns n m h e l =
-    subst (λ (x : List Bool). get_or x l false ≡ get_or ms l false) (sym e)
-    (subst (λ (x : List Bool). get_or (x ++ replicate m false) l false ≡ get_or ms l false) (sym (take_all n ms h)) (padded ms m l))
-
--- 4. Marks that are taken away.
+-- 3. Marks that are taken away.
 pub unmarked_none : (ms : List Bool) → LosesMarks [] ms ms
 unmarked_none ms = record { size = refl; none = λ l i. absurd i; rest = λ l n. refl }
 
@@ -133,7 +117,7 @@ unmarked_on ls k x f g h e l a = next ls k x f g h e (unmarked_past (take k ls) 
 pub unmarked_all : (ls : List ℕ) (k : ℕ) (f g : List Bool) → length ls ≤ k → LosesMarks (take k ls) f g → LosesMarks ls f g
 unmarked_all ls k f g h a = subst (λ (y : List ℕ). LosesMarks y f g) (take_all k ls h) a
 
--- 5. The first literals stay.
+-- 4. The first literals stay.
 taken : (n : ℕ) (xs : List ℕ) (l : ℕ) → l ∈ take n xs → l ∈ xs
 taken n xs l m = subst (λ (ys : List ℕ). l ∈ ys) (take-append-drop n xs) (∈-append_left l (take n xs) (drop n xs) m)
 

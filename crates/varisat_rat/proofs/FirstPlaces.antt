@@ -1,5 +1,5 @@
 -- Places before which no clause has a literal.
-use Rattle.std.proofs.Common.{◌≡◌, ℕ, zero, suc, ◌+◌, ◌<◌, ◌≤◌, List, [], ◌∷◌, ◌++◌, ◌⊎◌, Option, Some, None, Vec, set, take, take_all, replicate, length, get_or, refl, sym, ap, ◌∙◌, subst, inl, inr, ⊎_elim, arith}
+use Rattle.std.proofs.Common.{◌≡◌, ℕ, zero, suc, ◌+◌, ◌<◌, ◌≤◌, List, [], ◌∷◌, ◌++◌, ◌⊎◌, Option, Some, None, Vec, set, take, length, get_or, refl, sym, ap, ◌∙◌, subst, inl, inr, ⊎_elim, arith}
 use Rattle.varisat_theory.specs.promises.Membership.{◌∈◌}
 use Rattle.varisat_theory.specs.promises.Literals.{Literal, Clause}
 use Rattle.varisat_theory.proofs.clauses.Places.{∈-take_more}
@@ -56,20 +56,6 @@ noted_more literals old new i code place q g n w l m h =
 
 some_is : (c d : Clause) → Some c ≡ Some d → d ≡ c
 some_is c d e = let h : c ≡ d = cc in sym h
-
-replicated : (m l d : ℕ) → get_or (replicate m d) l d ≡ d
-replicated zero l d = refl
-replicated (suc m) zero d = refl
-replicated (suc m) (suc l) d = replicated m l d
-
-padded : (xs : List ℕ) (m l d : ℕ) → get_or (xs ++ replicate m d) l d ≡ get_or xs l d
-padded [] m l d = replicated m l d
-padded (x ∷ xs) m zero d = refl
-padded (x ∷ xs) m (suc l) d = padded xs m l d
-
-pub lengthened : (xs ys : List ℕ) (n m d : ℕ) → length xs ≤ n → ys ≡ take n xs ++ replicate m d → (l : ℕ) → get_or ys l d ≡ get_or xs l d
-lengthened xs ys n m d h e l =
-    ap (λ x. get_or x l d) e ∙ ap (λ x. get_or (x ++ replicate m d) l d) (take_all n xs h) ∙ padded xs m l d
 
 -- 2. The clauses.
 module _ {A : Type 0} where

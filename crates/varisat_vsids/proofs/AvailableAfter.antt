@@ -1,7 +1,7 @@
 -- For callers: how many variables there are, and which are available, after each call.
-use Rattle.std.proofs.Common.{◌≡◌, ◌≢◌, ℕ, ◌-◌, ◌<◌, ◌≤◌, List, length, get_or, replicate, Bool, false, refl, sym, ◌∙◌, inl, inr, arith, length-append, length-set, get_or-set_same, get_or-set_other}
-use Rattle.std.proofs.lemmas.Bool.{cases_lt}
-use Rattle.std.proofs.lemmas.List.{get_or_append_left, get_or-append_right, get_or_past, get_or-replicate, length-replicate}
+use Rattle.std.proofs.Common.{◌≡◌, ◌≢◌, ℕ, ◌-◌, ◌<◌, ◌≤◌, length, Bool, false, arith, length-append, length-set, get_or-set_same, get_or-set_other}
+use Rattle.std.proofs.lemmas.List.{length-replicate}
+use Rattle.varisat_theory.proofs.clauses.Padded.{padded}
 use Rattle.varisat_vsids.specs.Activities.{Activities, is_available, raised_to, with_available}
 
 pub is_available-with_available_same : (a : Activities) (v : ℕ) (b : Bool) → v < length a.available → is_available (with_available v b a) v ≡ b
@@ -13,23 +13,9 @@ is_available-with_available_other a v w b n = get_or-set_other a.available v w b
 pub length-with_available : (a : Activities) (v : ℕ) (b : Bool) → length (with_available v b a).available ≡ length a.available
 length-with_available a v b = length-set a.available v b
 
-none_of_replicate : (n i : ℕ) → get_or (replicate n false) i false ≡ false
-none_of_replicate n i =
-    elim (cases_lt i n) [
-      | inl t ↦ get_or-replicate n i false false t
-      | inr t ↦ get_or_past (replicate n false) i false (rw length-replicate t)
-    ]
-
 -- no variable becomes available as their count is raised
 pub is_available-raised_to : (a : Activities) (count v : ℕ) → is_available (raised_to count a) v ≡ is_available a v
-is_available-raised_to a count v =
-    let more : List Bool = replicate (count - length a.activity) false in
-    elim (cases_lt v (length a.available)) [
-      | inl t ↦ get_or_append_left a.available more false v t
-      | inr t ↦
-          get_or-append_right a.available more (length a.available) v false refl t ∙ none_of_replicate (count - length a.activity) (v - length a.available) ∙
-          sym (get_or_past a.available v false t)
-    ]
+is_available-raised_to a count v = padded false a.available (count - length a.activity) v
 
 pub length-raised_to : (a : Activities) (count : ℕ) → length a.available ≡ length a.activity → length a.activity ≤ count
     → (length (raised_to count a).activity ≡ count) × (length (raised_to count a).available ≡ count)

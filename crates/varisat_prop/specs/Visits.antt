@@ -1,5 +1,5 @@
 -- What a visit of a watch finds and does.
-use Rattle.std.specs.Prelude.{◌≡◌, ◌≢◌, ℕ, ◌<◌, ◌≤◌, Bool, true, false, Option, List, [], ◌∷◌, ◌++◌, length, ◌⊎◌}
+use Rattle.std.specs.Prelude.{◌≡◌, ◌≢◌, ℕ, ◌<◌, ◌≤◌, Bool, true, false, Option, List, [], ◌∷◌, ◌++◌, length, take, ◌⊎◌}
 use Rattle.varisat_theory.specs.promises.Membership.{◌∈◌}
 use Rattle.varisat_theory.specs.promises.Literals.{Literal, Clause, opposite}
 use Rattle.varisat_theory.specs.promises.Propagation.{IsFalse}
@@ -8,10 +8,22 @@ use Rattle.varisat_prop.specs.View.{View, clause_at}
 use Rattle.varisat_prop.specs.Looks.{Propagates, IsFalseAt}
 use Rattle.varisat_prop.specs.Watches.{Watches, watches_of, literal_in, IsWatchedBy, HasWatch, IsSatisfied, WatchesHoldTo, IsRearranged}
 use Rattle.varisat_prop.specs.declared.prop.watch_list.Watch.{Watch}
+use Rattle.varisat_prop.specs.declared.prop.watch_list.Taken.{Taken}
+use Rattle.varisat_prop.specs.declared.prop.watch_list.Taken.TheVariants as taken
 use Rattle.varisat_prop.specs.declared.prop.long.Found.{Found}
 use Rattle.varisat_prop.specs.declared.prop.long.Found.TheVariants as found
 use Rattle.varisat_prop.specs.declared.prop.long.Visit.{Visit}
 use Rattle.varisat_prop.specs.declared.prop.long.Visit.TheVariants as visit
+
+-- the watches that were taken
+abbrev pub taken_watches : {A : Type 0} → Taken A → List Watch
+taken_watches (taken.Few few count) = take count few
+taken_watches (taken.Many many) = many.items
+
+-- there are as many in place as were counted
+abbrev pub AreInPlace : {A : Type 0} → Taken A → Type 0
+AreInPlace (taken.Few few count) = count ≤ 2
+AreInPlace (taken.Many many) = Unit
 
 -- the first two literals are l and f, in one of the orders
 abbrev pub IsPair : Clause → Literal → Literal → Type 0

@@ -127,6 +127,16 @@ impl<A: Allocator + Copy> BinaryClauses<A> {
         self.list(lit.code())
     }
 
+    /// Reads where the list of the literal stands some time before it is needed, so that it is not waited for then. The number means
+    /// nothing.
+    #[inline(always)]
+    pub fn prefetch(&self, lit: Lit) -> u32 {
+        match self.by_lit.get(lit.code()) {
+            Some(list) => list.prefetch(),
+            None => 0,
+        }
+    }
+
     /// Takes from the literal's list what has a value, and all of it where the literal has one itself.
     fn simplify_list(&mut self, lit: Lit, values: &[Option<bool>])
         requires { lit < length self.old }

@@ -56,6 +56,12 @@ impl<A: Allocator + Copy> ShortList<A> {
         self.many.as_slice()
     }
 
+    /// Reads how many literals stand in place, so that memory has the list at hand. The number means nothing.
+    #[inline(always)]
+    pub(crate) fn prefetch(&self) -> u32 {
+        self.count
+    }
+
     /// Puts a literal behind the others.
     pub fn push(&mut self, lit: Lit) -> Result<(), AllocError>
         ensures { OnOk result (self.new ≡ self.old ++ lit ∷ []) }

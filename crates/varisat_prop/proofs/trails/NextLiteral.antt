@@ -1,6 +1,7 @@
 -- The next literal of the queue is propagated: by clauses of two literals, and then by the others.
 use Rattle.std.proofs.Common.{◌≡◌, ℕ, suc, ◌+◌, ◌-◌, ◌*◌, ◌<◌, Option, Some, List, [], length, get_or, refl, sym, ap, ◌∙◌, subst, arith, length-set, Result, Ok, Err}
 use Rattle.std.specs.Option.{MatchOption}
+use Rattle.std.specs.Result.{OnOk, IfOk}
 use Rattle.std.specs.List.{slice_get}
 use Rattle.std.proofs.lemmas.Option.{slice_get_within, get_or_from_slice_get}
 use Rattle.varisat_theory.specs.promises.Membership.{◌∈◌}
@@ -23,12 +24,13 @@ use Rattle.varisat_prop.proofs.watching.WatchesHold.{implied-next}
 use Rattle.varisat_prop.proofs.trails.PropagateQueue.{popped, put-back, watched-longer, watched-next, propagates-next}
 
 -- what the queue gives is the next literal
-pub next-taken : {W : Watches} {s : View} {l : Literal} → WellFormed s → IsWatched W s s.queue_head → Some l ≡ slice_get s.trail s.queue_head → IsNext W s l
-next-taken {s = s} {l = l} w h e = record {
+pub next-taken : {W V : Watches} {s : View} {l : Literal} → WellFormed s → IsWatched W s s.queue_head → V ≡ W → Some l ≡ slice_get s.trail s.queue_head →
+    IsNext V s l
+next-taken {s = s} {l = l} w h same e = record {
   well = w;
   head = get_or_from_slice_get s.trail s.queue_head l 0 (sym e);
   within = slice_get_within s.trail s.queue_head l (sym e);
-  watched = h;
+  watched = subst (λ X. IsWatched X s s.queue_head) (sym same) h;
 }
 
 -- it is true, and has lists
@@ -48,20 +50,13 @@ module _ {W : Watches} {s : View} {l : Literal} (n : IsNext W s l) where
   pub next-list : l < length W.lists
   next-list = let h = next-inside in omega (arith, h, n.watched.lists)
 
-  -- its list is taken out meanwhile
-  module _ {V : Watches} {ws : List Watch} (out : V ≡ with_watches W l []) (is : ws ≡ watches_of W l) where
-    pub taken-inside : l < length V.lists
-    taken-inside = let h = next-list in let a = ap (λ (X : Watches). length X.lists) out in let b = length-set W.lists l [] in omega (arith, h, a, b)
+  -- its watches are taken, and something is left in their place meanwhile
+  pub taken-inside : (left : List Watch) → l < length (with_watches W l left).lists
+  taken-inside left = let h = next-list in let e = length-set W.lists l left in omega (arith, h, e)
 
-    pub taken-back : with_watches V l ws ≡ W
-    taken-back = ap (λ xs. with_watches V l xs) is ∙ ap (λ (X : Watches). with_watches X l (watches_of W l)) out ∙ put-back W l
-
-    pub taken-next : IsNext (with_watches V l ws) s l
-    taken-next = subst (λ X. IsNext X s l) (sym taken-back) n
-
--- and is put back
-pub goes-put : {p q : SearchParts} {V X : Watches} → GoesOnWith p q V → X ≡ V → GoesOnWith p q X
-goes-put {p = p} {q = q} g e = subst (λ Y. GoesOnWith p q Y) (sym e) g
+  pub taken-next : (left ws : List Watch) → ws ≡ watches_of W l → IsNext (with_watches (with_watches W l left) l ws) s l
+  taken-next left ws is =
+      subst (λ X. IsNext X s l) (sym (ap (λ xs. with_watches (with_watches W l left) l xs) is ∙ put-back W l left)) n
 
 -- clauses of two literals were propagated
 module _ {W : Watches} {p q : SearchParts} {l : Literal} (n : IsNext W (view_of_parts p) l) (g : Propagates (view_of_parts p) (view_of_parts q))
@@ -105,6 +100,19 @@ ends-both {q = q} {r = r} {l = l} (Ok x) n g d m =
           (λ y i. subst (λ xs. y ∈ xs) (sym more.1)
           (∈-append_left y t.trail more.0 (d y (subst (λ (B : List (List ℕ)). y ∈ get_or B l []) g.propagates.grows.binary i)))),
     )
+
+-- the same, where the others may have been refused memory
+pub both-go : {E : Type 0} {W : Watches} {p q : SearchParts} (V : Watches) (r : SearchParts) (e : Result (Result (Unit {0}) Conflict) E) → GoesOnWith p q W →
+    OnOk e (GoesOnWith q r V) → OnOk e (GoesOnWith p r V)
+both-go V r (Ok end) g h = goes-then g h
+both-go V r (Err e) g h = h
+
+pub both-end : {E : Type 0} {W : Watches} {l : Literal} (V : Watches) (q r : SearchParts) (e : Result (Result (Unit {0}) Conflict) E) →
+    IsNext W (view_of_parts q) l →
+    ((m : Literal) → m ∈ implied_by (view_of_parts q) l → m ∈ q.trail.literals) → OnOk e (GoesOnWith q r V)
+    → IfOk e (EndsPropagation WatchesHoldNext (view_of_parts r)) → IfOk e (EndsPropagation IsNextPropagated (view_of_parts r))
+both-end V q r (Ok end) n d h m = ends-both end n h d m
+both-end V q r (Err e) n d h m = m
 
 -- Where all of the queue was propagated that stands before its head: what `propagate` keeps from literal to literal.
 pub record QueueGoesOn (p q : SearchParts) (V : Watches) : Type 0 where

@@ -51,8 +51,8 @@ propagates-next s u k p e a =
     }
 
 -- a list that was taken out and is put back
-pub put-back : (W : Watches) (l : Literal) → with_watches (with_watches W l []) l (watches_of W l) ≡ W
-put-back W l = ap (λ (ls : List (List Watch)). record W { lists = ls }) (set-set W.lists l [] (watches_of W l) ∙ set-get_or W.lists l [])
+pub put-back : (W : Watches) (l : Literal) (left : List Watch) → with_watches (with_watches W l left) l (watches_of W l) ≡ W
+put-back W l left = ap (λ (ls : List (List Watch)). record W { lists = ls }) (set-set W.lists l left (watches_of W l) ∙ set-get_or W.lists l [])
 
 pub kept-all : (xs : List Watch) (a r : ℕ) → length xs ≤ r → take a xs ++ drop r xs ≡ take a xs
 kept-all xs a r h = ap (λ ys. take a xs ++ ys) (drop_all r xs h) ∙ append-nil (take a xs)

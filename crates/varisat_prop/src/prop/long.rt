@@ -18,7 +18,7 @@ use crate::prop::enqueue::enqueue_assignment;
 use crate::prop::graph::{Conflict, ImplGraph, Reason};
 use crate::prop::trail::Trail;
 use crate::prop::watch::Watchlists;
-use crate::prop::watch_list::{FEW, Watch, WatchList};
+use crate::prop::watch_list::{Taken, Watch};
 use std::alloc::{AllocError, Allocator};
 use varisat_literals::Lit;
 
@@ -252,48 +252,6 @@ fn visit_watches<A: Allocator + Copy>(
     Ok(Visited { kept: write, end })
 }
 
-/// Visits the watches of a literal, which became true, and takes out of its list those that don't stay.
-pub(crate) fn visit_list<A: Allocator + Copy>(
-    assignment: &mut Assignment<A>,
-    alloc: &mut ClauseAlloc<A>,
-    graph: &mut ImplGraph<A>,
-    trail: &mut Trail<A>,
-    binary: &BinaryClauses<A>,
-    watchlists: &mut Watchlists<A>,
-    list: &mut WatchList<A>,
-    lit: Lit,
-) -> Result<Result<(), Conflict>, AllocError>
-    requires inside { lit < length watchlists.old.lists }
-    requires next { IsNext (with_watches watchlists.old lit list.old)
-        (view_of alloc.old binary.now assignment.old trail.old graph.old) lit }
-    ensures propagates { OnOk result
-        (PartsPropagate alloc.old alloc.new binary.now assignment.old assignment.new trail.old trail.new graph.old graph.new) }
-    ensures keeps { OnOk result
-        (PartsKeep alloc.old alloc.new binary.now assignment.old assignment.new trail.old trail.new graph.old graph.new) }
-    ensures next { OnOk result
-        (IsNext (with_watches watchlists.new lit list.new)
-        (view_of alloc.new binary.now assignment.new trail.new graph.new) lit) }
-    ensures ends { IfOk result
-        (EndsPropagation WatchesHoldNext (view_of alloc.new binary.now assignment.new trail.new graph.new)) }
-    ensures lists { OnOk result (length watchlists.new.lists ≡ length watchlists.old.lists) }
-{
-    let count = list.count as usize;
-    if count <= FEW {
-        let watches = &mut list.few[..count];
-        let visited = visit_watches(
-            assignment, alloc, graph, trail, binary, watchlists, watches, lit,
-        )?;
-        list.count = visited.kept as u32;
-        return Ok(visited.end);
-    }
-    let watches = list.many.as_mut_slice();
-    let visited = visit_watches(
-        assignment, alloc, graph, trail, binary, watchlists, watches, lit,
-    )?;
-    list.many.truncate(visited.kept);
-    Ok(visited.end)
-}
-
 /// Makes true what the clauses imply that watch the literal, which became true.
 pub fn propagate_long<A: Allocator + Copy>(
     assignment: &mut Assignment<A>,
@@ -310,10 +268,23 @@ pub fn propagate_long<A: Allocator + Copy>(
     ensures ends { IfOk result
         (EndsPropagation WatchesHoldNext (view_of alloc.new binary.now assignment.new trail.new graph.new)) }
 {
-    let mut list = watchlists.take_list(lit);
-    let end = visit_list(
-        assignment, alloc, graph, trail, binary, watchlists, &mut list, lit,
-    )?;
-    watchlists.put_list(lit, list);
-    Ok(end)
+    match watchlists.watched_by_mut(lit).take() {
+        Taken::Few(mut few, count) => {
+            let watches = &mut few[..count];
+            let visited = visit_watches(
+                assignment, alloc, graph, trail, binary, watchlists, watches, lit,
+            )?;
+            watchlists.watched_by_mut(lit).put_few(few, visited.kept);
+            Ok(visited.end)
+        }
+        Taken::Many(mut many) => {
+            let watches = many.as_mut_slice();
+            let visited = visit_watches(
+                assignment, alloc, graph, trail, binary, watchlists, watches, lit,
+            )?;
+            many.truncate(visited.kept);
+            watchlists.watched_by_mut(lit).put_many(many);
+            Ok(visited.end)
+        }
+    }
 }

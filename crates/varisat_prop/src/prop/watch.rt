@@ -20,6 +20,8 @@ pub struct Watchlists<A: Allocator + Copy> {
     watches: Vec<WatchList<A>, A>,
     /// Whether the lists are kept up to date. Else they are empty, until propagation fills them anew.
     enabled: bool,
+    // What `prefetch` read, added up: what is not used the compiler doesn't have read.
+    prefetched: u32,
 }
 
 impl<A: Allocator + Copy> Model for Watchlists<A> {
@@ -41,6 +43,7 @@ impl<A: Allocator + Copy> Watchlists<A> {
         Watchlists {
             watches: Vec::new(alloc),
             enabled: true,
+            prefetched: 0,
         }
     }
 
@@ -119,6 +122,18 @@ impl<A: Allocator + Copy> Watchlists<A> {
         ensures value { result.now ≡ watches_of self.old lit }
     {
         self.list_mut(lit.code())
+    }
+
+    /// Reads where the watches of the literal stand some time before they are needed, so that they are not waited for then. The
+    /// number is what else was read for that.
+    #[inline(always)]
+    pub fn prefetch(&mut self, lit: Lit, also: u32)
+        ensures { self.new ≡ self.old }
+    {
+        if let Some(list) = self.watches.get(lit.code()) {
+            let read = list.prefetch().wrapping_add(also);
+            self.prefetched = self.prefetched.wrapping_add(read);
+        }
     }
 
     /// Takes the watches of the literal out.

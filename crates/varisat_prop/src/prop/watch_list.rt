@@ -1,9 +1,11 @@
 //! The watches of one literal.
-ghost use Rattle.std.specs.Prelude.{◌≡◌, ◌<◌, ◌≤◌, ◌++◌, ◌∷◌, [], take, length, OnOk, slice_set};
+ghost use Rattle.std.specs.Prelude.{◌≡◌, ◌<◌, ◌≤◌, ◌⊎◌, ◌++◌, ◌∷◌, [], take, length, OnOk, slice_set};
+ghost use Rattle.varisat_prop.specs.Visits.{taken_watches, AreInPlace};
 
 use crate::clause::ClauseRef;
 use std::alloc::{AllocError, Allocator};
 use std::marker::Model;
+use std::mem;
 use varisat_literals::Lit;
 
 /// A watch on a clause.
@@ -16,6 +18,15 @@ pub struct Watch {
 
 /// How many watches stand in place.
 pub(crate) const FEW: usize = 2;
+
+/// The watches of a literal, for as long as propagation goes through them.
+#[derive(Drop)]
+pub(crate) enum Taken<A: Allocator + Copy> {
+    /// Copies of those that stand in place, and how many of the two these are.
+    Few([Watch; 2], usize),
+    /// All of them, where they don't stand in place.
+    Many(Vec<Watch, A>),
+}
 
 /// A list of watches. Up to two stand in place: where clauses are short few literals have more, and who has looked at the list has
 /// them too, and needs not wait for memory once more.
@@ -111,6 +122,48 @@ impl<A: Allocator + Copy> WatchList<A> {
         self.count += 1;
         self.many.push(watch)?;
         Ok(())
+    }
+
+    /// Reads how many watches stand in place, so that memory has the list at hand. The number means nothing.
+    #[inline(always)]
+    pub(crate) fn prefetch(&self) -> u32 {
+        self.count
+    }
+
+    /// Takes the watches out, or copies them where they stand in place: then they stay, until others are put there.
+    // A whole list that is moved out and back waits for what was written to its parts just before.
+    #[inline(always)]
+    pub(crate) fn take(&mut self) -> Taken<A>
+        ensures watches { taken_watches result ≡ self.old }
+        ensures few { AreInPlace result }
+        ensures left { (self.new ≡ self.old) ⊎ (self.new ≡ []) }
+    {
+        let count = self.count as usize;
+        if count <= FEW {
+            return Taken::Few([self.few[0], self.few[1]], count);
+        }
+        let alloc = *self.many.allocator();
+        Taken::Many(mem::replace(&mut self.many, Vec::new(alloc)))
+    }
+
+    /// Has as its watches the first ones of these, as many as `count`.
+    #[inline(always)]
+    pub(crate) fn put_few(&mut self, few: [Watch; 2], count: usize)
+        requires { count ≤ 2 }
+        ensures { self.new ≡ take count few }
+    {
+        self.few = few;
+        self.count = count as u32;
+        self.many.clear();
+    }
+
+    /// Has these as its watches.
+    #[inline(always)]
+    pub(crate) fn put_many(&mut self, many: Vec<Watch, A>)
+        ensures { self.new ≡ many.items }
+    {
+        self.count = FEW as u32 + 1;
+        self.many = many;
     }
 
     /// Takes all watches out.

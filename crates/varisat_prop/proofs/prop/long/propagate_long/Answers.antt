@@ -1,22 +1,22 @@
-use Rattle.std.proofs.Common.{arith}
-use Rattle.varisat_prop.proofs.trails.NextLiteral.{next-list, taken-inside, taken-next, goes-put, goes-to}
+use Rattle.std.proofs.Common.{◌∙◌, take, arith}
+use Rattle.varisat_prop.proofs.trails.NextLiteral.{taken-inside, taken-next}
 use Rattle.varisat_prop.proofs.prop.long.propagate_long.Goals as goal
 
-pub take_list-list-requires : goal.take_list-list-requires
-take_list-list-requires g c = next-list c.requires
+pub visit_watches-requires-clause-next : goal.visit_watches-requires-clause-next
+visit_watches-requires-clause-next g c =
+    taken-next c.requires c.take.new.self (take c.in-Few.count c.in-Few.few) (c.in-Few.ensures.watches ∙ c.watched_by_mut.ensures.value)
 
-pub visit_list-requires : goal.visit_list-requires
-visit_list-requires g c = record {
-  inside = taken-inside c.requires c.take_list-list.ensures.taken c.take_list-list.ensures.list;
-  next = taken-next c.requires c.take_list-list.ensures.taken c.take_list-list.ensures.list;
-}
+pub watched_by_mut-requires-in-Few : goal.watched_by_mut-requires-in-Few
+watched_by_mut-requires-in-Few g c =
+    let h = taken-inside c.requires c.take.new.self in
+    omega (arith, h, c.in_ok-visited-in-Few.ensures.lists)
 
-pub put_list-requires : goal.put_list-requires
-put_list-requires g c =
-    let h = taken-inside c.requires c.take_list-list.ensures.taken c.take_list-list.ensures.list in
-    omega (arith, h, c.in_ok-end.ensures.lists)
+pub visit_watches-requires-in-Many-clause-next : goal.visit_watches-requires-in-Many-clause-next
+visit_watches-requires-in-Many-clause-next g c =
+    taken-next c.requires c.take.new.self c.as_mut_slice-watches.result.now
+    (c.as_mut_slice-watches.ensures.value ∙ c.in-Many.ensures.watches ∙ c.watched_by_mut.ensures.value)
 
-pub returns-clause-goes : goal.returns-clause-goes
-returns-clause-goes g c =
-    let e = c.in_ok-end.ensures in
-    goes-put (goes-to e.keeps e.propagates e.next) c.put_list.ensures
+pub watched_by_mut-requires-in-Many : goal.watched_by_mut-requires-in-Many
+watched_by_mut-requires-in-Many g c =
+    let h = taken-inside c.requires c.take.new.self in
+    omega (arith, h, c.in_ok-visited-in-Many.ensures.lists)

@@ -39,17 +39,17 @@ queue-init g c =
     }
 
 pub propagate_lit-requires : goal.propagate_lit-requires
-propagate_lit-requires g c = next-taken c.queue.invariant.propagates.well c.queue.invariant.watched c.in-Some.ensures
+propagate_lit-requires g c = next-taken c.queue.invariant.propagates.well c.queue.invariant.watched c.prefetch_lists.ensures c.in-Some.ensures
 
 pub queue-preserved : goal.queue-preserved
 queue-preserved g c =
-    let n = next-taken c.queue.invariant.propagates.well c.queue.invariant.watched c.in-Some.ensures in
+    let n = next-taken c.queue.invariant.propagates.well c.queue.invariant.watched c.prefetch_lists.ensures c.in-Some.ensures in
     let st = rw c.in-Ok.is at c.in_ok-propagate_lit.ensures.ends in
     queue-next c.pop_queue.new.self n c.in_ok-propagate_lit.ensures.goes c.pop_queue.ensures.head c.pop_queue.ensures.taken c.queue.invariant st
 
 pub queue-smaller : goal.queue-smaller
 queue-smaller g c =
-    let n = next-taken c.queue.invariant.propagates.well c.queue.invariant.watched c.in-Some.ensures in
+    let n = next-taken c.queue.invariant.propagates.well c.queue.invariant.watched c.prefetch_lists.ensures c.in-Some.ensures in
     queue-shorter c.pop_queue.new.self n c.in_ok-propagate_lit.ensures.goes c.pop_queue.ensures.head c.pop_queue.ensures.taken
 
 pub returns-in-Err-clause-propagates : goal.returns-in-Err-clause-propagates

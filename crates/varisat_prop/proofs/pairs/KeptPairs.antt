@@ -102,19 +102,6 @@ implying-range s w l m i = let (d, j, e) = implied-kept s w l m i in let a = w.i
     let v = variable-opposite l in omega (arith, a, v)
 
 -- further literals, which imply nothing
-abbrev no_literals : List Literal
-no_literals = []
-
-none-implied : (n l : ℕ) → get_or (replicate n no_literals) l no_literals ≡ no_literals
-none-implied zero l = refl
-none-implied (suc n) zero = refl
-none-implied (suc n) (suc l) = none-implied n l
-
-pub implied-raised : (B : List (List Literal)) (n l : ℕ) → get_or (B ++ replicate n []) l [] ≡ get_or B l []
-implied-raised [] n l = none-implied n l
-implied-raised (ms ∷ B) n zero = refl
-implied-raised (ms ∷ B) n (suc l) = implied-raised B n l
-
 no-pairs : (k n : ℕ) → pairs_from k (replicate n []) ≡ []
 no-pairs k zero = refl
 no-pairs k (suc n) = no-pairs (suc k) n

@@ -1,8 +1,9 @@
 -- The values that an assignment keeps of literals.
-use Rattle.std.proofs.Common.{◌≡◌, ℕ, zero, suc, ◌+◌, ◌*◌, ◌-◌, ◌<◌, ◌≤◌, Bool, true, false, not, ◌↔◌, Option, Some, None, List, [], ◌∷◌, ◌++◌, ⊎_elim, length, get_or, set, replicate, take, refl, sym, ap, ◌∙◌, arith, length-set, length-append, get_or-set_same, get_or-set_other}
+use Rattle.std.proofs.Common.{◌≡◌, ℕ, ◌+◌, ◌*◌, ◌-◌, ◌<◌, ◌≤◌, Bool, true, false, not, ◌↔◌, Option, Some, None, List, ◌++◌, ⊎_elim, length, get_or, set, replicate, take, refl, sym, ap, ◌∙◌, arith, length-set, length-append, get_or-set_same, get_or-set_other}
 use Rattle.std.proofs.lemmas.List.{length-replicate, take_all, get_or_default}
 use Rattle.std.specs.Bool.{beq, IsTrue}
 use Rattle.std.specs.Option.{option_map}
+use Rattle.varisat_theory.proofs.clauses.Padded.{padded}
 use Rattle.varisat_theory.specs.promises.Literals.{Literal, variable_of, opposite}
 use Rattle.varisat_theory.proofs.clauses.Members.{equal_or_not}
 use Rattle.varisat_theory.proofs.clauses.Values.{parity}
@@ -12,19 +13,11 @@ use Rattle.varisat_prop.specs.Parts.{IsMadeTrue, value_in, literal_value, negate
 use Rattle.varisat_prop.specs.declared.prop.lit_value.LitValue.{LitValue}
 use Rattle.varisat_prop.specs.declared.prop.lit_value.LitValue.TheVariants as lit_value
 
--- more of what an index outside gives
-padded : {X : Type 0} (xs : List X) (n i : ℕ) (d : X) → get_or (xs ++ replicate n d) i d ≡ get_or xs i d
-padded [] zero i d = refl
-padded [] (suc n) zero d = refl
-padded [] (suc n) (suc i) d = padded [] n i d
-padded (x ∷ xs) n zero d = refl
-padded (x ∷ xs) n (suc i) d = padded xs n i d
-
 pub tells-more : (vs : List (Option Bool)) (fs : List LitValue) (m n : ℕ) → AreValuesOf vs fs →
     AreValuesOf (vs ++ replicate m None) (fs ++ replicate n lit_value.Unknown)
 tells-more vs fs m n t l =
-    padded fs n l lit_value.Unknown ∙ t l ∙ ap (λ (o : Option Bool). literal_value (option_map (λ b. beq b (polarity_of l)) o))
-    (sym (padded vs m (variable_of l) None))
+    padded lit_value.Unknown fs n l ∙ t l ∙ ap (λ (o : Option Bool). literal_value (option_map (λ b. beq b (polarity_of l)) o))
+    (sym (padded None vs m (variable_of l)))
 
 of-positive : (o : Option Bool) (p : Bool) → p ≡ true → literal_value o ≡ literal_value (option_map (λ b. beq b p) o)
 of-positive None p e = refl

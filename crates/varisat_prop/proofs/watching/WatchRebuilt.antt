@@ -1,6 +1,7 @@
 -- Lists that are made anew, and lists of more variables.
-use Rattle.std.proofs.Common.{◌≡◌, ◌≢◌, ℕ, zero, suc, true, ◌+◌, ◌<◌, ◌++◌, List, [], ◌∷◌, map, get_or, replicate, ◌⊎◌, inl, inr, ⊎_elim, refl, sym, ap, ◌∙◌, subst, arith, append_assoc}
+use Rattle.std.proofs.Common.{◌≡◌, ◌≢◌, ℕ, zero, suc, true, ◌+◌, ◌<◌, ◌++◌, List, [], ◌∷◌, map, replicate, ◌⊎◌, inl, inr, ⊎_elim, refl, sym, ap, ◌∙◌, subst, arith, append_assoc}
 use Rattle.varisat_theory.specs.promises.Membership.{◌∈◌, IsDistinct}
+use Rattle.varisat_theory.proofs.clauses.Padded.{padded}
 use Rattle.varisat_theory.specs.promises.Literals.{Literal, opposite}
 use Rattle.varisat_clause.specs.Stored.{StoredClause, IsClauseRef, AreRising, literals_at}
 use Rattle.varisat_prop.specs.declared.prop.watch_list.Watch.{Watch}
@@ -8,22 +9,14 @@ use Rattle.varisat_prop.specs.Watches.{Watches, watches_of, literal_in, IsWatche
 use Rattle.varisat_prop.specs.Visits.{WatchesClause}
 use Rattle.varisat_prop.proofs.watching.WatchesOnce.{once-gets}
 
--- an empty list changes no list
-pub more-lists : (L : List (List Watch)) (n i : ℕ) → get_or (L ++ replicate n []) i [] ≡ get_or L i []
-more-lists [] zero i = refl
-more-lists [] (suc n) zero = refl
-more-lists [] (suc n) (suc i) = more-lists [] n i
-more-lists (ws ∷ L) n zero = refl
-more-lists (ws ∷ L) n (suc i) = more-lists L n i
-
 abbrev pub with_more : Watches → ℕ → Watches
 with_more W n = record W { lists = W.lists ++ replicate n [] }
 
 pub watching-variables : (W : Watches) (n : ℕ) (P : List StoredClause) → IsWatching W P → IsWatching (with_more W n) P
 watching-variables W n P w = record {
-  known = λ x y h. w.known x y (subst (λ ws. y ∈ ws) (more-lists W.lists n x) h);
-  once = λ x. subst (λ ws. NameOnce ws) (sym (more-lists W.lists n x)) (w.once x);
-  watched = λ i j a b. subst (λ ws. HasWatch ws i) (sym (more-lists W.lists n (opposite (literal_in (literals_at P i) j)))) (w.watched i j a b);
+  known = λ x y h. w.known x y (subst (λ ws. y ∈ ws) (padded [] W.lists n x) h);
+  once = λ x. subst (λ ws. NameOnce ws) (sym (padded [] W.lists n x)) (w.once x);
+  watched = λ i j a b. subst (λ ws. HasWatch ws i) (sym (padded [] W.lists n (opposite (literal_in (literals_at P i) j)))) (w.watched i j a b);
 }
 
 -- As much of the lists as is made anew: all clauses are watched but those at the places that are left.

@@ -1,32 +1,23 @@
 -- More variables, for `set_var_count`.
-use Rattle.std.proofs.Common.{◌≡◌, Bool, false, ◌&&◌, not, nat_eq, ℕ, zero, suc, ◌+◌, ◌*◌, ◌-◌, ◌≤◌, ◌^◌, Option, None, List, [], ◌∷◌, ◌++◌, map, take, length, get_or, replicate, inl, inr, ⊎_elim, refl, sym, ap, ap₂, ◌∙◌, subst, arith, length-append}
+use Rattle.std.proofs.Common.{◌≡◌, Bool, false, ◌&&◌, not, nat_eq, ℕ, zero, suc, ◌+◌, ◌*◌, ◌-◌, ◌≤◌, ◌^◌, Option, None, List, [], ◌∷◌, ◌++◌, map, take, length, replicate, inl, inr, ⊎_elim, refl, sym, ap, ap₂, ◌∙◌, subst, arith, length-append}
 use Rattle.std.proofs.lemmas.List.{length-replicate}
 use Rattle.std.specs.Prelude.{cond}
 use Rattle.std.specs.List.{filter}
 use Rattle.varisat_theory.specs.promises.Membership.{◌∈◌}
 use Rattle.varisat_theory.specs.promises.Literals.{Literal, Clause, variable_of, opposite}
 use Rattle.varisat_theory.specs.promises.Propagation.{IsComplete}
+use Rattle.varisat_theory.proofs.clauses.Padded.{padded}
 use Rattle.varisat_prop.specs.declared.prop.graph.Reason.{Reason}
 use Rattle.varisat_prop.specs.declared.prop.graph.Reason.TheVariants as reason
 use Rattle.varisat_prop.specs.declared.prop.graph.ImplNode.{ImplNode}
 use Rattle.varisat_clause.specs.Stored.{literals_of}
 use Rattle.varisat_prop.specs.View.{View, IsTrueIn, kept, implied_by, clause_at, literal_at, decision_at, node_of, node_at, no_node, Implies, IsReason, WellFormed, PropagatedBeforeDecisions, is_clause}
 use Rattle.varisat_prop.specs.Watches.{Watches, IsPropagated}
-use Rattle.varisat_prop.proofs.watching.WatchRebuilt.{with_more, more-lists, watching-variables}
-use Rattle.varisat_prop.proofs.pairs.KeptPairs.{implied-raised, pairs-raised}
+use Rattle.varisat_prop.proofs.watching.WatchRebuilt.{with_more, watching-variables}
+use Rattle.varisat_prop.proofs.pairs.KeptPairs.{pairs-raised}
 use Rattle.varisat_prop.specs.declared.prop.watch_list.Watch.{Watch}
 use Rattle.varisat_analysis.specs.HeaderChanges.{kept_clause}
 use Rattle.varisat_search.specs.Seen.{kept_pair, is_fixed, is_proved, search_of}
-
-pub get_or-padded : {X : Type 0} (xs : List X) (n v : ℕ) (d : X) → get_or (xs ++ replicate n d) v d ≡ get_or xs v d
-get_or-padded [] n v d = none n v
-  where
-    none : (n v : ℕ) → get_or (replicate n d) v d ≡ d
-    none zero v = refl
-    none (suc n) zero = refl
-    none (suc n) (suc v) = none n v
-get_or-padded (x ∷ xs) n zero d = refl
-get_or-padded (x ∷ xs) n (suc v) d = get_or-padded xs n v d
 
 filter-same : (p q : ℕ → Bool) (xs : List ℕ) → ((x : ℕ) → p x ≡ q x) → filter p xs ≡ filter q xs
 filter-same p q [] h = refl
@@ -37,19 +28,19 @@ module _ (s : View) (m n o : ℕ) (w : WellFormed s) where
   grown = record s { binary = s.binary ++ replicate o []; values = s.values ++ replicate m None; nodes = s.nodes ++ replicate n no_node }
 
   implied-same : (l : Literal) → implied_by grown l ≡ implied_by s l
-  implied-same l = implied-raised s.binary o l
+  implied-same l = padded [] s.binary o l
 
   pub grown-kept : kept grown ≡ kept s
   grown-kept = ap (λ ps. literals_of s.clauses ++ ps) (pairs-raised s.binary 0 o)
 
   true-to : (l : Literal) → IsTrueIn s l → IsTrueIn grown l
-  true-to l h = get_or-padded s.values m (variable_of l) None ∙ h
+  true-to l h = padded None s.values m (variable_of l) ∙ h
 
   true-from : (l : Literal) → IsTrueIn grown l → IsTrueIn s l
-  true-from l h = sym (get_or-padded s.values m (variable_of l) None) ∙ h
+  true-from l h = sym (padded None s.values m (variable_of l)) ∙ h
 
   node-same : (l : Literal) → node_of grown l ≡ node_of s l
-  node-same l = get_or-padded s.nodes n (variable_of l) no_node
+  node-same l = padded no_node s.nodes n (variable_of l)
 
   level-same : (k : ℕ) → (node_at grown k).level ≡ (node_at s k).level
   level-same k = ap (λ n. n.level) (node-same (literal_at s k))
@@ -127,11 +118,11 @@ grown-propagated W V s B vs ns count e n h f p =
       lists = (let a = length-append W.lists (replicate k []) in let b = length-replicate {A = List Watch} k [] in let c = p.lists in
           omega (arith, a, b, c, n, h));
       watching = λ o. watching-variables W k s.clauses (p.watching o);
-      empty = λ o x. more-lists W.lists k x ∙ p.empty o x;
+      empty = λ o x. padded [] W.lists k x ∙ p.empty o x;
       settled = p.settled;
       binary = (let a = length-append s.binary (replicate o []) in let b = length-replicate {A = List Literal} o [] in let c = p.binary in
           omega (arith, a, b, c, n, h));
-      implied = λ m q l i. p.implied m q l (subst (λ xs. m ∈ xs) (implied-raised s.binary o (literal_at s q)) i);
+      implied = λ m q l i. p.implied m q l (subst (λ xs. m ∈ xs) (padded [] s.binary o (literal_at s q)) i);
       queue = p.queue;
     })
 

@@ -1,11 +1,12 @@
 use Rattle.std.proofs.Common.{◌≡◌, ℕ, ◌-◌, ◌≤◌, Bool, Option, None, ◌++◌, length, get_or, replicate, inl, inr, ⊎_elim, sym, ap, ◌∙◌, subst, arith, length-append, ◌*◌, false, [], refl}
 use Rattle.std.proofs.lemmas.List.{length-replicate}
 use Rattle.varisat_theory.specs.promises.Membership.{◌∈◌}
+use Rattle.varisat_theory.proofs.clauses.Padded.{padded}
 use Rattle.varisat_prop.specs.View.{View, kept}
 use Rattle.varisat_vsids.specs.Activities.{Activities, is_available, raised_to}
 use Rattle.varisat_vsids.proofs.AvailableAfter.{is_available-raised_to, length-raised_to}
 use Rattle.varisat_search.specs.Decisions.{CanDecide, SameDecidable}
-use Rattle.varisat_search.proofs.variables.SetVarCount.{get_or-padded, Grown, grown-flags, grown-propagated, grown-result}
+use Rattle.varisat_search.proofs.variables.SetVarCount.{Grown, grown-flags, grown-propagated, grown-result}
 use Rattle.varisat_search.proofs.variables.DecidableVariables.{can-decide}
 use Rattle.std.proofs.lemmas.Grind.{common_steps}
 use Rattle.varisat_search.specs.Contexts.{view}
@@ -20,7 +21,7 @@ use Rattle.varisat_search.proofs.context.set_var_count.Goals as goal
 module _ (s t : View) (a : Activities) (count : ℕ) where
   raised-same : {b : Activities} → t.values ≡ s.values ++ replicate (count - length s.values) None → b ≡ raised_to count a → SameDecidable s a t b
   raised-same {b} e f v =
-      let x : get_or t.values v None ≡ get_or s.values v None = ap (λ xs. get_or xs v None) e ∙ get_or-padded s.values (count - length s.values) v None in
+      let x : get_or t.values v None ≡ get_or s.values v None = ap (λ xs. get_or xs v None) e ∙ padded None s.values (count - length s.values) v in
       let y : is_available b v ≡ is_available a v = ap (λ (z : Activities). is_available z v) f ∙ is_available-raised_to a count v in
       (⊎_elim (λ n. inl (λ z. n (sym x ∙ z))) (λ z. inr (y ∙ z)), ⊎_elim (λ n. inl (λ z. n (x ∙ z))) (λ z. inr (sym y ∙ z)))
 

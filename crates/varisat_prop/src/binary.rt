@@ -130,7 +130,7 @@ impl<A: Allocator + Copy> BinaryClauses<A> {
     /// Reads where the list of the literal stands some time before it is needed, so that it is not waited for then. The number means
     /// nothing.
     #[inline(always)]
-    pub fn prefetch(&self, lit: Lit) -> u32 {
+    pub(crate) fn prefetch(&self, lit: Lit) -> u32 {
         match self.by_lit.get(lit.code()) {
             Some(list) => list.prefetch(),
             None => 0,

@@ -7,6 +7,58 @@ say() {
   (echo "varisat: $1" >&2) || true
 }
 
+stop() {
+  say "$1"
+  exit 2
+}
+
+# Says the end of a log, and why this script stops.
+stop_with_log() {
+  tail -n 20 "$1" >&2 || true
+  stop "$2"
+}
+
+require_rt() {
+  command -v rt >/dev/null ||
+    stop "the command rt is not there: install the Rattle kit that the README names, and put its folder bin on the PATH"
+}
+
+# Runs a command that takes long in a process group of its own, which a signal to this script ends. The command lets go of streams
+# that it does not need: if this script is killed, nobody waits for their end.
+running=''
+work=''
+run_long() {
+  local status=0
+  set -m
+  "$@" &
+  running=$!
+  set +m
+  wait "$running" || status=$?
+  running=''
+  return "$status"
+}
+
+clean() {
+  if [ -n "$running" ]; then
+    kill -- "-$running" 2>/dev/null || true
+    wait "$running" 2>/dev/null || true
+  fi
+  [ -z "$work" ] || rm -rf "$work"
+  running='' work=''
+}
+
+end_by() {
+  trap - EXIT "$1"
+  clean
+  kill -s "$1" $$
+}
+
+clean_at_end() {
+  local signal
+  trap clean EXIT
+  for signal in HUP INT TERM; do trap "end_by $signal" "$signal"; done
+}
+
 # The crates that the crate $1 is built from, a line each, and it at last.
 crates() {
   awk -v target="$1" '
@@ -21,7 +73,17 @@ crates() {
     END { visit(target) }' "$root/crates.txt"
 }
 
-# Of these the search and those above it. Each of them uses most that come before.
+# Whether the file $1 is there, and nothing is newer that the crate $2 is built from.
+is_newest() {
+  local parts newer
+  [ -e "$1" ] || return
+  parts=$(crates "$2" | sed 's|.*|crates/&/src crates/&/specs crates/&/proofs|')
+  # Not each crate has all three.
+  newer=$(cd "$root" && find crates.txt $parts -newer "$1" -print -quit 2>/dev/null) || true
+  [ -z "$newer" ]
+}
+
+# Of the crates that the crate $1 is built from, the search and those above it. Each of them uses most that come before.
 last_crates() {
   crates "$1" | grep -xF "$(awk '
     { name = $1; sub(":", "", name); last = name == "varisat_search" }
@@ -33,14 +95,14 @@ last_crates() {
 copy_crates() {
   local name part
   for name in "$@"; do
-    mkdir "crates/$name"
+    mkdir "crates/$name" || return
     for part in "$root/crates/$name"/*; do
       case ${part##*/} in
         out | must-fail) ;;
-        *) cp -r "$part" "crates/$name" ;;
+        *) cp -r "$part" "crates/$name" || return ;;
       esac
     done
-    grep "^$name[ :]" "$root/crates.txt" >>crates.txt
+    grep "^$name[ :]" "$root/crates.txt" >>crates.txt || return
   done
 }
 
@@ -64,8 +126,7 @@ prove_crate() (
   done
   for folder in "$PWD"/crates/*/out/rlib; do words+=(-L "dependency=$folder"); done
   words+=(--antt-project "$kit/rattle/logic/antt-project.json" --logic-built "$kit/logic_built" --links "$name=" --jobs "$jobs")
-  cd "crates/$name"
-  mkdir -p out/rlib
+  cd "crates/$name" && mkdir -p out/rlib || exit
   if [ -f src/main.rt ]; then
     "$kit/bin/rattle" build src/main.rt "${words[@]}" --toolchain "$kit/toolchain" -o "out/$name.o" && link_program "$kit" "out/$name"
   elif [[ $line = *" staticlib:"* ]]; then
@@ -80,12 +141,8 @@ prove_crate() (
 prove_all() {
   local last name jobs
   last=$(last_crates "$1")
-  cp "$root/HANDLES" .
   # rt wants crates.txt at the top of a repository, and takes this folder for one.
-  mkdir .git crates
-  copy_crates $(crates "$1" | grep -vxF "$last")
-  rt ci || return
-  copy_crates $last
+  mkdir .git crates && cp "$root/HANDLES" . && copy_crates $(crates "$1" | grep -vxF "$last") && rt ci && copy_crates $last || return
   # More processes seldom gain.
   jobs=$((${RT_JOBS:-1} < 8 ? ${RT_JOBS:-1} : 8))
   for name in $last; do
@@ -110,7 +167,6 @@ tell_progress() {
 prove_target() {
   exec </dev/null >/dev/null
   set_jobs
-  mkdir "$2"
-  cd "$2"
+  mkdir "$2" && cd "$2" || return
   prove_all "$1" 2>&1 | tee "$3" | tell_progress "$1"
 }

@@ -1,6 +1,7 @@
 """Which settings decide files in less time."""
 import datetime
 import statistics
+from concurrent.futures import ThreadPoolExecutor
 
 import formulas
 import learning
@@ -48,24 +49,30 @@ def families(seed):
 def add_arguments(command):
     command.add_argument("--limit", type=learning.positive, default=30, metavar="SECONDS", help="seconds of the processor for a run (30)")
     command.add_argument("--seeds", type=learning.positive, default=4, help="how many formulas of each kind (4)")
+    command.add_argument("--at-once", type=learning.positive, default=1, metavar="COUNT", help="runs at a time (1)")
 
 
 def told(settings):
     return ", ".join(f"{name} {number}" for name, number in settings.items())
 
 
+def decide(formula, settings, limit):
+    return programs.decide_by_session(formula.clauses, limit, {**OURS, **settings}.items())
+
+
 def run(arguments):
     programs.build_ours()
     drawn = {name: formula for seed in range(arguments.seeds) for name, formula in families(seed).items()}
-    print(f"{datetime.date.today()}, {programs.machine()}: {len(drawn)} formulas, at most {arguments.limit} s each")
+    print(f"{datetime.date.today()}, {programs.machine()}: {len(drawn)} formulas, at most {arguments.limit} s each, {arguments.at_once} at a time")
     times, verdicts = {}, {}
-    for name, formula in drawn.items():
-        for place, settings in enumerate([{}, *TRIED]):
-            found = programs.decide_by_session(formula.clauses, arguments.limit, {**OURS, **settings}.items())
-            # A run past the limit counts as one at the limit.
-            times[name, place] = min(found.taken.processor, arguments.limit)
-            verdicts.setdefault(name, set()).add(found.verdict)
-        print(f"  {name:<20} {times[name, 0]:8.2f} s", flush=True)
+    with ThreadPoolExecutor(arguments.at_once) as pool:
+        for name, formula in drawn.items():
+            runs = [pool.submit(decide, formula, settings, arguments.limit) for settings in [{}, *TRIED]]
+            for place, found in enumerate(run.result() for run in runs):
+                # A run past the limit counts as one at the limit.
+                times[name, place] = min(found.taken.processor, arguments.limit)
+                verdicts.setdefault(name, set()).add(found.verdict)
+            print(f"  {name:<20} {times[name, 0]:8.2f} s", flush=True)
     print("\nthe time under the settings of solve with these in their place, divided by that under the settings of solve:")
     print("geometric mean, and how many formulas take less than 0.9 and more than 1.1 of it")
     for place, settings in enumerate(TRIED, 1):

@@ -117,6 +117,8 @@ impl<A: Allocator + Copy> AnalyzeConflict<A> {
 }
 
 /// The level of the false literal, unless it is 0 or the literal's variable is marked.
+// Like four more below it is compiled in place: a call would write the parts to memory, for each literal or each reason.
+#[inline(always)]
 fn level_to_mark<A: Allocator + Copy>(
     parts: Parts<'_, A>,
     var_flags: &[bool],
@@ -141,6 +143,7 @@ fn level_to_mark<A: Allocator + Copy>(
 
 /// Marks the variables of false literals. Those below the current level join the clause; returns how many of the
 /// current level are new.
+#[inline(always)]
 fn add_literals<A: Allocator + Copy>(
     parts: Parts<'_, A>,
     scratch: &mut Scratch<A>,
@@ -171,6 +174,7 @@ fn add_literals<A: Allocator + Copy>(
 }
 
 /// Lists the clause that made the literal true, if there is one.
+#[inline(always)]
 fn list_reason<A: Allocator + Copy>(
     involved: &mut Vec<Conflict, A>,
     lit: Lit,
@@ -188,6 +192,7 @@ fn list_reason<A: Allocator + Copy>(
 
 /// Lists the true literal's reason and adds the other literals of the reason. Returns how many of the current level are
 /// new.
+#[inline(always)]
 fn add_reason<A: Allocator + Copy>(
     parts: Parts<'_, A>,
     scratch: &mut Scratch<A>,
@@ -262,6 +267,7 @@ pub(crate) fn clear_all_flags(var_flags: &mut [bool])
 
 /// Marks the literals that are false where a reason holds, and puts their opposites on the stack. Returns false where
 /// one of them can't be implied by the clause.
+#[inline(always)]
 fn mark_causes<A: Allocator + Copy>(
     parts: Parts<'_, A>,
     scratch: &mut Scratch<A>,

@@ -6,7 +6,7 @@ use Rattle.varisat_literals.specs.promises.Numbers.{polarity_of}
 use Rattle.varisat_prop.specs.declared.prop.lit_value.LitValue.{LitValue}
 use Rattle.varisat_prop.specs.declared.prop.lit_value.LitValue.TheVariants as lit_value
 
--- For each variable the value that it has, and the value that `release_var` remembered last, false at first.
+-- For each variable the value that it has, and the value that `release_lit` remembered last, false at first.
 pub record Values : Type 0 where
   pub current : List (Option Bool)
   pub last : List Bool

@@ -21,9 +21,8 @@ fn undo<A: Allocator + Copy>(ctx: &mut Context<A>, level: usize, waits: bool)
     let end = ctx.trail.level_end(level);
     for place in end..ctx.trail.trail().len() {
         let lit = ctx.trail.trail()[place];
-        let var = lit.var();
-        ctx.assignment.release_var(var);
-        ctx.vsids.release(var, waits);
+        ctx.assignment.release_lit(lit);
+        ctx.vsids.release(lit.var(), waits);
     }
     ctx.trail.truncate(level);
     ctx.assumptions.lower_levels(level);

@@ -71,6 +71,16 @@ root_is_greatest activity heap position available blocks n cursor v i d h a some
           ];
     }
 
+-- who stands among the first n is available already
+pub stands_available : (a position : List ℕ) (available blocks : List Bool) (n cursor v x : ℕ) →
+    AreIdleOutside a (availability n position) available blocks cursor → v < length position → x ≡ get_or position v x → x < n
+    → set available v true ≡ available
+stands_available a position available blocks n cursor v x h known r below =
+    let at : get_or position v 0 ≡ x = sym (get_or_default_zero position v x known) ∙ sym r in
+    let s : get_or (availability n position) v false ≡ true =
+    get_or-map (λ p. nat_lt p n) position v 0 false known ∙ ap (λ p. nat_lt p n) at ∙ lt-ltb x n below in
+    ap (λ (y : Bool). set available v y) (sym (h.inside v s)) ∙ set-get_or available v false
+
 -- nothing changes where the variable is or is not available as it should be
 pub availability-set_same : (n : ℕ) (position : List ℕ) (v : ℕ) (b : Bool) → v < length position → nat_lt (get_or position v 0) n ≡ b →
     set (availability n position) v b ≡ availability n position
@@ -81,19 +91,6 @@ availability-set_same n position v b h e =
 -- a number of a list, as it was read at the variable's index
 pub read_at : (xs : List ℕ) (w v x : ℕ) → v < length xs → w ≡ v → x ≡ get_or xs w x → x ≡ get_or xs v 0
 read_at xs w v x h e r = rw e at r ∙ get_or_default_zero xs v x h
-
--- the variable at index w is or is not available as it should be already
-availability_is : (n : ℕ) (heap position : List ℕ) (w v x : ℕ) (b : Bool) → IsLinked heap position → v < length heap → w ≡ v →
-    x ≡ get_or position w x → nat_lt x n ≡ b → availability n position ≡ set (availability n position) v b
-availability_is n heap position w v x b l h e r t =
-    let known : v < length position = omega (arith, h, l.count) in
-    sym (availability-set_same n position v b known (rw (read_at position w v x known e r) at t))
-
-pub stays_as : (a heap position : List ℕ) (n i d w v x : ℕ) (b : Bool) → IsLinked heap position → v < length heap → w ≡ v →
-    x ≡ get_or position w x → nat_lt x n ≡ b
-    → activities_with a (availability n position) i d ≡ activities_with a (set (availability n position) v b) i d
-stays_as a heap position n i d w v x b l h e r t = ap (λ (available : List Bool). activities_with a available i d)
-    (availability_is n heap position w v x b l h e r t)
 
 -- the variable at place p is v
 pub of_variable : (n m : ℕ) (heap position heap' position' new : List ℕ) (p w v : ℕ) (b : Bool) → IsLinked heap position → heap' ≡ heap →

@@ -67,14 +67,13 @@ idle_stands a a' standing available b c v h vs va ea same =
     idle_set a a' standing available b b c c v true true h vs va ea refl h.within (λ e. refl) (λ e f. absurd (not_both true refl f))
     (λ u n i. record { zero = same u n ∙ i.zero; ahead = i.ahead; block = i.block })
 
--- it becomes idle
+-- it becomes available where it is, and may be idle from then on
 pub idle_waits : (a : List ℕ) (standing available b : List Bool) (c v : ℕ) → AreIdleOutside a standing available b c → v < length standing →
-    v < length available → get_or a v 0 ≡ 0
-    → AreIdleOutside a (set standing v false) (set available v true) (set b (v / 64) true) (min c v)
+    v < length available → get_or a v 0 ≡ 0 → AreIdleOutside a standing (set available v true) (set b (v / 64) true) (min c v)
 idle_waits a standing available b c v h vs va e =
     let k : v / 64 < length b = omega (arith, va, h.count, h.block_count) in
-    idle_set a a standing available b (set b (v / 64) true) c (min c v) v false true h vs va refl (length-set b (v / 64) true)
-    (omega (arith, va, h.count, h.within)) (λ e. refl)
+    rw (set-get_or standing v false) at (idle_set a a standing available b (set b (v / 64) true) c (min c v) v (get_or standing v false) true h
+    vs va refl (length-set b (v / 64) true) (omega (arith, va, h.count, h.within)) (λ e. refl)
     (λ t f. record { zero = e; ahead = omega arith; block = get_or-set_same b (v / 64) true false k })
     (λ u n i. record {
       zero = i.zero;
@@ -84,7 +83,7 @@ idle_waits a standing available b c v h vs va e =
             | inl t ↦ rw t.1 (get_or-set_same b (v / 64) true false k)
             | inr t ↦ get_or-set_other b (v / 64) (u / 64) true false t.1 ∙ i.block
           ];
-    })
+    }))
 
 -- another activity of one that stands, or is not available
 pub idle_raised : (a : List ℕ) (standing available b : List Bool) (c v x : ℕ) → AreIdleOutside a standing available b c

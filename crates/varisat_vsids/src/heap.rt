@@ -138,6 +138,8 @@ fn sink(activity: &[u64], heap: &mut [Var], position: &mut [u32], len: usize, at
 
 /// Puts the heap in order after the activity of one variable has risen, which comes into it where that is asked. Returns
 /// how many variables the heap has then.
+// A conflict bumps dozens of variables, most of which stay where they are, so that it is compiled in place.
+#[inline(always)]
 pub fn enter_risen(
     activity: &[u64],
     heap: &mut [Var],

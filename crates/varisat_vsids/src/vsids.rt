@@ -213,15 +213,15 @@ impl<A: Allocator + Copy> Vsids<A> {
         ensures { self.new ≡ with_available var true self.old }
     {
         let index = var.index();
+        let place = self.position[index] as usize;
+        // What stands in the heap is available already, as most is that a search undoes.
+        if place < self.len {
+            return;
+        }
         self.available[index] = true;
-        // Where it stands in the heap it is not idle, but may be noted as such: so its position need not be read.
         if waits && self.activity[index] == 0 {
             note_block(&mut self.blocks, index);
             self.cursor = self.cursor.min(index);
-            return;
-        }
-        let place = self.position[index] as usize;
-        if place < self.len {
             return;
         }
         put_in(

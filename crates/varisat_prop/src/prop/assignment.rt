@@ -2,7 +2,7 @@
 ghost use Rattle.std.specs.Prelude.{◌≡◌, ◌<◌, ◌≤◌, ◌↔◌, ◌++◌, ◌-◌, IsTrue, [], length, replicate, slice_index_or, slice_set, Option, Some, None, true, false, OnOk, OnErr};
 ghost use Rattle.varisat_theory.specs.promises.Literals.{variable_of, opposite};
 ghost use Rattle.varisat_literals.specs.promises.Numbers.{polarity_of};
-ghost use Rattle.varisat_prop.specs.Parts.{IsMadeTrue, value_in, no_values, is_true_value, without_value};
+ghost use Rattle.varisat_prop.specs.Parts.{IsMadeTrue, value_in, no_values, without_value};
 
 use crate::prop::lit_value::LitValue;
 use std::alloc::{AllocError, Allocator};
@@ -81,15 +81,15 @@ impl<A: Allocator + Copy> Assignment<A> {
         self.assignment.as_slice()
     }
 
-    /// Takes the variable's value away, and remembers it as the last, or false where it has none.
-    pub fn release_var(&mut self, var: Var)
-        requires { var < length self.old.current }
+    /// Takes the value of the true literal's variable away, and remembers it as the last.
+    // A search undoes nearly all that it propagates. The literal tells the value, so that it is not read again.
+    pub fn release_lit(&mut self, lit: Lit)
+        requires { IsMadeTrue self.old.current lit }
         ensures count { length self.old.last ≡ length self.old.current }
-        ensures released { self.new
-            ≡ without_value var (is_true_value (slice_index_or self.old.current var None)) self.old }
+        ensures released { self.new ≡ without_value (variable_of lit) (polarity_of lit) self.old }
     {
-        self.last_value[var.index()] = self.assignment[var.index()] == Some(true);
-        self.unassign_var(var);
+        self.last_value[lit.index()] = lit.is_positive();
+        self.unassign_var(lit.var());
     }
 
     /// Takes the variable's value away, and also what was remembered of it: the last is false, as at first.
@@ -109,7 +109,7 @@ impl<A: Allocator + Copy> Assignment<A> {
         self.assignment[var.index()]
     }
 
-    /// The value of the variable that `release_var` remembered last, false at first.
+    /// The value of the variable that `release_lit` remembered last, false at first.
     pub fn last_var_value(&self, var: Var) -> bool
         requires { var < length self.now.current }
         ensures { result ≡ slice_index_or self.now.last var false }

@@ -8,7 +8,7 @@ use Rattle.varisat_prop.proofs.trails.LiteralValues.{made-inside}
 use Rattle.varisat_vsids.specs.Activities.{Activities, is_available, with_available}
 use Rattle.varisat_search.specs.Decisions.{MakesAvailable}
 use Rattle.varisat_literals.specs.promises.Numbers.{polarity_of}
-use Rattle.varisat_prop.specs.Parts.{is_true_value}
+use Rattle.varisat_prop.specs.Parts.{IsMadeTrue}
 use Rattle.varisat_search.specs.Steps.{Saves}
 use Rattle.varisat_search.proofs.stepping.Backtrack.{Cutting}
 use Rattle.varisat_analysis.proofs.WellFormedViews.{same-place}
@@ -58,29 +58,33 @@ pub record Saving (s : View) (last now : List Bool) (p k : ℕ) : Type 0 where
 pub saving-start : (s : View) (last : List Bool) (p : ℕ) → Saving s last last p p
 saving-start s last p = record { count = refl; left = λ j a b. absurd (omega (arith, a, b)); stays = λ v h. refl }
 
+-- a literal whose place was not come to is still true
+pub still-true : (s t : View) (p k l : ℕ) → WellFormed s → p ≤ k → k < length s.trail → l ≡ literal_at s k → Cutting s t p k → IsMadeTrue t.values l
+still-true s t p k l w a b e c =
+    let same : variable_of l ≡ variable_of (literal_at s k) = ap variable_of e in
+    c.stays (variable_of l) (λ j f g h. let z = same-place s w j k (omega (arith, g, b)) b (h ∙ same) in omega (arith, z, g))
+    ∙ ap (λ v. get_or s.values v None) same ∙ w.is_true k b ∙ ap (λ m. Some (polarity_of m)) (sym e)
+
 pub saving-step : (s t : View) (last now : List Bool) (p k l : ℕ) → WellFormed s → p ≤ k → k < length s.trail → l ≡ literal_at s k →
-    length now ≡ length t.values → Cutting s t p k → Saving s last now p k →
-    Saving s last (set now (variable_of l) (is_true_value (get_or t.values (variable_of l) None))) p (k + 1)
+    length now ≡ length t.values → Cutting s t p k → Saving s last now p k → Saving s last (set now (variable_of l) (polarity_of l)) p (k + 1)
 saving-step s t last now p k l w a b e n c d =
     let same : variable_of l ≡ variable_of (literal_at s k) = ap variable_of e in
     let inside : variable_of l < length now = let i = made-inside s.values (literal_at s k) (w.is_true k b) in let m = c.count in
     omega (arith, i, m, n, same) in
     let had : get_or s.values (variable_of l) None ≡ Some (polarity_of (literal_at s k)) = ap (λ v. get_or s.values v None) same ∙ w.is_true k b in
-    let still : get_or t.values (variable_of l) None ≡ Some (polarity_of (literal_at s k)) =
-    c.stays (variable_of l) (λ j f g h. let z = same-place s w j k (omega (arith, g, b)) b (h ∙ same) in omega (arith, z, g)) ∙ had in
-    let value : is_true_value (get_or t.values (variable_of l) None) ≡ polarity_of (literal_at s k) = ap is_true_value still in
+    let value : polarity_of l ≡ polarity_of (literal_at s k) = ap polarity_of e in
     record {
-      count = length-set now (variable_of l) (is_true_value (get_or t.values (variable_of l) None)) ∙ d.count;
+      count = length-set now (variable_of l) (polarity_of l) ∙ d.count;
       left = λ j f g. ⊎_elim
           (λ h. ap (λ v. get_or s.values v None) h ∙ had ∙ ap Some (sym value)
-          ∙ ap Some (sym (ap (λ v. get_or (set now (variable_of l) (is_true_value (get_or t.values (variable_of l) None))) v false) h
-          ∙ get_or-set_same now (variable_of l) (is_true_value (get_or t.values (variable_of l) None)) false inside)))
+          ∙ ap Some (sym (ap (λ v. get_or (set now (variable_of l) (polarity_of l)) v false) h
+          ∙ get_or-set_same now (variable_of l) (polarity_of l) false inside)))
           (λ m. d.left j f (⊎_elim (λ o. o)
           (λ o. let z : j ≡ k = omega (arith, o, g) in absurd (m (ap (λ x. variable_of (literal_at s x)) z ∙ sym same))) (cases_lt j k))
           ∙ ap Some (sym (get_or-set_other now (variable_of l) (variable_of (literal_at s j))
-          (is_true_value (get_or t.values (variable_of l) None)) false m)))
+          (polarity_of l) false m)))
           (equal_or_not (variable_of (literal_at s j)) (variable_of l));
-      stays = λ v h. get_or-set_other now (variable_of l) v (is_true_value (get_or t.values (variable_of l) None)) false
+      stays = λ v h. get_or-set_other now (variable_of l) v (polarity_of l) false
           (λ f. h k a (omega arith) (sym same ∙ sym f)) ∙ d.stays v (λ j f g. h j f (omega (arith, g)));
     }
 

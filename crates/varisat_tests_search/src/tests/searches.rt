@@ -173,8 +173,9 @@ fn prefer_value<A: Allocator + Copy>(assignment: &mut Assignment<A>, value: bool
     for index in 0..assignment.assignment().len() {
         let var = Var::from_index(index);
         if assignment.var_value(var).is_none() {
-            assignment.set_var(var, Some(value));
-            assignment.release_var(var);
+            let lit = var.lit(value);
+            assignment.assign_lit(lit);
+            assignment.release_lit(lit);
         }
     }
 }

@@ -88,9 +88,6 @@ pub count-push : (d : List Literal) (n : ℕ) (l : Literal) → count_with n (d 
 count-push [] n l = refl
 count-push (k ∷ d) n l = count-push d (max n (variable_of k + 1)) l
 
-below-or : (u n : ℕ) → (u < n) ⊎ (n ≤ u)
-below-or u n = grind arith
-
 pub none-in-order : AreInOrder 0 no_names
 none-in-order = record { made = refl; watermark = refl; in_use = λ u h. absurd (omega arith); free = λ u h. refl; sampled = λ i h. absurd (omega arith) }
 
@@ -99,8 +96,8 @@ least-is-count : (n : ℕ) (m : Naming) (u : ℕ) → AreInOrder n m → IsLeast
 least-is-count n m u o (e, h) =
     ⊎_elim
     (λ l. absurd (let z : Some u ≡ None = sym (o.in_use u l) ∙ e in cc))
-    (λ k. ⊎_elim (λ l. absurd (h n l (o.free n (omega arith)))) (λ l. omega (arith, l, k)) (below-or n u))
-    (below-or u n)
+    (λ k. ⊎_elim (λ l. absurd (h n l (o.free n (omega arith)))) (λ l. omega (arith, l, k)) (cases_lt n u))
+    (cases_lt u n)
 
 pub stays-in-order : NamesStayInOrder
 stays-in-order = (
@@ -112,7 +109,7 @@ stays-in-order = (
 -- a name in use is one below the count
 pub in-use-below : (n : ℕ) (m : Naming) (ls : List Literal) → AreInOrder n m → AreNamesInUse m ls → (l : Literal) → l ∈ ls → variable_of l < n
 in-use-below n m ls o named l h =
-    ⊎_elim (λ b. b) (λ b. absurd (let (i, e) = named l h in let z : Some i ≡ None = sym e ∙ o.free (variable_of l) b in cc)) (below-or (variable_of l) n)
+    ⊎_elim (λ b. b) (λ b. absurd (let (i, e) = named l h in let z : Some i ≡ None = sym e ∙ o.free (variable_of l) b in cc)) (cases_lt (variable_of l) n)
 
 pub names-are-identities : NamesAreIdentities
 names-are-identities n m ls o named = through-all n m ls o (in-use-below n m ls o named)
@@ -127,7 +124,7 @@ crowded-limit (l ∷ d) n h k =
     ⊎_elim
     (λ m. let (x, i, y) = crowded-limit d (max n (variable_of l + 1)) (omega (arith, h, m)) k in (x, inr i, y))
     (λ m. (l, inl refl, m))
-    (below-or (variable_of l) variable_limit)
+    (cases_lt (variable_of l) variable_limit)
 
 pub crowded-is-past-limit : CrowdedIsPastLimit
 crowded-is-past-limit n m ls o h k = let f = fit-all ls n m o in crowded-limit ls n h (subst (λ x. variable_limit < x) f.made k)

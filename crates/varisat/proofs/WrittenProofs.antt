@@ -68,7 +68,7 @@ written-read BinaryDrat d = refl
 written-read Marked d = let z : true ≡ false = d in absurd cc
 
 -- the lines that every format has
-plain-logged : (es : List Entry) (line : ProofLine) → line ∈ plain_lines (lines_of es) → line ∈ logged_lines (Text true) es
+pub plain-logged : (es : List Entry) (line : ProofLine) → line ∈ plain_lines (lines_of es) → line ∈ logged_lines (Text true) es
 plain-logged [] line h = absurd h
 plain-logged (Accepts c ∷ es) line h = inr (plain-logged es line h)
 plain-logged (Writes l ∷ es) line (inl e) = inl e

@@ -7,7 +7,7 @@ use Rattle.varisat_theory.specs.promises.Propagation.{IsFalse}
 use Rattle.varisat_theory.proofs.clauses.Members.{equal_or_not, ∈-append_left, ∈-append_right, ∈-append_cases, distinct_append}
 use Rattle.varisat_theory.proofs.clauses.Places.{∈-take_more}
 use Rattle.varisat_prop.specs.View.{View, literal_at, node_at, level_of, IsOnTrailBefore, WellFormed}
-use Rattle.varisat_prop.proofs.trails.LiteralValues.{variable-opposite}
+use Rattle.varisat_theory.proofs.clauses.Values.{variable-opposite}
 use Rattle.varisat_prop.proofs.views.ViewGrowth.{append-nil}
 use Rattle.varisat_prop.proofs.views.ReadElements.{element, item-∈}
 use Rattle.varisat_analysis.specs.Flags.{IsFlagged}

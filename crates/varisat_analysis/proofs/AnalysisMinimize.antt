@@ -6,11 +6,10 @@ use Rattle.varisat_theory.specs.promises.Literals.{Literal, Clause, variable_of,
 use Rattle.varisat_theory.specs.promises.Analysis.{Implied, Known, ByReason}
 use Rattle.varisat_theory.proofs.clauses.Members.{∈-append_left, ∈-append_right, ∈-append_cases}
 use Rattle.varisat_theory.proofs.clauses.Places.{∈-get_or, place_in, place_in_take}
-use Rattle.varisat_theory.proofs.clauses.Values.{opposite_twice, ∈-opposites}
+use Rattle.varisat_theory.proofs.clauses.Values.{opposite_twice, ∈-opposites, variable-opposite}
 use Rattle.varisat_theory.proofs.clauses.Implication.{implied_alone}
 use Rattle.varisat_theory.proofs.clauses.Learning.{follows_shorter}
 use Rattle.varisat_prop.specs.View.{View, literal_at, node_at, level_of, WellFormed, ViewFits}
-use Rattle.varisat_prop.proofs.trails.LiteralValues.{variable-opposite}
 use Rattle.varisat_prop.proofs.pairs.DistinctPlaces.{distinct-places}
 use Rattle.varisat_analysis.specs.Flags.{IsFlagged}
 use Rattle.varisat_analysis.specs.Marks.{Marking, IsMarkOf, OfClause, OfCurrentLevel, MarksAreListed, Marks, IsMinimized, Minimizes}

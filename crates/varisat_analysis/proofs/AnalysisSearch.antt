@@ -12,7 +12,7 @@ use Rattle.varisat_prop.specs.declared.prop.graph.ImplNode.{ImplNode}
 use Rattle.varisat_prop.specs.Changes.{NamesClause, causes_of}
 use Rattle.varisat_clause.specs.Stored.{StoredClause}
 use Rattle.varisat_prop.specs.View.{View, node_of, no_node, level_of, is_clause, WellFormed}
-use Rattle.varisat_prop.proofs.trails.LiteralValues.{variable-opposite}
+use Rattle.varisat_theory.proofs.clauses.Values.{variable-opposite}
 use Rattle.varisat_prop.proofs.views.ViewGrowth.{append-nil}
 use Rattle.varisat_analysis.specs.Flags.{IsFlagged}
 use Rattle.varisat_analysis.specs.Marks.{Marking}

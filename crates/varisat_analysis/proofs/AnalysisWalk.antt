@@ -6,7 +6,7 @@ use Rattle.varisat_theory.specs.promises.Literals.{Literal, Clause, variable_of,
 use Rattle.varisat_theory.specs.promises.Analysis.{AtStart, InReason}
 use Rattle.varisat_theory.proofs.clauses.Members.{equal_or_not, ∈-append_left, ∈-append_right, ∈-append_cases, distinct_append}
 use Rattle.varisat_theory.proofs.clauses.Places.{∈-get_or, place_in}
-use Rattle.varisat_theory.proofs.clauses.Values.{opposite_twice}
+use Rattle.varisat_theory.proofs.clauses.Values.{opposite_twice, variable-opposite}
 use Rattle.varisat_theory.proofs.clauses.Learning.{Pending, IsPassed, pending_start, pending_skip, pending_resolve, pending_end}
 use Rattle.varisat_prop.specs.declared.prop.graph.Reason.{Reason}
 use Rattle.varisat_prop.specs.declared.prop.graph.Reason.TheVariants as reason
@@ -15,7 +15,6 @@ use Rattle.varisat_prop.specs.declared.prop.graph.Conflict.TheVariants as confli
 use Rattle.varisat_prop.specs.Changes.{others_of, causes_of, named_in, NamesKeptClause, IsConflicting}
 use Rattle.varisat_prop.proofs.views.ReadElements.{element}
 use Rattle.varisat_prop.specs.View.{View, clause_at, literal_at, decision_at, node_of, node_at, level_of, is_clause, IsOnTrailBefore, Implies, IsReason, WellFormed, ViewFits}
-use Rattle.varisat_prop.proofs.trails.LiteralValues.{variable-opposite}
 use Rattle.varisat_analysis.specs.Flags.{IsFlagged}
 use Rattle.varisat_analysis.specs.Bumps.{literals_among, AreVariablesAbove}
 use Rattle.varisat_analysis.proofs.BumpedVariables.{among-append}

@@ -13,7 +13,8 @@ use Rattle.varisat_prop.specs.declared.prop.graph.Conflict.{Conflict}
 use Rattle.varisat_prop.specs.declared.prop.graph.ImplNode.{ImplNode}
 use Rattle.varisat_prop.specs.View.{View, clause_at, literal_at, node_at, level_of, IsOnTrailBefore, Implies, IsReason, WellFormed}
 use Rattle.varisat_prop.specs.Changes.{named_in, IsConflicting}
-use Rattle.varisat_prop.proofs.trails.LiteralValues.{made-inside, variable-opposite}
+use Rattle.varisat_theory.proofs.clauses.Values.{variable-opposite}
+use Rattle.varisat_prop.proofs.trails.LiteralValues.{made-inside}
 use Rattle.varisat_prop.proofs.trails.TrailValues.{trail-short, trail-true, decisions-few}
 use Rattle.varisat_analysis.specs.Learned.{names_of, IsInvolved, IsOfConflict, IsReasonOf, AreInvolved}
 use Rattle.varisat_analysis.specs.Bumps.{literals_among}

@@ -2,6 +2,7 @@
 use Rattle.std.proofs.Common.{ap₂, ◌≡◌, ℕ, ◌/◌, ◌^◌, ◌<◌, ◌≤◌, Bool, true, false, cond, List, [], ◌∷◌, ◌++◌, length, map, inl, inr, ⊎_elim, refl, sym, ap, ◌∙◌, subst, arith}
 use Rattle.std.specs.Prelude.{not, ◌&&◌, nat_le, nat_lt, min}
 use Rattle.std.proofs.lemmas.Bool.{and_right}
+use Rattle.std.proofs.lemmas.Bool.{cases_Bool}
 use Rattle.varisat_theory.specs.promises.Membership.{◌∈◌}
 use Rattle.varisat_clause.specs.declared.header.Tier.{Tier}
 use Rattle.varisat_clause.specs.declared.header.Tier.TheVariants.{Irred, Core, Mid, Local}
@@ -21,7 +22,6 @@ use Rattle.varisat_prop.specs.declared.prop.graph.Conflict.TheVariants as confli
 use Rattle.varisat_analysis.specs.HeaderChanges.{SameButHeaders}
 use Rattle.varisat_analysis.specs.Assessments.{glue_of, tier_by_glue, is_improved, improved, noted, with_bump, clause_bumped, clauses_bumped}
 use Rattle.varisat_analysis.proofs.SameButHeaders.{held_clause, live-headers, map-same, with-same-look, headers-place, headers-at}
-use Rattle.varisat_clause.proofs.DatabaseTracks.{true-or-false}
 
 -- headers at one place of a list
 module _ (ks : List StoredClause) (p : ℕ) (at : IsClauseRef ks p) where
@@ -120,7 +120,7 @@ module _ (n m : Store) (a : ActivityScale) (p : ℕ) where
       (λ e. subst (λ b. HoldsClauses m (length n.words)
       (with_activity (clauses_rescaled b (stored_clauses n)) p
       (cond b (activity_bumped p (scored n a) / 2 ^ 16) (activity_bumped p (scored n a))))) (sym e) (f e))
-      (true-or-false (reaches_clause_limit (activity_bumped p (scored n a))))
+      (cases_Bool (reaches_clause_limit (activity_bumped p (scored n a))))
 
 -- a bump changes activities alone
 pub bump-same : {X : Type 0} (look : StoredClause → X) (p : ℕ) (x : Scored) →
@@ -241,7 +241,7 @@ improved-held glue h =
     (λ e.
     let is : improved glue h ≡ h = ap (λ b. cond b (record h { glue = glue; tier = tier_by_glue glue }) h) e in
     (ap (λ (x : Header). is_tier x.tier Irred) is, ap (λ (x : Header). x.deleted) is))
-    (true-or-false (is_improved glue h))
+    (cases_Bool (is_improved glue h))
 
 held-same : (k : StoredClause) (glue : ℕ) → held_clause (record k { header = noted glue k.header }) ≡ held_clause k
 held-same k glue =

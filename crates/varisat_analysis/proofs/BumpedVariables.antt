@@ -1,6 +1,6 @@
 -- Which variables a conflict bumps.
 use Rattle.std.proofs.Common.{◌≡◌, ℕ, zero, suc, ◌+◌, ◌<◌, ◌≤◌, Bool, true, false, List, [], ◌∷◌, ◌++◌, replicate, take, take_all, length, get_or, set, inl, inr, ⊎_elim, refl, sym, ap, ◌∙◌, subst, arith, append_assoc, get_or-set_same, get_or-set_other}
-use Rattle.std.proofs.lemmas.Bool.{cases_lt}
+use Rattle.std.proofs.lemmas.Bool.{cases_lt, cases_Bool}
 use Rattle.std.proofs.lemmas.List.{take-append-le, get_or_past}
 use Rattle.varisat_theory.specs.promises.Membership.{◌∈◌}
 use Rattle.varisat_theory.specs.promises.Literals.{Literal, variable_of}
@@ -13,7 +13,6 @@ use Rattle.varisat_prop.specs.View.{no_node}
 use Rattle.varisat_prop.specs.Changes.{named_in}
 use Rattle.varisat_vsids.specs.Activities.{Activities, bumped}
 use Rattle.varisat_analysis.specs.Bumps.{bumped_each, literals_among, level_in}
-use Rattle.varisat_clause.proofs.DatabaseTracks.{true-or-false}
 
 pub take-snoc : (k : ℕ) (xs : List ℕ) → k < length xs → take (k + 1) xs ≡ take k xs ++ get_or xs k 0 ∷ []
 take-snoc k xs h = let e : k + 1 ≡ suc k = omega arith in ap (λ n. take n xs) e ∙ go k xs h
@@ -125,7 +124,7 @@ clears-one number l f k = record {
 pub clears-join : (number : Literal → ℕ) (ls ms : List Literal) (f g h : List Bool) → Clears number ls f g → Clears number ms g h → Clears number (ls ++ ms) f h
 clears-join number ls ms f g h a b = record {
   gone = λ l i. ⊎_elim
-      (λ j. ⊎_elim (λ e. let z : true ≡ false = sym (b.fewer (number l) e) ∙ a.gone l j in absurd cc) (λ e. e) (true-or-false (get_or h (number l) false)))
+      (λ j. ⊎_elim (λ e. let z : true ≡ false = sym (b.fewer (number l) e) ∙ a.gone l j in absurd cc) (λ e. e) (cases_Bool (get_or h (number l) false)))
       (b.gone l)
       (∈-append_cases l ls ms i);
   fewer = λ v e. a.fewer v (b.fewer v e);

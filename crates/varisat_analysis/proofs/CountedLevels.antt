@@ -4,15 +4,15 @@ use mir.Val.{bool_byte}
 use Rattle.std.specs.Cmp.{IsEquivalence}
 use Rattle.std.specs.Set.{is_member, unique_keys, distinct_count}
 use Rattle.std.proofs.lemmas.Map.Made.{length-from_keys, IsDistinct-from_count}
+use Rattle.std.proofs.lemmas.Bool.{cases_Bool, eq-eqb}
 use Rattle.varisat_theory.specs.promises.Membership.{◌∈◌}
 use Rattle.varisat_theory.specs.promises.Literals.{Literal, variable_of}
 use Rattle.varisat_theory.proofs.clauses.Members.{equal_or_not}
-use Rattle.varisat_clause.proofs.StoredClauses.{is-same, is-other}
+use Rattle.varisat_clause.proofs.StoredClauses.{is-other}
 use Rattle.varisat_prop.specs.declared.prop.graph.ImplNode.{ImplNode}
 use Rattle.varisat_prop.specs.View.{no_node}
 use Rattle.varisat_analysis.specs.Bumps.{level_in}
 use Rattle.varisat_analysis.proofs.BumpedVariables.{all-false, item-below}
-use Rattle.varisat_clause.proofs.DatabaseTracks.{true-or-false}
 
 -- a truth value as a number
 pub one-at-most : (b : Bool) → bool_byte b < 2
@@ -37,8 +37,8 @@ or-more false b c = refl
 
 number-laws : IsEquivalence nat_eq
 number-laws = record {
-  refl = λ x. is-same x x refl;
-  symm = λ x y. ⊎_elim (λ e. is-same x y e ∙ sym (is-same y x (sym e))) (λ n. is-other x y n ∙ sym (is-other y x (λ e. n (sym e)))) (equal_or_not x y);
+  refl = λ x. eq-eqb x x refl;
+  symm = λ x y. ⊎_elim (λ e. eq-eqb x y e ∙ sym (eq-eqb y x (sym e))) (λ n. is-other x y n ∙ sym (is-other y x (λ e. n (sym e)))) (equal_or_not x y);
   congr = λ x y z h. ⊎_elim (λ (e : x ≡ y). ap (λ (u : ℕ). nat_eq u z) e) (λ n. let g : true ≡ false = sym h ∙ is-other x y n in absurd cc) (equal_or_not x y);
 }
 
@@ -95,7 +95,7 @@ module _ (level : Literal → ℕ) where
     flagged = d.flagged;
     same = λ n. ⊎_elim
         (λ e. let here : is_member nat_eq d.levels n ≡ true = sym (d.flagged n) ∙ ap (λ (u : ℕ). get_or flags u false) e ∙ h in
-        here ∙ sym (member-snoc ls l n ∙ ap (λ b. is_member nat_eq (map level ls) n || b) (is-same n (level l) e)
+        here ∙ sym (member-snoc ls l n ∙ ap (λ b. is_member nat_eq (map level ls) n || b) (eq-eqb n (level l) e)
         ∙ or-true (is_member nat_eq (map level ls) n)))
         (λ o. d.same n ∙ sym (member-snoc ls l n ∙ ap (λ b. is_member nat_eq (map level ls) n || b) (is-other n (level l) o)
         ∙ or-none (is_member nat_eq (map level ls) n)))
@@ -116,7 +116,7 @@ module _ (level : Literal → ℕ) where
         longer ∙ omega (arith, e);
     flagged = λ n. ⊎_elim
         (λ e. ap (λ (u : ℕ). get_or (set flags (level l) true) u false) e ∙ get_or-set_same flags (level l) true false k
-        ∙ sym (ap (λ b. b || is_member nat_eq d.levels n) (is-same n (level l) e)))
+        ∙ sym (ap (λ b. b || is_member nat_eq d.levels n) (eq-eqb n (level l) e)))
         (λ o. get_or-set_other flags (level l) n true false o ∙ d.flagged n ∙ sym (ap (λ b. b || is_member nat_eq d.levels n) (is-other n (level l) o)))
         (equal_or_not n (level l));
     same = λ n. or-swap (nat_eq n (level l)) (is_member nat_eq d.levels n) ∙ ap (λ b. b || nat_eq n (level l)) (d.same n) ∙ sym (member-snoc ls l n);
@@ -142,7 +142,7 @@ module _ (level : Literal → ℕ) where
         same = c.same;
       })
       (λ h. subst (λ m. Counts level (ls ++ l ∷ []) (set flags (level l) true) (count + m)) (sym (new h)) (counts-new ls l flags count d k h))
-      (true-or-false (get_or flags (level l) false))
+      (cases_Bool (get_or flags (level l) false))
 
   pub counts-all : (ls : List Literal) (flags : List Bool) (count : ℕ) → Counts level ls flags count → count ≡ distinct_count nat_eq (map level ls)
   counts-all ls flags count d =
@@ -163,4 +163,4 @@ module _ (level : Literal → ℕ) where
           ⊎_elim
           (λ e. let (l, i, q) = only n (fewer n e) in ap (λ (u : ℕ). get_or new u false) (sym q) ∙ gone l i)
           (λ e. e)
-          (true-or-false (get_or new n false))
+          (cases_Bool (get_or new n false))

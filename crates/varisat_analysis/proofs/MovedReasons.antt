@@ -2,14 +2,15 @@
 use Rattle.std.proofs.Common.{◌≡◌, ℕ, ◌+◌, ◌<◌, ◌≤◌, ◌^◌, Bool, true, false, Option, List, [], ◌∷◌, length, map, drop, get_or, set, cond, ⊎_elim, refl, sym, ap, ap₂, ◌∙◌, arith, add-one, length-set}
 use Rattle.std.proofs.Math.Seq.{drop-cons}
 use Rattle.std.proofs.Math.ListN.{drop_of_length-le}
-use Rattle.std.proofs.lemmas.Bool.{cases_lt}
+use Rattle.std.proofs.lemmas.Bool.{cases_lt, cases_Bool}
 use Rattle.varisat_theory.specs.promises.Literals.{variable_of}
 use Rattle.varisat_clause.specs.Stored.{StoredClause, no_clause}
 use Rattle.varisat_clause.specs.Stores.{Store, stored_clauses, IsSound}
 use Rattle.varisat_clause.specs.Databases.{total, size_of}
 use Rattle.varisat_clause.specs.Collected.{live_of, live_clauses}
 use Rattle.varisat_analysis.proofs.DeletedPlaces.{same-head, same-tail}
-use Rattle.varisat_clause.proofs.DatabaseTracks.{true-or-false, sizes-within}
+use Rattle.varisat_clause.proofs.DatabaseTracks.{sizes-within}
+use Rattle.varisat_clause.proofs.LiveClauses.{drop-next}
 use Rattle.varisat_prop.specs.declared.prop.graph.Reason.TheVariants as reason
 use Rattle.varisat_prop.specs.declared.prop.graph.ImplNode.{ImplNode}
 use Rattle.varisat_prop.specs.View.{no_node}
@@ -35,10 +36,6 @@ pub repoint-done : (values : List (Option Bool)) (ns ms : List ImplNode) (k : St
     v ≡ variable_of (literal_in k.literals 0) → ms ≡ set ns v (record (get_or ns v no_node) { reason = reason.Long q }) → ms ≡ repointed values ns k q
 repoint-done values ns ms k v q e f g = g ∙ ap (λ (x : ℕ). set ns x (record (get_or ns x no_node) { reason = reason.Long q })) f
     ∙ sym (repoint-is values ns k q e)
-
--- the first clause of those that are left
-drop-next : (ks : List StoredClause) (i : ℕ) → i < length ks → drop i ks ≡ get_or ks i no_clause ∷ drop (i + 1) ks
-drop-next ks i h = drop-cons ks i no_clause h ∙ ap (λ (n : ℕ). get_or ks i no_clause ∷ drop n ks) (sym (add-one i))
 
 pub record IsNextLeft (values : List (Option Bool)) (ks js : List StoredClause) (i p : ℕ) (rest : List ℕ) : Type 0 where
   pub inside : i < length ks
@@ -81,7 +78,7 @@ repoint-length values ns k q =
     (λ e. ap length (repoint-is values ns k q e) ∙ length-set ns (variable_of (literal_in k.literals 0))
     (record (get_or ns (variable_of (literal_in k.literals 0)) no_node) { reason = reason.Long q }))
     (λ e. ap length (repoint-not values ns k q e))
-    (true-or-false (is_reason values ns k))
+    (cases_Bool (is_reason values ns k))
 
 -- a store has no more clauses than words
 pub live-few : (s : Store) → IsSound s → length (live_clauses s) < 2 ^ 32

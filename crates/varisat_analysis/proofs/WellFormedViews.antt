@@ -7,7 +7,7 @@ use Rattle.varisat_theory.specs.promises.Propagation.{IsFalse}
 use Rattle.varisat_theory.specs.promises.Analysis.{Implied, ByReason}
 use Rattle.varisat_theory.proofs.clauses.Members.{∈-append_right, ∈-append_cases}
 use Rattle.varisat_theory.proofs.clauses.Places.{∈-get_or, place_in}
-use Rattle.varisat_theory.proofs.clauses.Values.{opposite_twice}
+use Rattle.varisat_theory.proofs.clauses.Values.{opposite_twice, same_or_opposite, variable-opposite}
 use Rattle.varisat_prop.specs.declared.prop.graph.Reason.{Reason}
 use Rattle.varisat_prop.specs.declared.prop.graph.Reason.TheVariants as reason
 use Rattle.varisat_prop.specs.declared.prop.graph.ImplNode.{ImplNode}
@@ -19,7 +19,7 @@ use Rattle.varisat_prop.proofs.views.WellFormedChanges.{stored-kept, kept-here}
 use Rattle.varisat_prop.proofs.pairs.KeptPairs.{implied-kept}
 use Rattle.varisat_prop.specs.View.{View, pairs_from, kept, clause_at, literal_at, decision_at, no_node, node_of, node_at, level_of, is_clause, IsOnTrailBefore, Implies, IsReason, WellFormed, PropagatedBeforeDecisions, ViewFits}
 use Rattle.varisat_prop.specs.Changes.{NamesClause, NamesPlace, others_of, causes_of, named_in, NamesKeptClause, IsConflicting}
-use Rattle.varisat_prop.proofs.trails.LiteralValues.{same-variable, variable-opposite, made-clash, made-inside}
+use Rattle.varisat_prop.proofs.trails.LiteralValues.{made-clash, made-inside}
 use Rattle.varisat_prop.proofs.trails.TrailValues.{trail-true}
 use Rattle.varisat_analysis.specs.Learned.{current_level, implying_clause, names_of, reason_clause}
 
@@ -86,7 +86,7 @@ module _ (s : View) (w : WellFormed s) where
 
   -- one of the literals of a variable is true at most
   pub true-same : (x y : Literal) → x ∈ s.trail → y ∈ s.trail → variable_of x ≡ variable_of y → x ≡ y
-  true-same x y h k e = ⊎_elim (λ f. f) (λ f. absurd (no-clash y k (subst (λ z. z ∈ s.trail) f h))) (same-variable x y e)
+  true-same x y h k e = ⊎_elim (λ f. f) (λ f. absurd (no-clash y k (subst (λ z. z ∈ s.trail) f h))) (same_or_opposite x y e)
 
   pub false-same : (l m : Literal) → opposite l ∈ s.trail → opposite m ∈ s.trail → variable_of l ≡ variable_of m → l ≡ m
   false-same l m h k e =

@@ -19,5 +19,5 @@ abbrev pub NamesBy : Caller → ℤ → Caller → Type 0
 NamesBy g n h = (r : Result ℕ ℕ) × (n ≡ variable_answer r) × NamesNew g r h
 
 -- the number speaks of the text that ended
-abbrev pub EndsBy : Caller → ℤ → Caller → Type 0
-EndsBy g n h = (r : Result ℕ ℕ) × (n ≡ count_answer r) × EndsText g r h
+abbrev pub AnswersEnd : Caller → ℤ → Caller → Type 0
+AnswersEnd g n h = (r : Result ℕ ℕ) × (n ≡ count_answer r) × EndsText g r h

@@ -7,10 +7,10 @@ ghost use Rattle.varisat_solver.specs.promises.Represented.{LeadsRepresented};
 ghost use Rattle.varisat_solver.specs.promises.Calls.{AddsClause, Assumes, ReturnsList, ReturnsSteps, ReturnsValid, by_state};
 ghost use Rattle.varisat_solver.specs.promises.ProofCalls.{EnablesChecking};
 ghost use Rattle.varisat_calls.specs.Codes.{field_numbered, format_numbered, mode_numbered};
-ghost use Rattle.varisat_calls.specs.Callers.{IsNew, MakesNumbered, MakesOver, AddsNumber, LimitsSteps, Searches, SetsField, SetsMode, ReturnsListOf, Shows, Opens, Closes};
+ghost use Rattle.varisat_calls.specs.Callers.{IsNewCaller, MakesNumbered, MakesOver, AddsNumber, LimitsSteps, Searches, SetsField, SetsMode, ReturnsListOf, ShowsHidden, OpensFormat, Closes};
 ghost use Rattle.varisat_calls.specs.Lookups.{ReturnsValue, ReturnsFailed};
 ghost use Rattle.varisat_calls.specs.Texts.{Feeds, IsRefutedText};
-ghost use Rattle.varisat_c.specs.Codes.{NamesBy, EndsBy};
+ghost use Rattle.varisat_c.specs.Codes.{NamesBy, AnswersEnd};
 ghost use Rattle.varisat_c.specs.Handles.{IsSatisfiableNow, IsUnsatisfiableNow};
 ghost use Rattle.varisat_c.specs.Slots.{MovesHeld, IsTrueBehind};
 
@@ -61,7 +61,7 @@ fn behind(bytes: &[u8], from: usize) -> &[u8]
 pub extern "C" fn caller_open(alloc: Global, handle: &mut Handle) -> bool
     requires { handle.old.held ≡ None }
     ensures made { IsTrue result ↔ IsSome handle.new.held }
-    ensures new { IfSome handle.new.held IsNew }
+    ensures new { IfSome handle.new.held IsNewCaller }
 {
     match Box::new(alloc, Caller::new_in(alloc)) {
         Ok(caller) => {
@@ -121,7 +121,7 @@ pub extern "C" fn caller_feed(alloc: Global, handle: &mut Handle, piece: &[u8]) 
 #[unsafe(no_mangle)]
 pub extern "C" fn caller_end_text(alloc: Global, handle: &mut Handle) -> isize
     requires { IsSome handle.old.held }
-    ensures { MovesHeld (λ g h. EndsBy g result h) handle.old.held handle.new.held }
+    ensures { MovesHeld (λ g h. AnswersEnd g result h) handle.old.held handle.new.held }
 {
     let mut caller = handle.take(alloc);
     let answer = count_answer(caller.end_text());
@@ -247,7 +247,7 @@ pub extern "C" fn caller_is_failed(alloc: Global, handle: &mut Handle, number: i
 #[unsafe(no_mangle)]
 pub extern "C" fn caller_observe(alloc: Global, handle: &mut Handle) -> u8
     requires { IsSome handle.old.held }
-    ensures { MovesHeld (λ g h. Shows g result h) handle.old.held handle.new.held }
+    ensures { MovesHeld (λ g h. ShowsHidden g result h) handle.old.held handle.new.held }
 {
     let mut caller = handle.take(alloc);
     let answer = caller.observe();
@@ -271,7 +271,7 @@ pub extern "C" fn caller_config(alloc: Global, handle: &mut Handle, field: u8, v
 #[unsafe(no_mangle)]
 pub extern "C" fn caller_open_proof(alloc: Global, handle: &mut Handle, format: u8) -> u8
     requires { IsSome handle.old.held }
-    ensures { MovesHeld (λ g h. Opens (format_numbered format) g result h) handle.old.held handle.new.held }
+    ensures { MovesHeld (λ g h. OpensFormat (format_numbered format) g result h) handle.old.held handle.new.held }
 {
     let mut caller = handle.take(alloc);
     let answer = caller.open_proof(format);

@@ -3,6 +3,5 @@ pub mod Checking
 pub mod Reading
 pub mod Adding
 pub mod Looking
-pub mod PassedOver
 pub mod Extending
 pub mod SimplifierSteps

@@ -7,7 +7,7 @@ use Rattle.varisat_literals.specs.promises.Numbers.{literal_numbered}
 use Rattle.varisat_client.specs.inside.LiteralSets.{IsSetOf}
 use Rattle.varisat_solver.specs.promises.Summaries.{Summary}
 use Rattle.varisat_calls.specs.Callers.{Caller}
-use Rattle.varisat_calls.specs.Lookups.{Lookups, IsCurrent, IsModel, IsCore, IsValueIn, IsMember, ReturnsValue, ReturnsFailed, True, False, Unknown, Yes, No, Failed, Unfailed}
+use Rattle.varisat_calls.specs.Lookups.{Lookups, IsCurrent, IsReturnedModel, IsCore, IsValueIn, IsMember, ReturnsValue, ReturnsFailed, True, False, Unknown, Yes, No, Failed, Unfailed}
 use Rattle.varisat_calls.specs.declared.lookups.Kept.TheVariants as kept
 
 -- the core is kept
@@ -18,7 +18,7 @@ core-kept c g m k is set = record {
 }
 
 -- a literal is looked up in the set of the model's
-pub value-returned : (number : ℤ) (g h : Caller) (flags : List Bool) (l : Literal) (n : ℕ) (m : List Literal) → IsModel g.solver m → IsSetOf m flags →
+pub value-returned : (number : ℤ) (g h : Caller) (flags : List Bool) (l : Literal) (n : ℕ) (m : List Literal) → IsReturnedModel g.solver m → IsSetOf m flags →
     l ≡ literal_numbered number → IsValueIn flags l n → h ≡ g → ReturnsValue number g n h
 value-returned number g h flags l n m is set e (True k f) same = True m is (subst (λ x. x ∈ m) e ((set l).0 f)) k same
 value-returned number g h flags l n m is set e (False k f) same = False m is (subst (λ x. opposite x ∈ m) e ((set (opposite l)).0 f)) k same

@@ -5,7 +5,7 @@ use Rattle.varisat_theory.specs.promises.Membership.{◌∈◌}
 use Rattle.varisat_theory.specs.promises.Literals.{Literal, Clause}
 use Rattle.varisat_literals.specs.promises.Numbers.{literal_numbered, variable_numbered}
 use Rattle.varisat_formula.specs.promises.Rest.{Progress}
-use Rattle.varisat_formula.specs.promises.Streams.{Taken}
+use Rattle.varisat_formula.specs.promises.Streams.{Taken, no_bytes}
 use Rattle.varisat_names.specs.promises.Settings.{update_of}
 use Rattle.varisat_names.specs.declared.config.ConfigField.{ConfigField}
 use Rattle.varisat_names.specs.declared.config.SolverConfigUpdate.{SolverConfigUpdate}
@@ -24,7 +24,7 @@ use Rattle.varisat_solver.specs.declared.solver.SolverError.TheVariants as error
 use Rattle.varisat_solver.specs.declared.solver.SolverError.{SolverError}
 use Rattle.varisat_calls.specs.Numbers.{returned_numbers, returned_names}
 use Rattle.varisat_calls.specs.Codes.{answer_number}
-use Rattle.varisat_calls.specs.Callers.{Answer, Caller, Makes, MakesNumbered, MakesOver, Made, over, SetsField, SetsMode, changing, ReturnsListOf, Returned, Shows, ShowsNames, NoRoom, Opens, Opened, Refused, opening, no_bytes}
+use Rattle.varisat_calls.specs.Callers.{Answer, Caller, Makes, MakesNumbered, MakesOver, Made, over, SetsField, SetsMode, changing, ReturnsListOf, Returned, ShowsHidden, ShowsNames, NoRoom, OpensFormat, Opened, Refused, opening}
 use Rattle.varisat_calls.specs.Texts.{ReadsPiece, AddsClauses, AddsRead, GoesOn, without_clauses}
 
 -- 1. Calls with an answer.
@@ -78,14 +78,14 @@ list-returned R g h list call returned rest =
 
 -- the names are returned under which hidden variables came back
 pub names-returned : (g h : Caller) (us : List ℕ) → ShowsNames us g h → h.returned ≡ returned_names us →
-    h ≡ record g { solver = h.solver; returned = h.returned } → Shows g 0 h
+    h ≡ record g { solver = h.solver; returned = h.returned } → ShowsHidden g 0 h
 names-returned g h us shows returned rest =
     Returned us refl shows (rest ∙ ap (λ ts. let made : Caller = record g { solver = h.solver; returned = ts } in made) returned)
 
 -- or there was no room for them
 pub no-room : (g mid h : Caller) (us : List ℕ) (n : ℕ) → n ≡ 3 → h ≡ mid → ShowsNames us g mid →
-    mid ≡ record g { solver = mid.solver; returned = mid.returned } → Shows g n h
-no-room g mid h us n number same shows rest = subst (λ x. Shows g n x) (sym same) (NoRoom us number shows rest)
+    mid ≡ record g { solver = mid.solver; returned = mid.returned } → ShowsHidden g n h
+no-room g mid h us n number same shows rest = subst (λ x. ShowsHidden g n x) (sym same) (NoRoom us number shows rest)
 
 -- 3. Proofs.
 
@@ -109,7 +109,7 @@ back-empty f target back (error.Dimacs x) s t o = absurd o
 -- a proof opened for the target, which has no bytes
 pub proof-opened : (format : Option ProofFormat) (f : ProofFormat) (target : Taken) (g h : Caller) → format ≡ Some f → target ≡ no_bytes →
     LeadsRepresented g.solver (λ s t. OpensProof {W = Taken} (λ w. w) target f s (Ok tt) t) h.solver → h ≡ record g { solver = h.solver } →
-    Opens format g 0 h
+    OpensFormat format g 0 h
 proof-opened format f target g h is new call rest =
     let opens = subst (λ w. LeadsRepresented g.solver (λ s t. OpensProof {W = Taken} (λ w. w) w f s (Ok tt) t) h.solver) new call in
     Opened f is refl (record { call = opens; rest = rest })
@@ -118,7 +118,7 @@ proof-opened format f target g h is new call rest =
 pub proof-refused : (format : Option ProofFormat) (f : ProofFormat) (target back : Taken) (e : SolverError) (g mid h : Caller) (n : ℕ) →
     format ≡ Some f → n ≡ refusal_number e → h ≡ mid →
     LeadsRepresented g.solver (λ s t. OpensProof {W = Taken} (λ w. w) target f s (Err (e, back)) t) mid.solver →
-    mid ≡ record g { solver = mid.solver } → Opens format g n h
+    mid ≡ record g { solver = mid.solver } → OpensFormat format g n h
 proof-refused format f target back e g mid h n is number same call rest =
     Refused f e is number (made (opening f) g mid h (Err (e, no_bytes)) same
     (λ s st. let (t, opens, stands) = call s st in (t, back-empty f target back e s t opens, stands)) rest)

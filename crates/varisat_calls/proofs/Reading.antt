@@ -4,12 +4,6 @@ use Rattle.std.proofs.lemmas.List.{map-append, take_more}
 use Rattle.varisat_theory.specs.promises.Membership.{◌∈◌}
 use Rattle.varisat_theory.proofs.clauses.Members.{∈-append_cases}
 
--- what an entry is does not depend on what is behind the end
-pub get-any : {A : Type 0} (xs : List A) (i : ℕ) (a b : A) → i < length xs → get_or xs i a ≡ get_or xs i b
-get-any [] i a b h = absurd (omega arith)
-get-any (x ∷ xs) zero a b h = refl
-get-any (x ∷ xs) (suc i) a b h = get-any xs i a b (omega arith)
-
 -- one entry more of the list
 take-entry : {A : Type 0} (xs : List A) (i : ℕ) (x : A) → i < length xs → x ≡ get_or xs i x →
     take (i + 1) xs ≡ take i xs ++ x ∷ []

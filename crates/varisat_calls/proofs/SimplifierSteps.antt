@@ -8,9 +8,12 @@ use Rattle.varisat_literals.specs.promises.Numbers.{literal_numbered}
 use Rattle.varisat_formula.specs.promises.Formulas.{Formula, AreBelow}
 use Rattle.varisat_rules.specs.promises.Stacks.{extended, KeepsFrozen}
 use Rattle.varisat_simplify.specs.promises.Simplified.{IsMadeOf}
-use Rattle.varisat_calls.specs.Lists.{clause_numbers, value_numbers, model_values}
-use Rattle.varisat_calls.specs.Simplifiers.{Made, Simplifier, made_of, given_of, IsSimplified, Simplifies, Simplified, ListsClauses, Listed, Extends, Extended}
-use Rattle.varisat_calls.proofs.Extending.{length-model, length-extended, extension}
+use Rattle.varisat_formula.specs.promises.Values.{model_values}
+use Rattle.varisat_calls.specs.Lists.{clause_numbers, value_numbers}
+use Rattle.varisat_calls.specs.Simplifiers.{SimplifiedFormula, Simplifier, made_of, given_of, SimplifiesFormula, Simplifies, Simplified, ListsClauses, Listed, Extends, Extended}
+use Rattle.varisat_formula.proofs.ValueLemmas.{length-model}
+use Rattle.varisat_rules.proofs.ExtendLemmas.{extended_length}
+use Rattle.varisat_calls.proofs.Extending.{extension}
 
 -- a simplifier by its fields
 abbrev pub simplifier_of : Option (List Clause) → Formula → ℕ → List Clause → List Bool → List ℤ → Simplifier
@@ -18,13 +21,13 @@ simplifier_of stack f n cs frozen list = record { given = given_of stack f n cs;
 
 -- what is true of it
 abbrev pub IsRight : Option (List Clause) → Formula → ℕ → List Clause → List Bool → Type 0
-IsRight stack f n cs frozen = IfSome (made_of stack f) (IsSimplified (given_of stack f n cs) frozen)
+IsRight stack f n cs frozen = IfSome (made_of stack f) (SimplifiesFormula (given_of stack f n cs) frozen)
 
 -- as many values are made as there are variables
 pub few_values : (stack : List Clause) (n : ℕ) (ls : List Literal) (vs : List Bool) → n ≤ 2 ^ 31 → vs ≡ extended stack (model_values n ls) →
     length vs ≤ 2 ^ 31
 few_values stack n ls vs h e =
-    subst (λ k. k ≤ 2 ^ 31) (sym (ap length e ∙ (length-extended stack (model_values n ls) ∙ length-model n ls))) h
+    subst (λ k. k ≤ 2 ^ 31) (sym (ap length e ∙ (extended_length stack (model_values n ls) ∙ length-model n ls))) h
 
 pub simplified-now : (old : Option (List Clause)) (f left : Formula) (n count : ℕ) (before cs : List Clause) (frozen flags : List Bool)
     (list : List ℤ) (stack : List Clause) (lines : List Line) → is_some old ≡ false → count ≡ f.var_count → cs ≡ f.clauses →
@@ -51,6 +54,6 @@ extended-now numbers None f n cs frozen old new number s ls absent are is right 
 extended-now numbers (Some t) f n cs frozen old new number s ls absent are is right z put =
     let same : s ≡ t = ap (λ o. unwrap_or o []) (sym is) in
     let all = map literal_numbered numbers in
-    let m : Made = record { left = f; stack = t } in
+    let m : SimplifiedFormula = record { left = f; stack = t } in
     Extended m (extended t (model_values n all)) absent (extension (simplifier_of (Some t) f n cs frozen old) m all right) refl z
     (ap (λ vs. simplifier_of (Some t) f n cs frozen vs) (put ∙ (λ i. value_numbers (extended (same i) (model_values n (are i))))))

@@ -7,7 +7,7 @@ use Rattle.varisat_theory.specs.promises.Membership.{◌∈◌}
 use Rattle.varisat_theory.specs.promises.Literals.{Literal}
 use Rattle.varisat_literals.specs.promises.Numbers.{literal_numbered, variable_numbered}
 use Rattle.varisat_formula.specs.promises.Rest.{Progress}
-use Rattle.varisat_formula.specs.promises.Streams.{Taken}
+use Rattle.varisat_formula.specs.promises.Streams.{Taken, no_bytes}
 use Rattle.varisat_names.specs.promises.Settings.{update_of}
 use Rattle.varisat_names.specs.declared.config.ConfigField.{ConfigField}
 use Rattle.varisat_names.specs.declared.variables.data.SamplingMode.{SamplingMode}
@@ -33,12 +33,12 @@ pub record Caller : Type 0 where
   pub text : Option Progress
 
 -- the clause, unless a literal of it is lost
-abbrev pub clause_of : Bool → List Literal → Option (List Literal)
-clause_of true c = None
-clause_of false c = Some c
+abbrev pub clause_unless_lost : Bool → List Literal → Option (List Literal)
+clause_unless_lost true c = None
+clause_unless_lost false c = Some c
 
 -- a caller of a new solver, to which nothing was returned yet
-pub record IsNew (g : Caller) : Type 0 where
+pub record IsNewCaller (g : Caller) : Type 0 where
   pub solver : Represents g.solver empty_state
   pub clause : g.clause ≡ Some []
   pub returned : g.returned ≡ []
@@ -58,8 +58,8 @@ abbrev pub MakesNumbered : (State → Answer → State → Type 0) → Caller �
 MakesNumbered R g n h = (answer : Answer) × (n ≡ answer_number answer) × Makes R g answer h
 
 -- What was given is none of what it should be, and nothing changes.
-abbrev pub IsWrong : Caller → ℕ → Caller → Type 0
-IsWrong g n h = (n ≡ 14) × (h ≡ g)
+abbrev pub IsWrongCall : Caller → ℕ → Caller → Type 0
+IsWrongCall g n h = (n ≡ 14) × (h ≡ g)
 
 -- the call over the literals of the numbers
 abbrev pub over : List ℤ → (State → List Literal → Answer → State → Type 0) → State → Answer → State → Type 0
@@ -68,7 +68,7 @@ over numbers R s r t = R s (map literal_numbered numbers) r t
 -- The call is over the literals of these numbers, of which none is 0. It is 3 also where there was no room for them; then nothing changes.
 pub data MakesOver (numbers : List ℤ) (R : State → List Literal → Answer → State → Type 0) (g : Caller)
     (n : ℕ) (h : Caller) : Type 0 where
-  Zero : pos 0 ∈ numbers → IsWrong g n h → MakesOver numbers R g n h
+  Zero : pos 0 ∈ numbers → IsWrongCall g n h → MakesOver numbers R g n h
   NoRoom : n ≡ 3 → h ≡ g → MakesOver numbers R g n h
   Made : (pos 0 ∈ numbers → ⊥) → MakesNumbered (over numbers R) g n h → MakesOver numbers R g n h
 
@@ -101,7 +101,7 @@ NamesNew g r h = (answer : Result ℕ SolverError) × (r ≡ numbered answer) ×
 
 -- the setting is set
 abbrev pub SetsField : Option ConfigField → ℕ → Caller → ℕ → Caller → Type 0
-SetsField None value g n h = IsWrong g n h
+SetsField None value g n h = IsWrongCall g n h
 SetsField (Some field) value g n h = MakesNumbered (λ s r t. Configures s (update_of field value) r t) g n h
 
 -- the mode of the variable of the number is set
@@ -110,7 +110,7 @@ changing mode variable s r t = ChangesMode mode s (variable_numbered variable) r
 
 -- the mode of the variable is set
 pub data SetsMode (variable : ℤ) (mode : Option SamplingMode) (g : Caller) (n : ℕ) (h : Caller) : Type 0 where
-  Wrong : (variable <ℤ pos 1) ⊎ (mode ≡ None) → IsWrong g n h → SetsMode variable mode g n h
+  Wrong : (variable <ℤ pos 1) ⊎ (mode ≡ None) → IsWrongCall g n h → SetsMode variable mode g n h
   Made : (m : SamplingMode) → mode ≡ Some m → pos 1 ≤ℤ variable → MakesNumbered (changing m variable) g n h →
       SetsMode variable mode g n h
 
@@ -127,28 +127,24 @@ abbrev pub ShowsNames : List ℕ → Caller → Caller → Type 0
 ShowsNames us g h = LeadsRepresented g.solver (λ s t. Observes s (Ok us) t) h.solver
 
 -- Hidden variables come back, and their names are returned, or there is no room for that; or the call is refused.
-pub data Shows (g : Caller) (n : ℕ) (h : Caller) : Type 0 where
+pub data ShowsHidden (g : Caller) (n : ℕ) (h : Caller) : Type 0 where
   Returned : (us : List ℕ) → n ≡ 0 → ShowsNames us g h →
-      h ≡ record g { solver = h.solver; returned = returned_names us } → Shows g n h
+      h ≡ record g { solver = h.solver; returned = returned_names us } → ShowsHidden g n h
   NoRoom : (us : List ℕ) → n ≡ 3 → ShowsNames us g h →
-      h ≡ record g { solver = h.solver; returned = h.returned } → Shows g n h
-  Refused : (e : SolverError) → n ≡ refusal_number e → Makes Observes g (Err e) h → Shows g n h
-
--- before a proof a target has no bytes
-abbrev pub no_bytes : Taken
-no_bytes = record { bytes = []; faults = 0 }
+      h ≡ record g { solver = h.solver; returned = h.returned } → ShowsHidden g n h
+  Refused : (e : SolverError) → n ≡ refusal_number e → Makes Observes g (Err e) h → ShowsHidden g n h
 
 -- a proof opens in the format, for a target without bytes
 abbrev pub opening : ProofFormat → State → Result (Unit {0}) (SolverError × Taken) → State → Type 0
 opening f s r t = OpensProof {W = Taken} (λ w. w) no_bytes f s r t
 
 -- A proof opens in the format, if it is one. It is 3 also where there is no room for a target; then nothing changes.
-pub data Opens (format : Option ProofFormat) (g : Caller) (n : ℕ) (h : Caller) : Type 0 where
-  Wrong : format ≡ None → IsWrong g n h → Opens format g n h
-  NoRoom : n ≡ 3 → h ≡ g → Opens format g n h
-  Opened : (f : ProofFormat) → format ≡ Some f → n ≡ 0 → Makes (opening f) g (Ok tt) h → Opens format g n h
+pub data OpensFormat (format : Option ProofFormat) (g : Caller) (n : ℕ) (h : Caller) : Type 0 where
+  Wrong : format ≡ None → IsWrongCall g n h → OpensFormat format g n h
+  NoRoom : n ≡ 3 → h ≡ g → OpensFormat format g n h
+  Opened : (f : ProofFormat) → format ≡ Some f → n ≡ 0 → Makes (opening f) g (Ok tt) h → OpensFormat format g n h
   Refused : (f : ProofFormat) (e : SolverError) → format ≡ Some f → n ≡ refusal_number e →
-      Makes (opening f) g (Err (e, no_bytes)) h → Opens format g n h
+      Makes (opening f) g (Err (e, no_bytes)) h → OpensFormat format g n h
 
 -- the proof is closed, with the target that comes back
 abbrev pub closing : State → Result (Option Taken) (SolverError × Taken) → State → Type 0

@@ -9,7 +9,7 @@ use Rattle.varisat_solver.specs.promises.States.{State}
 use Rattle.varisat_solver.specs.promises.Summaries.{Summary}
 use Rattle.varisat_solver.specs.promises.Represented.{LeadsRepresented}
 use Rattle.varisat_solver.specs.promises.Calls.{ReturnsList, by_state}
-use Rattle.varisat_calls.specs.Callers.{Caller, IsWrong}
+use Rattle.varisat_calls.specs.Callers.{Caller, IsWrongCall}
 use Rattle.varisat_calls.specs.declared.lookups.Kept.{Kept}
 use Rattle.varisat_calls.specs.declared.lookups.Kept.TheVariants as kept
 
@@ -21,8 +21,8 @@ abbrev pub ReturnsCore : State → Result (Option (List Literal)) AllocError →
 ReturnsCore s r t = ReturnsList (by_state.core s) s r t
 
 -- the list is the one that `model` returns, or there is none
-abbrev pub IsModel : Summary → List Literal → Type 0
-IsModel g m = LeadsRepresented g (λ s t. ReturnsModel s (Ok (Some m)) t) g
+abbrev pub IsReturnedModel : Summary → List Literal → Type 0
+IsReturnedModel g m = LeadsRepresented g (λ s t. ReturnsModel s (Ok (Some m)) t) g
 
 abbrev pub HasNoModel : Summary → Type 0
 HasNoModel g = LeadsRepresented g (λ s t. ReturnsModel s (Ok None) t) g
@@ -41,7 +41,7 @@ pub record Lookups : Type 0 where
 
 -- what is kept is what the solver returns
 pub record IsCurrent (c : Lookups) (solver : Summary) : Type 0 where
-  pub model : c.kept ≡ kept.Model → (m : List Literal) × IsModel solver m × IsSetOf m c.literals
+  pub model : c.kept ≡ kept.Model → (m : List Literal) × IsReturnedModel solver m × IsSetOf m c.literals
   pub core : c.kept ≡ kept.Core → (m : List Literal) × IsCore solver m × IsSetOf m c.literals
 
 -- 1: the literal is in the set; 0: its opposite is; 15: neither is
@@ -57,17 +57,17 @@ pub data IsMember (flags : List Bool) (l : Literal) (n : ℕ) : Type 0 where
 
 -- What a look-up answers that finds no list: the number is 0; or there is none; or its literals found no memory, and another look-up may be made.
 pub data FindsNone (none : Summary → Type 0) (number : ℤ) (g : Caller) (n : ℕ) (h : Caller) : Type 0 where
-  Zero : number ≡ pos 0 → IsWrong g n h → FindsNone none number g n h
+  Zero : number ≡ pos 0 → IsWrongCall g n h → FindsNone none number g n h
   NoList : n ≡ 15 → none g.solver → h ≡ g → FindsNone none number g n h
   NoRoom : n ≡ 3 → h ≡ g → FindsNone none number g n h
 
 -- Whether the literal of the number is true in the model: 1 and 0, and 15 where the model has no such variable.
 pub data ReturnsValue (number : ℤ) (g : Caller) (n : ℕ) (h : Caller) : Type 0 where
-  True : (m : List Literal) → IsModel g.solver m → literal_numbered number ∈ m → n ≡ 1 → h ≡ g →
+  True : (m : List Literal) → IsReturnedModel g.solver m → literal_numbered number ∈ m → n ≡ 1 → h ≡ g →
       ReturnsValue number g n h
-  False : (m : List Literal) → IsModel g.solver m → opposite (literal_numbered number) ∈ m → n ≡ 0 → h ≡ g →
+  False : (m : List Literal) → IsReturnedModel g.solver m → opposite (literal_numbered number) ∈ m → n ≡ 0 → h ≡ g →
       ReturnsValue number g n h
-  Unknown : (m : List Literal) → IsModel g.solver m → (literal_numbered number ∈ m → ⊥) →
+  Unknown : (m : List Literal) → IsReturnedModel g.solver m → (literal_numbered number ∈ m → ⊥) →
       (opposite (literal_numbered number) ∈ m → ⊥) →
       n ≡ 15 → h ≡ g → ReturnsValue number g n h
   Unfound : FindsNone HasNoModel number g n h → ReturnsValue number g n h

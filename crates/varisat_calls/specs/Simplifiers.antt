@@ -7,12 +7,13 @@ use Rattle.varisat_theory.specs.promises.Literals.{Literal, Clause, SatisfiesAll
 use Rattle.varisat_theory.specs.promises.Derivations.{Line}
 use Rattle.varisat_literals.specs.promises.Numbers.{literal_numbered, variable_numbered, variable_limit}
 use Rattle.varisat_formula.specs.promises.Formulas.{Formula, no_clauses, with_one_more, AreBelow}
-use Rattle.varisat_rules.specs.promises.Stacks.{assignment_of, extended, KeepsFrozen}
+use Rattle.varisat_formula.specs.promises.Values.{assignment_of, model_values}
+use Rattle.varisat_rules.specs.promises.Stacks.{extended, KeepsFrozen}
 use Rattle.varisat_simplify.specs.promises.Simplified.{IsMadeOf}
-use Rattle.varisat_calls.specs.Lists.{AreInRange, clause_numbers, value_numbers, model_values}
+use Rattle.varisat_calls.specs.Lists.{AreWithinLimit, clause_numbers, value_numbers}
 
 -- the clauses that are left, and the stack that extends their models
-pub record Made : Type 0 where
+pub record SimplifiedFormula : Type 0 where
   pub left : Formula
   pub stack : List Clause
 
@@ -21,7 +22,7 @@ pub record Made : Type 0 where
 pub record Simplifier : Type 0 where
   pub given : Formula
   pub frozen : List Bool
-  pub made : Option Made
+  pub made : Option SimplifiedFormula
   pub list : List ℤ
 
 -- a simplifier that was given nothing
@@ -29,7 +30,7 @@ abbrev pub nothing_given : Simplifier
 nothing_given = record { given = no_clauses; frozen = []; made = None; list = [] }
 
 -- what was made: nothing before there is a stack
-abbrev pub made_of : Option (List Clause) → Formula → Option Made
+abbrev pub made_of : Option (List Clause) → Formula → Option SimplifiedFormula
 made_of None f = None
 made_of (Some stack) f = Some (record { left = f; stack = stack })
 
@@ -40,52 +41,52 @@ given_of (Some stack) f n cs = record { var_count = n; clauses = cs }
 
 -- What was made of the formula while these variables were frozen: what satisfies it satisfies what is left, and values that satisfy
 -- what is left are extended to ones that satisfy it, where no frozen variable has another value.
-pub record IsSimplified (g : Formula) (frozen : List Bool) (m : Made) : Type 0 where
+pub record SimplifiesFormula (g : Formula) (frozen : List Bool) (m : SimplifiedFormula) : Type 0 where
   pub made : (lines : List Line) × IsMadeOf g m.left m.stack lines
   pub keeps : KeepsFrozen frozen m.stack
   pub below : AreBelow g.var_count g.clauses
   pub small : g.var_count ≤ 2 ^ 31
 
 -- nothing changes, for the reason that has this number
-abbrev pub IsRefused : ℕ → Simplifier → ℕ → Simplifier → Type 0
-IsRefused why g n h = (n ≡ why) × (h ≡ g)
+abbrev pub IsRefusedFor : ℕ → Simplifier → ℕ → Simplifier → Type 0
+IsRefusedFor why g n h = (n ≡ why) × (h ≡ g)
 
 -- The clause of the numbers is given.
 pub data Adds (numbers : List ℤ) (g : Simplifier) (n : ℕ) (h : Simplifier) : Type 0 where
-  Given : (pos 0 ∈ numbers → ⊥) → AreInRange (map literal_numbered numbers) → g.made ≡ None → n ≡ 0 →
+  Given : (pos 0 ∈ numbers → ⊥) → AreWithinLimit (map literal_numbered numbers) → g.made ≡ None → n ≡ 0 →
       h ≡ record g { given = with_one_more g.given (map literal_numbered numbers) } → Adds numbers g n h
-  Zero : pos 0 ∈ numbers → IsRefused 14 g n h → Adds numbers g n h
-  TooHigh : (AreInRange (map literal_numbered numbers) → ⊥) → IsRefused 7 g n h → Adds numbers g n h
-  TooLate : IsSome g.made → IsRefused 19 g n h → Adds numbers g n h
-  NoRoom : IsRefused 3 g n h → Adds numbers g n h
+  Zero : pos 0 ∈ numbers → IsRefusedFor 14 g n h → Adds numbers g n h
+  TooHigh : (AreWithinLimit (map literal_numbered numbers) → ⊥) → IsRefusedFor 7 g n h → Adds numbers g n h
+  TooLate : IsSome g.made → IsRefusedFor 19 g n h → Adds numbers g n h
+  NoRoom : IsRefusedFor 3 g n h → Adds numbers g n h
 
 -- the variable is flagged, and no other one changes
-pub record IsFlagged (old : List Bool) (v : ℕ) (new : List Bool) : Type 0 where
+pub record SetsFlag (old : List Bool) (v : ℕ) (new : List Bool) : Type 0 where
   pub flagged : slice_index_or new v false ≡ true
   pub others : (k : ℕ) → k ≢ v → slice_index_or new k false ≡ slice_index_or old k false
 
 -- The variable is frozen.
 pub data Freezes (variable : ℤ) (g : Simplifier) (n : ℕ) (h : Simplifier) : Type 0 where
   Frozen : pos 1 ≤ℤ variable → variable_numbered variable < variable_limit → g.made ≡ None → n ≡ 0 →
-      IsFlagged g.frozen (variable_numbered variable) h.frozen → h ≡ record g { frozen = h.frozen } →
+      SetsFlag g.frozen (variable_numbered variable) h.frozen → h ≡ record g { frozen = h.frozen } →
       Freezes variable g n h
-  Wrong : variable <ℤ pos 1 → IsRefused 14 g n h → Freezes variable g n h
-  TooHigh : variable_limit ≤ variable_numbered variable → IsRefused 7 g n h → Freezes variable g n h
-  TooLate : IsSome g.made → IsRefused 19 g n h → Freezes variable g n h
-  NoRoom : IsRefused 3 g n h → Freezes variable g n h
+  Wrong : variable <ℤ pos 1 → IsRefusedFor 14 g n h → Freezes variable g n h
+  TooHigh : variable_limit ≤ variable_numbered variable → IsRefusedFor 7 g n h → Freezes variable g n h
+  TooLate : IsSome g.made → IsRefusedFor 19 g n h → Freezes variable g n h
+  NoRoom : IsRefusedFor 3 g n h → Freezes variable g n h
 
 -- The clauses are simplified, once.
 pub data Simplifies (g : Simplifier) (n : ℕ) (h : Simplifier) : Type 0 where
-  Simplified : (m : Made) → IsSimplified g.given g.frozen m → g.made ≡ None → n ≡ 0 → h ≡ record g { made = Some m } →
+  Simplified : (m : SimplifiedFormula) → SimplifiesFormula g.given g.frozen m → g.made ≡ None → n ≡ 0 → h ≡ record g { made = Some m } →
       Simplifies g n h
-  TooLate : IsSome g.made → IsRefused 19 g n h → Simplifies g n h
-  NoRoom : IsRefused 3 g n h → Simplifies g n h
+  TooLate : IsSome g.made → IsRefusedFor 19 g n h → Simplifies g n h
+  NoRoom : IsRefusedFor 3 g n h → Simplifies g n h
 
 -- The clauses that are left are listed, each ended by a 0.
 pub data ListsClauses (g : Simplifier) (n : ℕ) (h : Simplifier) : Type 0 where
-  Listed : (m : Made) → IsSimplified g.given g.frozen m → g.made ≡ Some m → n ≡ 0 →
+  Listed : (m : SimplifiedFormula) → SimplifiesFormula g.given g.frozen m → g.made ≡ Some m → n ≡ 0 →
       h ≡ record g { list = clause_numbers m.left.clauses } → ListsClauses g n h
-  Nothing : g.made ≡ None → IsRefused 15 g n h → ListsClauses g n h
+  Nothing : g.made ≡ None → IsRefusedFor 15 g n h → ListsClauses g n h
   NoRoom : n ≡ 3 → h ≡ record g { list = h.list } → ListsClauses g n h
 
 -- each clause has a literal of the list, and no literal's opposite is in it too
@@ -95,22 +96,22 @@ pub record IsModelOf (P : List Clause) (ls : List Literal) : Type 0 where
 
 -- What is made of values of all variables of the clauses that were given: where they satisfy what is left it satisfies these, and no
 -- frozen variable has another value.
-pub record ExtendsValues (g : Formula) (flags : List Bool) (m : Made) (vs ws : List Bool) : Type 0 where
+pub record ExtendsValues (g : Formula) (flags : List Bool) (m : SimplifiedFormula) (vs ws : List Bool) : Type 0 where
   pub same : ws ≡ extended m.stack vs
   pub satisfies : SatisfiesAll (assignment_of vs) m.left.clauses → SatisfiesAll (assignment_of ws) g.clauses
   pub frozen : (v : ℕ) → slice_index_or flags v false ≡ true → slice_index_or ws v false ≡ slice_index_or vs v false
 
 -- Values of all variables of the clauses that were given are listed, which are made of those by the literals of the numbers. They satisfy
 -- these clauses where the literals are a model of the clauses that are left.
-pub record IsExtension (g : Simplifier) (m : Made) (ls : List Literal) (ws : List Bool) : Type 0 where
+pub record IsExtension (g : Simplifier) (m : SimplifiedFormula) (ls : List Literal) (ws : List Bool) : Type 0 where
   pub extends : ExtendsValues g.given g.frozen m (model_values g.given.var_count ls) ws
   pub model : IsModelOf m.left.clauses ls → SatisfiesAll (assignment_of ws) g.given.clauses
 
 -- A model of the clauses that are left is extended to one of those that were given.
 pub data Extends (numbers : List ℤ) (g : Simplifier) (n : ℕ) (h : Simplifier) : Type 0 where
-  Extended : (m : Made) (ws : List Bool) → (pos 0 ∈ numbers → ⊥) → IsExtension g m (map literal_numbered numbers) ws →
+  Extended : (m : SimplifiedFormula) (ws : List Bool) → (pos 0 ∈ numbers → ⊥) → IsExtension g m (map literal_numbered numbers) ws →
       g.made ≡ Some m → n ≡ 0 →
       h ≡ record g { list = value_numbers ws } → Extends numbers g n h
-  Zero : pos 0 ∈ numbers → IsRefused 14 g n h → Extends numbers g n h
-  Nothing : g.made ≡ None → IsRefused 15 g n h → Extends numbers g n h
+  Zero : pos 0 ∈ numbers → IsRefusedFor 14 g n h → Extends numbers g n h
+  Nothing : g.made ≡ None → IsRefusedFor 15 g n h → Extends numbers g n h
   NoRoom : n ≡ 3 → h ≡ record g { list = h.list } → Extends numbers g n h

@@ -56,7 +56,7 @@ impl<A: Allocator + Copy> Model for Caller<A> {
 
     ghost view = { λ c. record {
       solver = c.solver;
-      clause = callers.clause_of c.is_lost c.clause.items;
+      clause = callers.clause_unless_lost c.is_lost c.clause.items;
       returned = c.returned.items;
       text = c.text;
     } };
@@ -74,13 +74,13 @@ impl<A: Allocator + Copy> Caller<A> {
     ghost use Rattle.varisat_solver.specs.promises.Usage.{ChangesMode};
     ghost use Rattle.varisat_theory.specs.promises.Literals.{IsSatisfiableWith};
     ghost use Rattle.varisat_calls.specs.Codes.{field_numbered, format_numbered, mode_numbered};
-    ghost use Rattle.varisat_calls.specs.Callers.{IsNew, Makes, MakesNumbered, MakesOver, AddsNumber, LimitsSteps, Searches, NamesNew, SetsField, SetsMode, ReturnsListOf, Shows, Opens, Closes};
+    ghost use Rattle.varisat_calls.specs.Callers.{IsNewCaller, Makes, MakesNumbered, MakesOver, AddsNumber, LimitsSteps, Searches, NamesNew, SetsField, SetsMode, ReturnsListOf, ShowsHidden, OpensFormat, Closes};
     ghost use Rattle.varisat_calls.specs.Lookups.{ReturnsValue, ReturnsFailed};
     ghost use Rattle.varisat_calls.specs.Texts.{text_of, without_clauses, AddsClauses, Feeds, EndsText};
 
     /// A caller with a new solver. It takes no memory.
     pub fn new_in(alloc: A) -> Caller<A>
-        ensures { IsNew result }
+        ensures { IsNewCaller result }
     {
         Caller {
             alloc,
@@ -302,7 +302,7 @@ impl<A: Allocator + Copy> Caller<A> {
 
     /// Brings the hidden variables back as witnesses, and returns their names.
     pub fn observe(&mut self) -> u8
-        ensures { Shows self.old result self.new }
+        ensures { ShowsHidden self.old result self.new }
     {
         self.lookups.forget();
         match self.solver.observe_internal_vars() {
@@ -419,7 +419,7 @@ impl<A: Allocator + Copy> Caller<A> {
 
     /// Opens a proof in the format of this number.
     pub fn open_proof(&mut self, format: u8) -> u8
-        ensures { Opens (format_numbered format) self.old result self.new }
+        ensures { OpensFormat (format_numbered format) self.old result self.new }
     {
         let Some(format) = format_of(format) else {
             return WRONG;

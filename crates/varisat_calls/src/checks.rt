@@ -1,17 +1,16 @@
 //! The check of a proof in memory against a DIMACS text in memory.
-ghost use Rattle.std.specs.Prelude.{◌≡◌, ◌≢◌, ◌↔◌, [], false, None, IsTrue, OnOk};
+ghost use Rattle.std.specs.Prelude.{◌≡◌, ◌≢◌, [], false, None, OnOk};
 ghost use Rattle.varisat_theory.specs.promises.Literals.{IsSatisfiable};
 ghost use Rattle.varisat_formula.specs.promises.Dimacs.{dimacs};
-ghost use Rattle.varisat_proof.specs.promises.Verified.{AreGiven};
 ghost use Rattle.varisat_proof.specs.declared.checker.error.CheckVerdict.TheVariants.{Refutation};
 ghost use Rattle.varisat_calls.specs.Texts.{IsRefutedText};
 
 use crate::codes::{WRONG, format_of};
 use std::alloc::Allocator;
-use varisat_formula::formula::CnfFormula;
 use varisat_formula::io::CutSource;
 use varisat_formula::io::source::known_bytes_are_read;
 use varisat_proof::checker::{CheckVerdict, Checker, CheckerError, DratCounts};
+use varisat_proof::program::are_given;
 use varisat_proof::proof::ProofFormat;
 
 /// The proof refutes the text's clauses.
@@ -67,18 +66,6 @@ fn add_text<A: Allocator + Copy>(checker: &mut Checker<A>, text: &[u8]) -> Resul
 {
     known_bytes_are_read();
     checker.add_dimacs_cnf(&mut CutSource::new(text))
-}
-
-/// Whether each clause of the formula is equal as a set to one that the checker has.
-fn are_given<A: Allocator + Copy>(given: &Checker<A>, formula: &CnfFormula<A>) -> bool
-    ensures { IsTrue result ↔ AreGiven given.now.clauses formula.now.clauses }
-{
-    for clause in formula.iter() {
-        if !given.has_clause(clause) {
-            return false;
-        }
-    }
-    true
 }
 
 /// Checks a marked proof by a new checker. The clauses that it was given have to be among those of the other one.

@@ -2,16 +2,17 @@
 ghost use Rattle.std.specs.Prelude.{◌≡◌, ◌≢◌, ◌<◌, ◌≤◌, ◌^◌, ◌/◌, ◌++◌, ◌∷◌, ◌↔◌, ℕ, [], pos, false, true, length, IsTrue, EachIndex, slice_index, slice_index_or, OnOk, OnErr, IfOk};
 ghost use Rattle.varisat_literals.specs.promises.Numbers.{variable_limit};
 ghost use Rattle.varisat_calls.specs.Numbers.{returned_numbers};
-ghost use Rattle.varisat_calls.specs.Lists.{AreInRange, clause_numbers, literals_from, value_numbers, with_all_true, model_values};
+ghost use Rattle.varisat_calls.specs.Lists.{AreWithinLimit, clause_numbers, value_numbers};
 
 use crate::numbers::list_numbers;
 use std::alloc::{AllocError, Allocator};
 use varisat_formula::formula::CnfFormula;
+use varisat_formula::values::literals_of;
 use varisat_literals::{Lit, Var};
 
 /// Whether all variables are below the limit that a solver has.
 pub fn are_in_range(literals: &[Lit]) -> bool
-    ensures { IsTrue result ↔ AreInRange literals.now }
+    ensures { IsTrue result ↔ AreWithinLimit literals.now }
 {
     literals.iter().all(|lit| lit.index() < Var::max_count())
 }
@@ -46,18 +47,6 @@ pub fn list_clauses<A: Allocator + Copy>(
     Ok(())
 }
 
-/// The literals that are true.
-fn literals_of<A: Allocator + Copy>(alloc: A, values: &[bool]) -> Result<Vec<Lit, A>, AllocError>
-    requires { length values.now ≤ 2 ^ 31 }
-    ensures { IfOk result (λ literals. literals.items ≡ literals_from 0 values.now) }
-{
-    let mut literals = Vec::new(alloc);
-    for (index, &value) in values.iter().enumerate() {
-        literals.push(Var::from_index(index).lit(value))?;
-    }
-    Ok(literals)
-}
-
 /// Puts the numbers of the variables, negative where they are false, in place of those before.
 pub fn list_values<A: Allocator + Copy>(
     alloc: A,
@@ -70,31 +59,6 @@ pub fn list_values<A: Allocator + Copy>(
     let literals = literals_of(alloc, values)?;
     list_numbers(list, &literals)?;
     Ok(())
-}
-
-/// Makes the literals true, of which the last of a variable counts. Those of no value are passed over.
-fn make_true(values: &mut [bool], literals: &[Lit])
-    ensures { values.new ≡ with_all_true literals.now values.old }
-{
-    for &lit in literals {
-        if lit.index() < values.len() {
-            values[lit.index()] = lit.is_positive();
-        }
-    }
-}
-
-/// The values of so many variables by the literals. A variable of none is false.
-pub fn values_of<A: Allocator + Copy>(
-    alloc: A,
-    count: usize,
-    literals: &[Lit],
-) -> Result<Vec<bool, A>, AllocError>
-    ensures { IfOk result (λ values. values.items ≡ model_values count literals.now) }
-{
-    let mut values = Vec::new(alloc);
-    values.resize(count, false)?;
-    make_true(&mut values, literals);
-    Ok(values)
 }
 
 /// Flags the place, for which the list grows where that is due. A refused growth changes nothing.

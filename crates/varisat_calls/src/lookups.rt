@@ -3,7 +3,7 @@ ghost use Rattle.std.specs.Prelude.{◌≡◌, ◌↔◌, IsTrue, true, false, O
 ghost use Rattle.varisat_theory.specs.promises.Literals.{Literal};
 ghost use Rattle.varisat_client.specs.inside.LiteralSets.{Has, IsSetOf};
 ghost use Rattle.varisat_solver.specs.promises.Summaries.{Summary};
-ghost use Rattle.varisat_calls.specs.Lookups.{IsCurrent, IsValueIn, IsMember, IsModel, IsCore, HasNoModel, HasNoCore};
+ghost use Rattle.varisat_calls.specs.Lookups.{IsCurrent, IsValueIn, IsMember, IsReturnedModel, IsCore, HasNoModel, HasNoCore};
 ghost use Rattle.varisat_calls.specs.declared.lookups.Kept.TheVariants.{Nothing};
 
 use crate::codes::NOTHING;
@@ -70,7 +70,7 @@ impl<A: Allocator + Copy> Lookups<A> {
     pub fn find_model(&mut self, solver: &Solver<StreamTarget<A>, A>) -> Result<bool, AllocError>
         requires { IsCurrent self.old solver.now }
         ensures current { IsCurrent self.new solver.now }
-        ensures model { result ≡ Ok true → (m : List Literal) × IsModel solver.now m × IsSetOf m self.new.literals }
+        ensures model { result ≡ Ok true → (m : List Literal) × IsReturnedModel solver.now m × IsSetOf m self.new.literals }
         ensures none { result ≡ Ok false → HasNoModel solver.now }
     {
         if let Kept::Model = self.kept {

@@ -2,15 +2,17 @@
 ghost use Rattle.std.specs.Prelude.{◌≡◌, ◌≤◌, ◌<◌, ◌^◌, IfOk, OnOk};
 ghost use Rattle.varisat_rules.specs.promises.Stacks.{extended, KeepsFrozen};
 ghost use Rattle.varisat_simplify.specs.promises.Simplified.{IsMadeOf};
-ghost use Rattle.varisat_calls.specs.Lists.{value_numbers, model_values};
+ghost use Rattle.varisat_formula.specs.promises.Values.{model_values};
+ghost use Rattle.varisat_calls.specs.Lists.{value_numbers};
 
 use crate::codes::{DONE, NOTHING, OUT_OF_MEMORY, TOO_LATE, VARIABLE_LIMIT, WRONG};
 use crate::given::GivenClauses;
-use crate::lists::{are_in_range, flag, list_clauses, list_values, values_of};
+use crate::lists::{are_in_range, flag, list_clauses, list_values};
 use crate::numbers::read_numbers;
 use std::alloc::{AllocError, Allocator};
 use std::marker::Model;
 use varisat_formula::formula::cnf::{CnfFormula, FormulaError};
+use varisat_formula::values::values_of;
 use varisat_literals::{Lit, Var};
 use varisat_simplify::clauses::ClauseList;
 use varisat_simplify::simplify::{Simplified, simplify};
@@ -106,7 +108,7 @@ impl<A: Allocator + Copy> Model for Simplifier<A> {
 
     ghost invariant = { λ c.
         IfSome (simplifiers.made_of c.stack c.formula)
-        (simplifiers.IsSimplified (simplifiers.given_of c.stack c.formula c.var_count c.given.clauses) c.frozen.items) };
+        (simplifiers.SimplifiesFormula (simplifiers.given_of c.stack c.formula c.var_count c.given.clauses) c.frozen.items) };
 }
 
 impl<A: Allocator + Copy> Simplifier<A> {

@@ -1,5 +1,6 @@
 -- The clauses after a collection, one by one.
 use Rattle.std.proofs.Common.{◌≡◌, ℕ, zero, suc, ◌+◌, ◌<◌, List, [], ◌∷◌, ◌++◌, length, map, take, take_all, get_or, true, false, cond, refl, sym, ap, ◌∙◌, subst, inl, inr, ⊎_elim, arith, add-one}
+use Rattle.std.proofs.lemmas.Bool.{cases_Bool}
 use Rattle.varisat_theory.specs.promises.Membership.{◌∈◌}
 use Rattle.varisat_clause.specs.Headers.{Header}
 use Rattle.varisat_clause.specs.Stored.{StoredClause, IsClauseRef, no_clause, stored_at, header_at, literals_at}
@@ -8,7 +9,7 @@ use Rattle.varisat_clause.specs.Databases.{Database, total, size_of, Tracks}
 use Rattle.varisat_clause.specs.Collected.{live_of, packed, collected, live_size, IsCollected}
 use Rattle.varisat_clause.proofs.StoreWords.{found-at}
 use Rattle.varisat_clause.proofs.StoreSound.{place-of}
-use Rattle.varisat_clause.proofs.DatabaseTracks.{total-append, true-or-false, long-at}
+use Rattle.varisat_clause.proofs.DatabaseTracks.{total-append, long-at}
 
 -- one more clause
 pub live-more : (ks : List StoredClause) (k : StoredClause) → k.header.deleted ≡ false → live_of (ks ++ k ∷ []) ≡ live_of ks ++ k ∷ []
@@ -19,7 +20,7 @@ live-more (j ∷ ks) k e =
     ∙ sym (ap (λ b. cond b (live_of ks) (j ∷ live_of ks) ++ k ∷ []) d))
     (λ d. ap (λ b. cond b (live_of (ks ++ k ∷ [])) (j ∷ live_of (ks ++ k ∷ []))) d ∙ ap (λ xs. j ∷ xs) (live-more ks k e)
     ∙ sym (ap (λ b. cond b (live_of ks) (j ∷ live_of ks) ++ k ∷ []) d))
-    (true-or-false j.header.deleted)
+    (cases_Bool j.header.deleted)
 
 dead-more : (ks : List StoredClause) (k : StoredClause) → k.header.deleted ≡ true → live_of (ks ++ k ∷ []) ≡ live_of ks
 dead-more [] k e = ap (λ b. cond b [] (k ∷ [])) e
@@ -28,7 +29,7 @@ dead-more (j ∷ ks) k e =
     (λ d. ap (λ b. cond b (live_of (ks ++ k ∷ [])) (j ∷ live_of (ks ++ k ∷ []))) d ∙ dead-more ks k e ∙ sym (ap (λ b. cond b (live_of ks) (j ∷ live_of ks)) d))
     (λ d. ap (λ b. cond b (live_of (ks ++ k ∷ [])) (j ∷ live_of (ks ++ k ∷ []))) d ∙ ap (λ xs. j ∷ xs) (dead-more ks k e)
     ∙ sym (ap (λ b. cond b (live_of ks) (j ∷ live_of ks)) d))
-    (true-or-false j.header.deleted)
+    (cases_Bool j.header.deleted)
 
 packed-more : (p : ℕ) (ks : List StoredClause) (k : StoredClause) (q : ℕ) → q ≡ p + total size_of ks →
     packed p (ks ++ k ∷ []) ≡ packed p ks ++ record { place = q; header = record k.header { mark = false }; literals = k.literals } ∷ []
@@ -112,7 +113,7 @@ copied-next s n m d e i p h q c live dead t =
     subst (IsCopied m e) (sym f) (⊎_elim
     (λ g. copied-dead n m d e (take i (stored_clauses s)) k c g (dead g) t)
     (λ g. copied-live n m d e (take i (stored_clauses s)) k c g (live g) t)
-    (true-or-false k.header.deleted))
+    (cases_Bool k.header.deleted))
 
 pub copied-all : (s n : Store) (d : Database) (i : ℕ) → i ≡ length s.places → IsCopied n d (take i (stored_clauses s)) → IsCollected n d (stored_clauses s)
 copied-all s n d i e c =

@@ -1,5 +1,6 @@
 -- The database fits the store: what each change of the clauses does to the counts, the garbage and the lists.
 use Rattle.std.proofs.Common.{◌≡◌, ℕ, ◌+◌, ◌<◌, ◌≤◌, ◌^◌, List, [], ◌∷◌, ◌++◌, length, map, take, Bool, true, false, cond, refl, sym, ap, ◌∙◌, subst, ◌⊎◌, inl, inr, ⊎_elim, arith}
+use Rattle.std.proofs.lemmas.Bool.{cases_Bool}
 use Rattle.varisat_theory.specs.promises.Membership.{◌∈◌}
 use Rattle.varisat_theory.proofs.clauses.Members.{equal_or_not, ∈-append_left, ∈-append_right, ∈-append_cases}
 use Rattle.varisat_clause.specs.declared.header.Tier.{Tier}
@@ -48,10 +49,6 @@ same-tier Mid Mid e = refl
 same-tier Local Local e = refl
 same-tier t u e = absurd (cc)
 
-pub true-or-false : (b : Bool) → (b ≡ true) ⊎ (b ≡ false)
-true-or-false true = inl refl
-true-or-false false = inr refl
-
 -- what stands in a list after a push
 pub pushed-cases : (t u : Tier) (p q : ℕ) (l : ListsByTier) → q ∈ tier_list u (pushed t p l) → (q ∈ tier_list u l) ⊎ (q ≡ p)
 pushed-cases t u p q l h =
@@ -62,7 +59,7 @@ pushed-cases t u p q l h =
     ⊎_elim (λ j. inl (subst (λ (x : Tier). q ∈ tier_list x l) (sym g) j)) (λ j. inr (⊎_elim (λ k. k) (λ k. absurd k) j))
     (∈-append_cases q (tier_list t l) (p ∷ []) i))
     (λ e. inl (subst (λ (xs : List ℕ). q ∈ xs) (list-with t u (tier_list t l ++ p ∷ []) l ∙ ap (λ b. cond b (tier_list t l ++ p ∷ []) (tier_list u l)) e) h))
-    (true-or-false (is_tier u t))
+    (cases_Bool (is_tier u t))
 
 pub pushed-old : (t u : Tier) (p q : ℕ) (l : ListsByTier) → q ∈ tier_list u l → q ∈ tier_list u (pushed t p l)
 pushed-old t u p q l h =
@@ -71,7 +68,7 @@ pushed-old t u p q l h =
     subst (λ (xs : List ℕ). q ∈ xs) (sym (list-with t u (tier_list t l ++ p ∷ []) l ∙ ap (λ b. cond b (tier_list t l ++ p ∷ []) (tier_list u l)) e))
     (∈-append_left q (tier_list t l) (p ∷ []) (subst (λ (x : Tier). q ∈ tier_list x l) g h)))
     (λ e. subst (λ (xs : List ℕ). q ∈ xs) (sym (list-with t u (tier_list t l ++ p ∷ []) l ∙ ap (λ b. cond b (tier_list t l ++ p ∷ []) (tier_list u l)) e)) h)
-    (true-or-false (is_tier u t))
+    (cases_Bool (is_tier u t))
 
 pub pushed-new : (t : Tier) (p : ℕ) (l : ListsByTier) → p ∈ tier_list t (pushed t p l)
 pushed-new t p l =

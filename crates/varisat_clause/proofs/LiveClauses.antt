@@ -9,7 +9,7 @@ use Rattle.varisat_clause.specs.Filters.{live_places}
 use Rattle.varisat_clause.proofs.CollectedClauses.{clause-of-index, length-places}
 use Rattle.varisat_clause.proofs.StoreSound.{place-of}
 
-drop-next : (ks : List StoredClause) (i : ℕ) → i < length ks → drop i ks ≡ get_or ks i no_clause ∷ drop (i + 1) ks
+pub drop-next : (ks : List StoredClause) (i : ℕ) → i < length ks → drop i ks ≡ get_or ks i no_clause ∷ drop (i + 1) ks
 drop-next ks i h = drop-cons ks i no_clause h ∙ ap (λ (n : ℕ). get_or ks i no_clause ∷ drop n ks) (sym (add-one i))
 
 -- the next clause is deleted

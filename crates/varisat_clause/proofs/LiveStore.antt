@@ -1,5 +1,6 @@
 -- The clauses of a store that are not deleted, by their places.
 use Rattle.std.proofs.Common.{◌≡◌, ◌≢◌, ℕ, ◌≤◌, List, [], ◌∷◌, length, inl, inr, ⊎_elim, true, false, cond, sym, ap, ◌∙◌, subst, arith}
+use Rattle.std.proofs.lemmas.Bool.{cases_Bool}
 use Rattle.varisat_theory.specs.promises.Membership.{◌∈◌}
 use Rattle.varisat_theory.specs.promises.Literals.{Clause}
 use Rattle.varisat_theory.proofs.clauses.Members.{equal_or_not}
@@ -8,7 +9,6 @@ use Rattle.varisat_clause.specs.Stores.{Store, stored_clauses, IsSound, HoldsCla
 use Rattle.varisat_clause.specs.Collected.{live_of, live_clauses}
 use Rattle.varisat_clause.proofs.StoredClauses.{stored-here, stored-later, stored-∈, with-here, with-later, place-later, place-last}
 use Rattle.varisat_clause.proofs.StoreSound.{are-rising, are-long}
-use Rattle.varisat_clause.proofs.DatabaseTracks.{true-or-false}
 use Rattle.varisat_clause.proofs.CollectedClauses.{live-more}
 
 -- the first clause is deleted, or it is not
@@ -26,7 +26,7 @@ live-∈ (j ∷ ks) k h =
     (λ d. let (i, e) = live-∈ ks k (subst (λ xs. k ∈ xs) (live-later j ks d) h) in (inr i, e))
     (λ d. ⊎_elim (λ e. (inl e, ap (λ (x : StoredClause). x.header.deleted) e ∙ d)) (λ m. let (i, e) = live-∈ ks k m in (inr i, e))
     (subst (λ xs. k ∈ xs) (live-here j ks d) h))
-    (true-or-false j.header.deleted)
+    (cases_Bool j.header.deleted)
 
 pub ∈-live : (ks : List StoredClause) (k : StoredClause) → k ∈ ks → k.header.deleted ≡ false → k ∈ live_of ks
 ∈-live [] k h e = absurd h
@@ -35,7 +35,7 @@ pub ∈-live : (ks : List StoredClause) (k : StoredClause) → k ∈ ks → k.he
     (λ d. subst (λ xs. k ∈ xs) (sym (live-later j ks d))
     (⊎_elim (λ f. absurd (let g : true ≡ false = sym d ∙ sym (ap (λ (x : StoredClause). x.header.deleted) f) ∙ e in cc)) (λ i. ∈-live ks k i e) h))
     (λ d. subst (λ xs. k ∈ xs) (sym (live-here j ks d)) (⊎_elim inl (λ i. inr (∈-live ks k i e)) h))
-    (true-or-false j.header.deleted)
+    (cases_Bool j.header.deleted)
 
 pub live-place : (ks : List StoredClause) (p : ℕ) → IsClauseRef (live_of ks) p → IsClauseRef ks p
 live-place ks p (k, h, e) = (k, (live-∈ ks k h).0, e)
@@ -46,7 +46,7 @@ live-rising (j ∷ ks) r =
     ⊎_elim
     (λ d. subst AreRising (sym (live-later j ks d)) (live-rising ks r.1))
     (λ d. subst AreRising (sym (live-here j ks d)) ((λ k h. r.0 k (live-∈ ks k h).0), live-rising ks r.1))
-    (true-or-false j.header.deleted)
+    (cases_Bool j.header.deleted)
 
 -- where the places rise, none of the later clauses stands at the first one's
 passed : (j : StoredClause) (ks : List StoredClause) (p : ℕ) → AreRising (j ∷ ks) → IsClauseRef (live_of ks) p → j.place ≢ p
@@ -63,7 +63,7 @@ live-at (j ∷ ks) p r h =
     (λ n. stored-later j (live_of ks) p n ∙ live-at ks p r.1 (place-later j (live_of ks) p (subst (λ xs. IsClauseRef xs p) (live-here j ks d) h) n)
     ∙ sym (stored-later j ks p n))
     (equal_or_not j.place p))
-    (true-or-false j.header.deleted)
+    (cases_Bool j.header.deleted)
 
 live-with : (ks : List StoredClause) (p : ℕ) (c : Clause) → AreRising ks → IsClauseRef (live_of ks) p →
     live_of (with_literals ks p c) ≡ with_literals (live_of ks) p c
@@ -80,7 +80,7 @@ live-with (j ∷ ks) p c r h =
     ∙ ap (λ xs. j ∷ xs) (live-with ks p c r.1 (place-later j (live_of ks) p (subst (λ xs. IsClauseRef xs p) (live-here j ks d) h) n))
     ∙ sym (with-later j (live_of ks) p c n) ∙ sym (ap (λ xs. with_literals xs p c) (live-here j ks d)))
     (equal_or_not j.place p))
-    (true-or-false j.header.deleted)
+    (cases_Bool j.header.deleted)
 
 -- what is read at the place of a clause that is not deleted
 module _ (s : Store) (p : ℕ) (ok : IsSound s) (h : IsClauseRef (live_clauses s) p) where

@@ -14,7 +14,7 @@ use Rattle.varisat_clause.specs.Reductions.{ListsTier, unmarked_places, all_dele
 use Rattle.varisat_clause.proofs.StoredClauses.{clause-same, clause-other, clause-place}
 use Rattle.varisat_clause.proofs.DatabaseTracks.{place-is}
 
-unmarked-none : (ks : List StoredClause) (ps : List ℕ) → unmarked_places ks zero ps ≡ []
+pub unmarked-none : (ks : List StoredClause) (ps : List ℕ) → unmarked_places ks zero ps ≡ []
 unmarked-none ks [] = refl
 unmarked-none ks (p ∷ ps) = refl
 

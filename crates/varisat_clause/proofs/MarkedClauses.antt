@@ -2,6 +2,7 @@
 use Rattle.std.proofs.Common.{◌≡◌, ◌≢◌, ℕ, ◌+◌, ◌<◌, ◌≤◌, List, [], ◌∷◌, ◌++◌, length, map, take, take_all, get_or, set, Bool, true, false, not, cond, nat_eq, refl, sym, ap, ◌∙◌, subst, ◌⊎◌, inl, inr, ⊎_elim, arith, length-set}
 use Rattle.std.specs.Prelude.{◌&&◌}
 use Rattle.std.proofs.lemmas.List.{take_more_set, get_or-set_other}
+use Rattle.std.proofs.lemmas.Bool.{cases_Bool, and_from, eq-eqb}
 use Rattle.varisat_theory.specs.promises.Membership.{◌∈◌, IsDistinct}
 use Rattle.varisat_theory.proofs.clauses.Members.{equal_or_not, ∈-or_not, ∈-append_left, ∈-append_right, ∈-append_cases}
 use Rattle.varisat_theory.proofs.clauses.Places.{∈-get_or, ∈-take_more}
@@ -11,9 +12,9 @@ use Rattle.varisat_clause.specs.Stored.{StoredClause, IsClauseRef, AreRising, st
 use Rattle.varisat_clause.specs.Stores.{Store, stored_clauses, IsSound, HoldsClauses}
 use Rattle.varisat_clause.specs.Databases.{Database, count_of, tier_list, with_tier_list, is_live, is_live_in, total, size_of, live_count, garbage_of, Tracks}
 use Rattle.varisat_clause.specs.Reductions.{is_unmarked_in, AreUnmarkedIn, marked_as, with_mark, CanMarkTier, MarksTier}
-use Rattle.varisat_clause.proofs.StoredClauses.{stored-here, stored-later, clause-here, clause-later, place-later, stored-∈, stored-found, is-same, is-other}
+use Rattle.varisat_clause.proofs.StoredClauses.{stored-here, stored-later, clause-here, clause-later, place-later, stored-∈, stored-found, is-other}
 use Rattle.varisat_clause.proofs.StoreSound.{are-rising}
-use Rattle.varisat_clause.proofs.DatabaseTracks.{true-or-false, tier-self, same-tier, list-with, place-is}
+use Rattle.varisat_clause.proofs.DatabaseTracks.{tier-self, same-tier, list-with, place-is}
 use Rattle.varisat_clause.proofs.MappedClauses.{mapped-known}
 
 -- two changes of the clauses that agree but for one place
@@ -76,17 +77,12 @@ both-true true false e = (refl, refl)
 both-true true true e = absurd (cc)
 both-true false b e = absurd (cc)
 
-and-true : (a b : Bool) → a ≡ true → b ≡ true → (a && b) ≡ true
-and-true true true p q = refl
-and-true true false p q = absurd (cc)
-and-true false b p q = absurd (cc)
-
 not-both : (a b : Bool) → a ≡ true → b ≡ false → (a && not b) ≡ true
 not-both true false e f = refl
 not-both true true e f = absurd (cc)
 not-both false b e f = absurd (cc)
 
-distinct-more : (xs : List ℕ) (x : ℕ) → IsDistinct xs → (x ∈ xs → ⊥) → IsDistinct (xs ++ x ∷ [])
+pub distinct-more : (xs : List ℕ) (x : ℕ) → IsDistinct xs → (x ∈ xs → ⊥) → IsDistinct (xs ++ x ∷ [])
 distinct-more [] x d n = ((λ h. h), tt)
 distinct-more (y ∷ xs) x d n = (
   (λ h. ⊎_elim d.0 (λ i. ⊎_elim (λ e. n (inl (sym e))) (λ z. z) i) (∈-append_cases y xs (x ∷ []) h)),
@@ -145,7 +141,7 @@ module _ (t : Tier) (s u : Store) (seen kept next : List ℕ) (p : ℕ) (m : IsM
       absurd (let z : true ≡ false = sym x ∙ y in cc) in
       let same : j ≡ k = now-other n in
       let f : StoredClause → StoredClause = λ (x : StoredClause). cond (nat_eq x.place p) (marked_as true x) (m.change x) in
-      let here : (x : StoredClause) → x.place ≡ p → f x ≡ marked_as true x = λ x h. ap (λ c. cond c (marked_as true x) (m.change x)) (is-same x.place p h) in
+      let here : (x : StoredClause) → x.place ≡ p → f x ≡ marked_as true x = λ x h. ap (λ c. cond c (marked_as true x) (m.change x)) (eq-eqb x.place p h) in
       let there : (x : StoredClause) → x.place ≢ p → f x ≡ m.change x = λ x h. ap (λ c. cond c (marked_as true x) (m.change x)) (is-other x.place p h) in
       record {
         change = f;
@@ -181,7 +177,7 @@ marking-done t s u ps kept c m =
     (λ e. m.marks k (complete k h e) ∙ sym (ap (λ b. cond b (marked_as true k) k) e))
     (λ e. m.leaves k (λ i. let x : is_live_in t k ≡ true = sym (ap (is_live_in t) (stored-found (stored_clauses s) (are-rising s c.sound) k h))
     ∙ m.live k.place i in absurd (let z : true ≡ false = sym x ∙ e in cc)) ∙ sym (ap (λ b. cond b (marked_as true k) k) e))
-    (true-or-false (is_live_in t k)) in
+    (cases_Bool (is_live_in t k)) in
     record {
       listed = record { known = m.known; live = m.live; complete = complete; distinct = m.distinct };
       marked = record {
@@ -301,18 +297,18 @@ tracks-marked t d e s n ps k m ec eg el =
           (λ g.
           let u : is_tier t x.header.tier ≡ true = subst (λ (y : Tier). is_tier y x.header.tier ≡ true) (tier ∙ same-tier j.header.tier t g)
           (tier-self x.header.tier) in
-          let o : x.place ∈ ps = m.listed.complete x i (and-true (is_live x) (is_tier t x.header.tier) alive u) in
+          let o : x.place ∈ ps = m.listed.complete x i (and_from (is_live x) (is_tier t x.header.tier) alive u) in
           subst (λ (xs : List ℕ). j.place ∈ xs) (sym (el j.header.tier ∙ ap (λ b. cond b ps (tier_list j.header.tier d.lists)) g))
           (subst (λ (y : ℕ). y ∈ ps) p o))
           (λ g.
           subst (λ (xs : List ℕ). j.place ∈ xs) (sym (el j.header.tier ∙ ap (λ b. cond b ps (tier_list j.header.tier d.lists)) g))
           (subst (λ (y : Tier). j.place ∈ tier_list y d.lists) tier (subst (λ (y : ℕ). y ∈ tier_list x.header.tier d.lists) p (k.listed x i alive))))
-          (true-or-false (is_tier j.header.tier t));
+          (cases_Bool (is_tier j.header.tier t));
       known = λ u p h.
           let old : IsClauseRef (stored_clauses s) p = ⊎_elim
           (λ g. m.listed.known p (subst (λ (xs : List ℕ). p ∈ xs) (el u ∙ ap (λ b. cond b ps (tier_list u d.lists)) g) h))
           (λ g. k.known u p (subst (λ (xs : List ℕ). p ∈ xs) (el u ∙ ap (λ b. cond b ps (tier_list u d.lists)) g) h))
-          (true-or-false (is_tier u t)) in
+          (cases_Bool (is_tier u t)) in
           subst (λ xs. IsClauseRef xs p) (sym m.marked.clauses) (mapped-known f (stored_clauses s) p (λ x. (same x).0) old);
     }
 

@@ -2,15 +2,11 @@
 use Rattle.std.proofs.Common.{◌≡◌, ℕ, zero, suc, ◌+◌, ◌<◌, ◌≤◌, ◌^◌, List, [], ◌∷◌, length, map, take, drop, get_or, Bool, true, false, nat_le, nat_lt, refl, sym, subst, inl, inr, arith, length-drop}
 use Rattle.std.specs.Prelude.{◌&&◌}
 use Rattle.std.proofs.Math.ListN.{length-take}
+use Rattle.std.proofs.lemmas.Bool.{and_from, lt-ltb, le-leb, leb-true}
 use Rattle.varisat_theory.specs.promises.Membership.{◌∈◌}
 use Rattle.varisat_clause.specs.Stored.{StoredClause, IsClauseRef, AreRising, AreLong, no_clause}
 use Rattle.varisat_clause.specs.Stores.{Store, len_at, clause_in, stored_clauses, Lies, FitsWords, IsSound, lies, fit, is_sound}
 use Rattle.varisat_clause.proofs.StoreWords.{lies-at, from-place, to-place}
-
-and-both : (a b : Bool) → a ≡ true → b ≡ true → (a && b) ≡ true
-and-both true true p q = refl
-and-both true false p q = absurd (cc)
-and-both false b p q = absurd (cc)
 
 and-left : (a b : Bool) → (a && b) ≡ true → a ≡ true
 and-left true b p = refl
@@ -20,44 +16,35 @@ and-right : (a b : Bool) → (a && b) ≡ true → b ≡ true
 and-right true b p = p
 and-right false b p = absurd (cc)
 
-at-most : (a b : ℕ) → a ≤ b → nat_le a b ≡ true
-at-most a b h = grind arith
-
-from-most : (a b : ℕ) → nat_le a b ≡ true → a ≤ b
-from-most a b h = grind arith
-
-below : (a b : ℕ) → a < b → nat_lt a b ≡ true
-below a b h = grind arith
-
 from-below : (a b : ℕ) → nat_lt a b ≡ true → a < b
 from-below a b h = grind arith
 
 lies-true : (ws : List ℕ) (low high p : ℕ) → Lies ws low high p → lies ws low high p ≡ true
 lies-true ws low high p l =
-    and-both (nat_le low p && nat_le 3 (len_at ws p) && nat_le (p + 3 + len_at ws p) high) (nat_lt (get_or ws (p + 1) 0) (2 ^ 11))
-    (and-both (nat_le low p && nat_le 3 (len_at ws p)) (nat_le (p + 3 + len_at ws p) high)
-    (and-both (nat_le low p) (nat_le 3 (len_at ws p)) (at-most low p l.begins) (at-most 3 (len_at ws p) l.long)) (at-most (p + 3 + len_at ws p) high l.ends))
-    (below (get_or ws (p + 1) 0) (2 ^ 11) l.flags)
+    and_from (nat_le low p && nat_le 3 (len_at ws p) && nat_le (p + 3 + len_at ws p) high) (nat_lt (get_or ws (p + 1) 0) (2 ^ 11))
+    (and_from (nat_le low p && nat_le 3 (len_at ws p)) (nat_le (p + 3 + len_at ws p) high)
+    (and_from (nat_le low p) (nat_le 3 (len_at ws p)) (le-leb low p l.begins) (le-leb 3 (len_at ws p) l.long)) (le-leb (p + 3 + len_at ws p) high l.ends))
+    (lt-ltb (get_or ws (p + 1) 0) (2 ^ 11) l.flags)
 
 true-lies : (ws : List ℕ) (low high p : ℕ) → lies ws low high p ≡ true → Lies ws low high p
 true-lies ws low high p h =
     let a = and-left (nat_le low p && nat_le 3 (len_at ws p) && nat_le (p + 3 + len_at ws p) high) (nat_lt (get_or ws (p + 1) 0) (2 ^ 11)) h in
     let b = and-left (nat_le low p && nat_le 3 (len_at ws p)) (nat_le (p + 3 + len_at ws p) high) a in
     record {
-      begins = from-most low p (and-left (nat_le low p) (nat_le 3 (len_at ws p)) b);
-      long = from-most 3 (len_at ws p) (and-right (nat_le low p) (nat_le 3 (len_at ws p)) b);
-      ends = from-most (p + 3 + len_at ws p) high (and-right (nat_le low p && nat_le 3 (len_at ws p)) (nat_le (p + 3 + len_at ws p) high) a);
+      begins = leb-true low p (and-left (nat_le low p) (nat_le 3 (len_at ws p)) b);
+      long = leb-true 3 (len_at ws p) (and-right (nat_le low p) (nat_le 3 (len_at ws p)) b);
+      ends = leb-true (p + 3 + len_at ws p) high (and-right (nat_le low p && nat_le 3 (len_at ws p)) (nat_le (p + 3 + len_at ws p) high) a);
       flags = from-below (get_or ws (p + 1) 0) (2 ^ 11)
           (and-right (nat_le low p && nat_le 3 (len_at ws p) && nat_le (p + 3 + len_at ws p) high) (nat_lt (get_or ws (p + 1) 0) (2 ^ 11)) h);
     }
 
 fit-true : (ws : List ℕ) (low high : ℕ) (ps : List ℕ) → FitsWords ws low high ps → fit ws low high ps ≡ true
-fit-true ws low high [] f = at-most low high f
-fit-true ws low high (p ∷ ps) f = and-both (lies ws low high p) (fit ws (p + 3 + len_at ws p) high ps) (lies-true ws low high p f.0)
+fit-true ws low high [] f = le-leb low high f
+fit-true ws low high (p ∷ ps) f = and_from (lies ws low high p) (fit ws (p + 3 + len_at ws p) high ps) (lies-true ws low high p f.0)
     (fit-true ws (p + 3 + len_at ws p) high ps f.1)
 
 true-fits : (ws : List ℕ) (low high : ℕ) (ps : List ℕ) → fit ws low high ps ≡ true → FitsWords ws low high ps
-true-fits ws low high [] h = from-most low high h
+true-fits ws low high [] h = leb-true low high h
 true-fits ws low high (p ∷ ps) h = (
   true-lies ws low high p (and-left (lies ws low high p) (fit ws (p + 3 + len_at ws p) high ps) h),
   true-fits ws (p + 3 + len_at ws p) high ps
@@ -66,8 +53,8 @@ true-fits ws low high (p ∷ ps) h = (
 
 -- a store is sound just where the test says so
 pub sound-is : (s : Store) → IsSound s → is_sound s ≡ true
-sound-is s ok = and-both (fit s.words 0 (length s.words) s.places) (nat_lt (length s.words) (2 ^ 32))
-    (fit-true s.words 0 (length s.words) s.places ok.fits) (below (length s.words) (2 ^ 32) ok.small)
+sound-is s ok = and_from (fit s.words 0 (length s.words) s.places) (nat_lt (length s.words) (2 ^ 32))
+    (fit-true s.words 0 (length s.words) s.places ok.fits) (lt-ltb (length s.words) (2 ^ 32) ok.small)
 
 pub is-sound : (s : Store) → is_sound s ≡ true → IsSound s
 is-sound s h = record {

@@ -1,6 +1,7 @@
 -- The stored clauses by their places.
-use Rattle.std.proofs.Common.{◌≡◌, ◌≢◌, ℕ, suc, ◌<◌, true, false, nat_eq, List, [], ◌∷◌, ◌++◌, length, ◌⊎◌, inl, inr, ⊎_elim, refl, sym, ap, ◌∙◌, subst, arith}
+use Rattle.std.proofs.Common.{◌≡◌, ◌≢◌, ℕ, suc, ◌<◌, false, nat_eq, List, [], ◌∷◌, ◌++◌, length, ◌⊎◌, inl, inr, ⊎_elim, refl, sym, ap, ◌∙◌, subst, arith}
 use Rattle.std.specs.Prelude.{cond}
+use Rattle.std.proofs.lemmas.Bool.{eq-eqb}
 use Rattle.varisat_theory.specs.promises.Membership.{◌∈◌, SameSet}
 use Rattle.varisat_theory.specs.promises.Literals.{Clause}
 use Rattle.varisat_theory.proofs.clauses.Members.{equal_or_not}
@@ -12,20 +13,17 @@ same-self xs = ((λ x i. i), (λ x i. i))
 pub same-trans : {X : Type 0} (xs ys zs : List X) → SameSet xs ys → SameSet ys zs → SameSet xs zs
 same-trans xs ys zs a b = ((λ x i. b.0 x (a.0 x i)), (λ x i. a.1 x (b.1 x i)))
 
-pub is-same : (a b : ℕ) → a ≡ b → nat_eq a b ≡ true
-is-same a b e = grind arith
-
 pub is-other : (a b : ℕ) → a ≢ b → nat_eq a b ≡ false
 is-other a b n = grind arith
 
 pub stored-here : (k : StoredClause) (ks : List StoredClause) (p : ℕ) → k.place ≡ p → stored_at (k ∷ ks) p ≡ k
-stored-here k ks p e = ap (λ b. cond b k (stored_at ks p)) (is-same k.place p e)
+stored-here k ks p e = ap (λ b. cond b k (stored_at ks p)) (eq-eqb k.place p e)
 
 pub stored-later : (k : StoredClause) (ks : List StoredClause) (p : ℕ) → k.place ≢ p → stored_at (k ∷ ks) p ≡ stored_at ks p
 stored-later k ks p n = ap (λ b. cond b k (stored_at ks p)) (is-other k.place p n)
 
 pub with-here : (k : StoredClause) (ks : List StoredClause) (p : ℕ) (c : Clause) → k.place ≡ p → with_literals (k ∷ ks) p c ≡ record k { literals = c } ∷ ks
-with-here k ks p c e = ap (λ b. cond b (record k { literals = c } ∷ ks) (k ∷ with_literals ks p c)) (is-same k.place p e)
+with-here k ks p c e = ap (λ b. cond b (record k { literals = c } ∷ ks) (k ∷ with_literals ks p c)) (eq-eqb k.place p e)
 
 pub with-later : (k : StoredClause) (ks : List StoredClause) (p : ℕ) (c : Clause) → k.place ≢ p → with_literals (k ∷ ks) p c ≡ k ∷ with_literals ks p c
 with-later k ks p c n = ap (λ b. cond b (record k { literals = c } ∷ ks) (k ∷ with_literals ks p c)) (is-other k.place p n)
@@ -237,7 +235,7 @@ with-own (k ∷ ks) p =
 
 -- One clause is another.
 pub clause-here : (k : StoredClause) (ks : List StoredClause) (p : ℕ) (j : StoredClause) → k.place ≡ p → with_stored (k ∷ ks) p j ≡ j ∷ ks
-clause-here k ks p j e = ap (λ b. cond b (j ∷ ks) (k ∷ with_stored ks p j)) (is-same k.place p e)
+clause-here k ks p j e = ap (λ b. cond b (j ∷ ks) (k ∷ with_stored ks p j)) (eq-eqb k.place p e)
 
 pub clause-later : (k : StoredClause) (ks : List StoredClause) (p : ℕ) (j : StoredClause) → k.place ≢ p → with_stored (k ∷ ks) p j ≡ k ∷ with_stored ks p j
 clause-later k ks p j n = ap (λ b. cond b (j ∷ ks) (k ∷ with_stored ks p j)) (is-other k.place p n)

@@ -4,6 +4,7 @@ use Rattle.std.specs.List.{sum_by}
 use Rattle.std.specs.List.Sorted.{IsPermutation, IsNonDecreasingBy}
 use Rattle.std.proofs.lemmas.List.Sums.{sum_by-cons}
 use Rattle.std.proofs.lemmas.List.Sorted.{Contains-permutation, IsPermutation-sym, sum_by-IsPermutation}
+use Rattle.std.proofs.lemmas.Bool.{cases_Bool, eq-eqb}
 use Rattle.varisat_theory.specs.promises.Membership.{◌∈◌, IsDistinct}
 use Rattle.varisat_theory.proofs.clauses.Members.{equal_or_not}
 use Rattle.varisat_theory.proofs.clauses.Places.{∈-contains, contains-∈, place_in}
@@ -12,10 +13,10 @@ use Rattle.varisat_clause.specs.Stored.{StoredClause, IsClauseRef, AreRising, no
 use Rattle.varisat_clause.specs.Stores.{Store, stored_clauses, IsSound}
 use Rattle.varisat_clause.specs.Databases.{is_live_in}
 use Rattle.varisat_clause.specs.Reductions.{rank_in, places_in, ListsTier, AreRanked}
-use Rattle.varisat_clause.proofs.StoredClauses.{stored-here, stored-later, is-same, is-other}
+use Rattle.varisat_clause.proofs.StoredClauses.{stored-here, stored-later, is-other}
 use Rattle.varisat_clause.proofs.StoreWords.{found}
 use Rattle.varisat_clause.proofs.StoreSound.{are-rising}
-use Rattle.varisat_clause.proofs.DatabaseTracks.{true-or-false, place-is}
+use Rattle.varisat_clause.proofs.DatabaseTracks.{place-is}
 use Rattle.varisat_clause.proofs.CollectedClauses.{take-next, clause-of-index, length-places}
 
 -- one more clause
@@ -27,7 +28,7 @@ places-more t (j ∷ ks) k e =
     ∙ sym (ap (λ b. cond b (j.place ∷ places_in t ks) (places_in t ks) ++ k.place ∷ []) d))
     (λ d. ap (λ b. cond b (j.place ∷ places_in t (ks ++ k ∷ [])) (places_in t (ks ++ k ∷ []))) d ∙ places-more t ks k e
     ∙ sym (ap (λ b. cond b (j.place ∷ places_in t ks) (places_in t ks) ++ k.place ∷ []) d))
-    (true-or-false (is_live_in t j))
+    (cases_Bool (is_live_in t j))
 
 pub places-same : (t : Tier) (ks : List StoredClause) (k : StoredClause) → is_live_in t k ≡ false → places_in t (ks ++ k ∷ []) ≡ places_in t ks
 places-same t [] k e = ap (λ b. cond b (k.place ∷ []) []) e
@@ -37,7 +38,7 @@ places-same t (j ∷ ks) k e =
     ∙ sym (ap (λ b. cond b (j.place ∷ places_in t ks) (places_in t ks)) d))
     (λ d. ap (λ b. cond b (j.place ∷ places_in t (ks ++ k ∷ [])) (places_in t (ks ++ k ∷ []))) d ∙ places-same t ks k e
     ∙ sym (ap (λ b. cond b (j.place ∷ places_in t ks) (places_in t ks)) d))
-    (true-or-false (is_live_in t j))
+    (cases_Bool (is_live_in t j))
 
 -- an element is the first one or a later one
 place-cases : (t : Tier) (k : StoredClause) (ks : List StoredClause) (p : ℕ) → p ∈ places_in t (k ∷ ks) → ((p ≡ k.place) × (is_live_in t k ≡ true))
@@ -46,7 +47,7 @@ place-cases t k ks p h =
     ⊎_elim
     (λ d. ⊎_elim (λ e. inl (e, d)) inr (subst (λ (xs : List ℕ). p ∈ xs) (ap (λ b. cond b (k.place ∷ places_in t ks) (places_in t ks)) d) h))
     (λ d. inr (subst (λ (xs : List ℕ). p ∈ xs) (ap (λ b. cond b (k.place ∷ places_in t ks) (places_in t ks)) d) h))
-    (true-or-false (is_live_in t k))
+    (cases_Bool (is_live_in t k))
 
 pub tier-known : (t : Tier) (ks : List StoredClause) (p : ℕ) → p ∈ places_in t ks → IsClauseRef ks p
 tier-known t [] p h = absurd h
@@ -78,7 +79,7 @@ tier-complete t (j ∷ ks) k (inr m) e =
     ⊎_elim
     (λ d. subst (λ (xs : List ℕ). k.place ∈ xs) (sym (ap (λ b. cond b (j.place ∷ places_in t ks) (places_in t ks)) d)) (inr i))
     (λ d. subst (λ (xs : List ℕ). k.place ∈ xs) (sym (ap (λ b. cond b (j.place ∷ places_in t ks) (places_in t ks)) d)) i)
-    (true-or-false (is_live_in t j))
+    (cases_Bool (is_live_in t j))
 
 tier-distinct : (t : Tier) (ks : List StoredClause) → AreRising ks → IsDistinct (places_in t ks)
 tier-distinct t [] r = tt
@@ -87,7 +88,7 @@ tier-distinct t (k ∷ ks) r =
     (λ d. subst IsDistinct (sym (ap (λ b. cond b (k.place ∷ places_in t ks) (places_in t ks)) d))
     ((λ i. let l = place-after k ks k.place r (tier-known t ks k.place i) in absurd (omega (arith, l))), tier-distinct t ks r.1))
     (λ d. subst IsDistinct (sym (ap (λ b. cond b (k.place ∷ places_in t ks) (places_in t ks)) d)) (tier-distinct t ks r.1))
-    (true-or-false (is_live_in t k))
+    (cases_Bool (is_live_in t k))
 
 pub tier-listed : (t : Tier) (s : Store) → IsSound s → ListsTier t (stored_clauses s) (places_in t (stored_clauses s))
 tier-listed t s ok = record {
@@ -112,14 +113,14 @@ absent q (x ∷ xs) h =
 
 present : (q : ℕ) (xs : List ℕ) → q ∈ xs → 1 ≤ occurs q xs
 present q [] h = absurd h
-present q (x ∷ xs) (inl f) = let e = ap {B = ℕ} (λ b. cond b 1 0) (is-same x q (sym f)) in let m = occurs-more q x xs in omega (arith, e, m)
+present q (x ∷ xs) (inl f) = let e = ap {B = ℕ} (λ b. cond b 1 0) (eq-eqb x q (sym f)) in let m = occurs-more q x xs in omega (arith, e, m)
 present q (x ∷ xs) (inr i) = let r = present q xs i in let m = occurs-more q x xs in omega (arith, r, m)
 
 once : (xs : List ℕ) → IsDistinct xs → (q : ℕ) → occurs q xs ≤ 1
 once [] h q = omega arith
 once (x ∷ xs) h q =
     ⊎_elim
-    (λ f. let e = ap {B = ℕ} (λ b. cond b 1 0) (is-same x q f) in let a = absent q xs (λ i. h.0 (subst (λ (y : ℕ). y ∈ xs) (sym f) i)) in
+    (λ f. let e = ap {B = ℕ} (λ b. cond b 1 0) (eq-eqb x q f) in let a = absent q xs (λ i. h.0 (subst (λ (y : ℕ). y ∈ xs) (sym f) i)) in
     let m = occurs-more q x xs in omega (arith, e, a, m))
     (λ n. let e = ap {B = ℕ} (λ b. cond b 1 0) (is-other x q n) in let r = once xs h.1 q in let m = occurs-more q x xs in omega (arith, e, r, m))
     (equal_or_not x q)
@@ -127,7 +128,7 @@ once (x ∷ xs) h q =
 distinct-once : (xs : List ℕ) → ((q : ℕ) → occurs q xs ≤ 1) → IsDistinct xs
 distinct-once [] h = tt
 distinct-once (x ∷ xs) h = (
-  (λ i. let e = ap {B = ℕ} (λ b. cond b 1 0) (is-same x x refl) in let p = present x xs i in let o = h x in let m = occurs-more x x xs in
+  (λ i. let e = ap {B = ℕ} (λ b. cond b 1 0) (eq-eqb x x refl) in let p = present x xs i in let o = h x in let m = occurs-more x x xs in
       absurd (omega (arith, e, p, o, m))),
   distinct-once xs (λ q. let o = h q in let m = occurs-more q x xs in omega (arith, o, m)),
 )

@@ -6,7 +6,7 @@ use Rattle.varisat_theory.specs.promises.Membership.{◌∈◌, ◌⊆◌, IsDis
 use Rattle.varisat_theory.specs.promises.Literals.{Literal, Clause, Assignment, variable_of, opposite, value, SatisfiesAll, MakesTrue, IsSatisfiable, IsFailedCore}
 use Rattle.varisat_theory.proofs.bounds.Count.{length-distinct}
 use Rattle.varisat_theory.proofs.clauses.Members.{∈-append_left, ∈-append_right, ∈-append_cases}
-use Rattle.varisat_theory.proofs.clauses.Values.{parity, not_both, true_or_opposite}
+use Rattle.varisat_theory.proofs.clauses.Values.{same_true, true_or_opposite, variable-opposite}
 use Rattle.varisat_literals.specs.promises.Numbers.{variable_limit}
 use Rattle.varisat_solver.specs.promises.States.{State, join_counted, Verdict, Unsat, IsRight}
 use Rattle.varisat_solver.specs.promises.Names.{Naming, name_all, through_names, AreInOrder}
@@ -246,22 +246,6 @@ spent-few s t known n r k e = let few = counts-few s known _ _ _ _ _ k r.steps i
 
 -- 6. Models and cores.
 
-either : (k l : Literal) → variable_of k ≡ variable_of l → (k ≡ l) ⊎ (k ≡ opposite l)
-unfolding opposite
-either k l e =
-    ⊎_elim
-    (λ a. ⊎_elim (λ b. inl (omega (arith, a, b, e))) (λ b. inr (omega (arith, a, b, e))) (parity l))
-    (λ a. ⊎_elim (λ b. inr (omega (arith, a, b, e))) (λ b. inl (omega (arith, a, b, e))) (parity l))
-    (parity k)
-
-same-variable : (l : Literal) → variable_of (opposite l) ≡ variable_of l
-unfolding opposite
-same-variable l = ⊎_elim (λ a. omega (arith, a)) (λ a. omega (arith, a)) (parity l)
-
--- two literals of one variable that are true are one
-both-true : (a : Assignment) (k l : Literal) → variable_of k ≡ variable_of l → value a k ≡ true → value a l ≡ true → k ≡ l
-both-true a k l e x y = ⊎_elim (λ q. q) (λ q. absurd (not_both a l y (subst (λ z. value a z ≡ true) q x))) (either k l e)
-
 pub is-model : (s : State) (P : List Clause) (A : List Literal) (n most : ℕ) (m : List Literal) → WasGiven s P A n most →
     IsCompletable s.naming s.clauses s.assumptions s.counted m → IsFoundModel P A m
 is-model s P A n most m f c =
@@ -270,7 +254,7 @@ is-model s P A n most m f c =
     let here : MakesTrue a m = subst (λ (ls : List Literal). MakesTrue a ls) own makes in
     let listed : (l : Literal) → variable_of l < f.count → value a l ≡ true → l ∈ m =
     λ l b v. let (k, i, e) = c.all_listed (variable_of l) (variable_of l) (f.order.in_use (variable_of l) b) in
-    subst (λ x. x ∈ m) (both-true a k l e (here k i) v) i in
+    subst (λ x. x ∈ m) (same_true a k l e (here k i) v) i in
     let same = f.same (a, all) in
     record {
       satisfied = (a, here, subst (λ (Q : List Clause). SatisfiesAll a Q) same all, subst (λ (ls : List Literal). MakesTrue a ls) f.assumed true-assumed);
@@ -279,7 +263,7 @@ is-model s P A n most m f c =
       whole = λ d l i within. let b = f.named d l (subst (λ (Q : List Clause). d ∈ Q) (sym same) i) within in
           ⊎_elim
           (λ v. inl (listed l b v))
-          (λ v. inr (listed (opposite l) (subst (λ v. v < f.count) (sym (same-variable l)) b) v))
+          (λ v. inr (listed (opposite l) (subst (λ v. v < f.count) (sym (variable-opposite l)) b) v))
           (true_or_opposite a l);
       assumed_too = λ l i. let j = subst (λ (ls : List Literal). l ∈ ls) (sym f.assumed) i in listed l (f.assumed_named l j) (true-assumed l j);
     }

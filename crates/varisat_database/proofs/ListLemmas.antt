@@ -2,7 +2,7 @@
 use Rattle.std.proofs.Common.{◌≡◌, ℕ, zero, suc, ◌+◌, ◌<◌, ◌≤◌, Bool, true, false, List, [], ◌∷◌, ◌++◌, ◌⊎◌, inl, inr, ⊎_elim, length, map, get_or, set, take, refl, sym, ap, ◌∙◌, subst, arith}
 use Rattle.std.specs.declared.vec.Vec.{Vec}
 use Rattle.std.specs.List.{filter}
-use Rattle.std.proofs.lemmas.List.{map-set, get_or-map, length-map, set-get_or, get_or-set_same}
+use Rattle.std.proofs.lemmas.List.{map-set, get_or-map, length-map, set-get_or, get_or-set_same, length-set, get_or-set_other}
 use Rattle.std.proofs.lemmas.Grind.{get_or_default_zero}
 use Rattle.varisat_theory.specs.promises.Membership.{◌∈◌}
 use Rattle.varisat_theory.specs.promises.Literals.{Literal, Clause}
@@ -10,7 +10,7 @@ use Rattle.varisat_theory.proofs.clauses.Members.{∈-append_left, ∈-append_ri
 use Rattle.varisat_theory.proofs.clauses.Places.{∈-take_more, ∈-take_all}
 use Rattle.varisat_database.specs.Flags.{is_flagged}
 use Rattle.varisat_database.specs.Names.{short_of}
-use Rattle.varisat_database.specs.Sound.{IsSound, Grows, IsListed, AreListed}
+use Rattle.varisat_database.specs.Sound.{IsSoundDatabase, Grows, IsListed, ListsOccurrences}
 
 pub written : {X Z : Type 0} (ls : List (Vec X Z)) (now : List (List X)) (i j : ℕ) (v : Vec X Z) → map (λ (x : Vec X Z). x.items) ls ≡ now → i ≡ j →
     map (λ (x : Vec X Z). x.items) (set ls i v) ≡ set now j v.items
@@ -21,18 +21,6 @@ pub read : {X Z : Type 0} (ls : List (Vec X Z)) (now : List (List X)) (i j : ℕ
 read {X} {Z} ls now i j v e k h g =
     let l : length now ≡ length ls = ap length (sym e) ∙ length-map ls (λ (x : Vec X Z). x.items) in
     ap (λ (x : Vec X Z). x.items) g ∙ sym (get_or-map (λ (x : Vec X Z). x.items) ls i v [] (omega (arith, l))) ∙ rw (e, k) refl
-
-get_or-elsewhere : {X : Type 0} (xs : List X) (i k : ℕ) (x d : X) → (k ≡ i → ⊥) → get_or (set xs i x) k d ≡ get_or xs k d
-get_or-elsewhere [] i k x d n = refl
-get_or-elsewhere (y ∷ xs) zero zero x d n = absurd (n refl)
-get_or-elsewhere (y ∷ xs) zero (suc k) x d n = refl
-get_or-elsewhere (y ∷ xs) (suc i) zero x d n = refl
-get_or-elsewhere (y ∷ xs) (suc i) (suc k) x d n = get_or-elsewhere xs i k x d (λ e. n (ap suc e))
-
-length-set : {X : Type 0} (xs : List X) (i : ℕ) (x : X) → length (set xs i x) ≡ length xs
-length-set [] i x = refl
-length-set (y ∷ xs) zero x = refl
-length-set (y ∷ xs) (suc i) x = ap suc (length-set xs i x)
 
 pub grows_self : (xs : List (List ℕ)) → Grows xs xs
 grows_self xs = record { same = refl; more = λ l k h. h }
@@ -50,7 +38,7 @@ grows_added xs ys l p h e = subst (λ (zs : List (List ℕ)). Grows xs zs) (sym 
   more = λ m k i. ⊎_elim
       (λ q. subst (λ (zs : List ℕ). k ∈ zs) (sym (ap (λ j. get_or (set xs l (get_or xs l [] ++ p ∷ [])) j []) q ∙ get_or-set_same xs l (get_or xs l [] ++ p ∷ []) [] h))
       (∈-append_left k (get_or xs l []) (p ∷ []) (subst (λ j. k ∈ get_or xs j []) q i)))
-      (λ n. subst (λ (zs : List ℕ). k ∈ zs) (sym (get_or-elsewhere xs l m (get_or xs l [] ++ p ∷ []) [] n)) i)
+      (λ n. subst (λ (zs : List ℕ). k ∈ zs) (sym (get_or-set_other xs l m (get_or xs l [] ++ p ∷ []) [] n)) i)
       (equal_or_not m l);
 })
 
@@ -81,7 +69,7 @@ pub set_back : (xs : List (List ℕ)) (i : ℕ) (zs : List ℕ) → zs ≡ get_o
 set_back xs i zs e = ap (λ (ys : List ℕ). set xs i ys) e ∙ set-get_or xs i []
 
 -- a sound database with more places listed
-pub sound_grown : (n : ℕ) (cs : List Clause) (live : List Bool) (b : Bool) (names : List ℕ) (xs ys : List (List ℕ)) → Grows xs ys → IsSound n cs live b names xs → IsSound n cs live b names ys
+pub sound_grown : (n : ℕ) (cs : List Clause) (live : List Bool) (b : Bool) (names : List ℕ) (xs ys : List (List ℕ)) → Grows xs ys → IsSoundDatabase n cs live b names xs → IsSoundDatabase n cs live b names ys
 sound_grown n cs live b names xs ys g s = record {
   even = s.even;
   small = s.small;
@@ -89,15 +77,15 @@ sound_grown n cs live b names xs ys g s = record {
 }
 
 -- once all are listed
-pub sound_listed : (n : ℕ) (cs : List Clause) (live : List Bool) (b : Bool) (names : List ℕ) (xs ys : List (List ℕ)) → AreListed names cs live ys →
-    IsSound n cs live b names xs → IsSound n cs live true names ys
+pub sound_listed : (n : ℕ) (cs : List Clause) (live : List Bool) (b : Bool) (names : List ℕ) (xs ys : List (List ℕ)) → ListsOccurrences names cs live ys →
+    IsSoundDatabase n cs live b names xs → IsSoundDatabase n cs live true names ys
 sound_listed n cs live b names xs ys h s = record {
   even = s.even;
   small = s.small;
   listed = λ t. h;
 }
 
-get_or-pushed : {X : Type 0} (xs : List X) (x d : X) (k : ℕ) → ((k < length xs) × (get_or (xs ++ x ∷ []) k d ≡ get_or xs k d))
+pub get_or-pushed : {X : Type 0} (xs : List X) (x d : X) (k : ℕ) → ((k < length xs) × (get_or (xs ++ x ∷ []) k d ≡ get_or xs k d))
     ⊎ (((k ≡ length xs) × (get_or (xs ++ x ∷ []) k d ≡ x)) ⊎ ((length xs < k) × (get_or (xs ++ x ∷ []) k d ≡ d)))
 get_or-pushed [] x d zero = inr (inl (refl, refl))
 get_or-pushed [] x d (suc k) = inr (inr (omega arith, refl))
@@ -114,10 +102,10 @@ length-pushed (y ∷ xs) x = ap suc (length-pushed xs x)
 
 -- with one more clause, whose place is listed
 pub sound_pushed : (n : ℕ) (cs ds : List Clause) (live alive : List Bool) (f : Bool) (names : List ℕ) (xs ys : List (List ℕ)) (c : Clause) (p : ℕ) →
-    p ≡ length cs → ds ≡ cs ++ c ∷ [] → alive ≡ live ++ true ∷ [] → Grows xs ys → (f ≡ true → IsListed names ys c p) → IsSound n cs live f names xs →
-    IsSound n ds alive f names ys
+    p ≡ length cs → ds ≡ cs ++ c ∷ [] → alive ≡ live ++ true ∷ [] → Grows xs ys → (f ≡ true → IsListed names ys c p) → IsSoundDatabase n cs live f names xs →
+    IsSoundDatabase n ds alive f names ys
 sound_pushed n cs ds live alive f names xs ys c p q d a g h s =
-    subst (λ (es : List Clause). IsSound n es alive f names ys) (sym d) (subst (λ (bs : List Bool). IsSound n (cs ++ c ∷ []) bs f names ys) (sym a) (record {
+    subst (λ (es : List Clause). IsSoundDatabase n es alive f names ys) (sym d) (subst (λ (bs : List Bool). IsSoundDatabase n (cs ++ c ∷ []) bs f names ys) (sym a) (record {
       even = length-pushed live true ∙ ap suc s.even ∙ sym (length-pushed cs c);
       small = s.small;
       listed = λ z k l b m. ⊎_elim
@@ -135,8 +123,8 @@ sound_pushed n cs ds live alive f names xs ys c p q d a g h s =
 
 -- a place is no longer live
 pub sound_removed : (n : ℕ) (cs : List Clause) (live alive : List Bool) (f : Bool) (names : List ℕ) (xs : List (List ℕ)) (i : ℕ) → alive ≡ set live i false →
-    IsSound n cs live f names xs → IsSound n cs alive f names xs
-sound_removed n cs live alive f names xs i e s = subst (λ (bs : List Bool). IsSound n cs bs f names xs) (sym e) (record {
+    IsSoundDatabase n cs live f names xs → IsSoundDatabase n cs alive f names xs
+sound_removed n cs live alive f names xs i e s = subst (λ (bs : List Bool). IsSoundDatabase n cs bs f names xs) (sym e) (record {
   even = length-set live i false ∙ s.even;
   small = s.small;
   listed = λ t k l a h. s.listed t k l (was live i k a) h;
@@ -171,23 +159,23 @@ filter_keeps p (x ∷ xs) k e (inr h) = go (p x) refl (filter_keeps p xs k e h)
 
 -- only places that are not live are forgotten
 pub sound_kept : (n : ℕ) (cs : List Clause) (live : List Bool) (f : Bool) (names : List ℕ) (xs ys : List (List ℕ)) (i : ℕ) → i < length xs →
-    ys ≡ set xs i (filter (is_flagged live) (get_or xs i [])) → IsSound n cs live f names xs → IsSound n cs live f names ys
-sound_kept n cs live f names xs ys i b e s = subst (λ (zs : List (List ℕ)). IsSound n cs live f names zs) (sym e) (record {
+    ys ≡ set xs i (filter (is_flagged live) (get_or xs i [])) → IsSoundDatabase n cs live f names xs → IsSoundDatabase n cs live f names ys
+sound_kept n cs live f names xs ys i b e s = subst (λ (zs : List (List ℕ)). IsSoundDatabase n cs live f names zs) (sym e) (record {
   even = s.even;
   small = s.small;
   listed = λ t k l a h. ⊎_elim
       (λ q. subst (λ (zs : List ℕ). k ∈ zs)
       (sym (ap (λ j. get_or (set xs i (filter (is_flagged live) (get_or xs i []))) j []) q ∙ get_or-set_same xs i (filter (is_flagged live) (get_or xs i [])) [] b))
       (filter_keeps (is_flagged live) (get_or xs i []) k a (subst (λ j. k ∈ get_or xs j []) q (s.listed t k l a h))))
-      (λ n. subst (λ (zs : List ℕ). k ∈ zs) (sym (get_or-elsewhere xs i (short_of names l) (filter (is_flagged live) (get_or xs i [])) [] n)) (s.listed t k l a h))
+      (λ n. subst (λ (zs : List ℕ). k ∈ zs) (sym (get_or-set_other xs i (short_of names l) (filter (is_flagged live) (get_or xs i [])) [] n)) (s.listed t k l a h))
       (equal_or_not (short_of names l) i);
 })
 
 pub sound_same : (n : ℕ) (cs ds : List Clause) (live alive : List Bool) (f : Bool) (names : List ℕ) (xs ys : List (List ℕ)) → ds ≡ cs → alive ≡ live →
-    Grows xs ys → IsSound n cs live f names xs → IsSound n ds alive f names ys
+    Grows xs ys → IsSoundDatabase n cs live f names xs → IsSoundDatabase n ds alive f names ys
 sound_same n cs ds live alive f names xs ys d a g s =
-    subst (λ (es : List Clause). IsSound n es alive f names ys) (sym d)
-    (subst (λ (bs : List Bool). IsSound n cs bs f names ys) (sym a) (sound_grown n cs live f names xs ys g s))
+    subst (λ (es : List Clause). IsSoundDatabase n es alive f names ys) (sym d)
+    (subst (λ (bs : List Bool). IsSoundDatabase n cs bs f names ys) (sym a) (sound_grown n cs live f names xs ys g s))
 
 -- The live clauses at the first places are listed.
 abbrev pub ListedTo : ℕ → List ℕ → List Clause → List Bool → List (List ℕ) → Type 0
@@ -207,12 +195,12 @@ flagged_below (x ∷ live) zero e = omega arith
 flagged_below (x ∷ live) (suc k) e = let h = flagged_below live k e in omega (arith, h)
 
 pub listed_to_end : (i : ℕ) (names : List ℕ) (cs : List Clause) (live : List Bool) (xs : List (List ℕ)) → length live ≡ length cs → length cs ≤ i →
-    ListedTo i names cs live xs → AreListed names cs live xs
+    ListedTo i names cs live xs → ListsOccurrences names cs live xs
 listed_to_end i names cs live xs e n r k l a m = let b = flagged_below live k a in r k l (omega (arith, b, e, n)) a m
 
 -- no live clause has a literal without a list
 pub listed_beyond : (names : List ℕ) (cs : List Clause) (live : List Bool) (xs : List (List ℕ)) (k l z : ℕ) → z ≡ short_of names l → length xs ≤ z →
-    AreListed names cs live xs → get_or live k false ≡ true → l ∈ get_or cs k [] → ⊥
+    ListsOccurrences names cs live xs → get_or live k false ≡ true → l ∈ get_or cs k [] → ⊥
 listed_beyond names cs live xs k l z e n r a m = none k (subst (λ (ys : List ℕ). k ∈ ys) (beyond xs z n) (subst (λ j. k ∈ get_or xs j []) (sym e) (r k l a m)))
   where
     beyond : (xs : List (List ℕ)) (l : ℕ) → length xs ≤ l → get_or xs l [] ≡ []

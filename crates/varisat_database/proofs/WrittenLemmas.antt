@@ -6,7 +6,7 @@ use Rattle.varisat_theory.specs.promises.Literals.{Clause}
 use Rattle.varisat_theory.specs.promises.Derivations.{Line, Add, Delete}
 use Rattle.varisat_theory.proofs.clauses.Members.{∈-append_cases}
 use Rattle.varisat_theory.proofs.clauses.Places.{∈-get_or}
-use Rattle.varisat_database.specs.Written.{Written, line_at, with_clause, clause_of, is_deletion, AreWritten}
+use Rattle.varisat_database.specs.Written.{WrittenClauses, line_at, with_clause, clause_of, is_deletion, AreWritten}
 
 -- the lines of places that are there are the same with one more clause
 lines_grown : (cs : List Clause) (c : Clause) (steps : List ℕ) → ((x : ℕ) → x ∈ steps → x / 2 < length cs) →
@@ -86,21 +86,21 @@ pub lines_count : (cs : List Clause) (steps : List ℕ) → length (map (line_at
 lines_count cs steps = length-map steps (line_at cs)
 
 -- what is seen of clauses and numbers
-abbrev written : List Clause → List Line → Written
+abbrev written : List Clause → List Line → WrittenClauses
 written cs lines = record { clauses = cs; lines = lines }
 
-pub given_view : (cs ds : List Clause) (c : Clause) (steps : List ℕ) (b : Bool) (old : Written) → written cs (map (line_at cs) steps) ≡ old → b ≡ true →
+pub given_view : (cs ds : List Clause) (c : Clause) (steps : List ℕ) (b : Bool) (old : WrittenClauses) → written cs (map (line_at cs) steps) ≡ old → b ≡ true →
     ds ≡ cs ++ c ∷ [] → AreWritten cs steps → written ds (map (line_at ds) steps) ≡ with_clause b old c
 given_view cs ds c steps b old v q e a =
     ap (λ (l : List Clause). written l (map (line_at ds) steps)) e ∙ ap (λ (l : List Line). written (cs ++ c ∷ []) l) (given_lines cs ds c steps e a)
-    ∙ ap (λ (x : Bool). with_clause x (written cs (map (line_at cs) steps)) c) (sym q) ∙ ap (λ (w : Written). with_clause b w c) v
+    ∙ ap (λ (x : Bool). with_clause x (written cs (map (line_at cs) steps)) c) (sym q) ∙ ap (λ (w : WrittenClauses). with_clause b w c) v
 
-pub added_view : (cs ds : List Clause) (c : Clause) (steps more : List ℕ) (x : ℕ) (b : Bool) (old : Written) → written cs (map (line_at cs) steps) ≡ old → b ≡ false →
+pub added_view : (cs ds : List Clause) (c : Clause) (steps more : List ℕ) (x : ℕ) (b : Bool) (old : WrittenClauses) → written cs (map (line_at cs) steps) ≡ old → b ≡ false →
     ds ≡ cs ++ c ∷ [] → more ≡ steps ++ x ∷ [] → x ≡ 2 * length cs → AreWritten cs steps → written ds (map (line_at ds) more) ≡ with_clause b old c
 added_view cs ds c steps more x b old v q e f g a =
     ap (λ (l : List Clause). written l (map (line_at ds) more)) e ∙ ap (λ (l : List Line). written (cs ++ c ∷ []) l) (added_lines cs ds c steps more x e f g a)
-    ∙ ap (λ (x : Bool). with_clause x (written cs (map (line_at cs) steps)) c) (sym q) ∙ ap (λ (w : Written). with_clause b w c) v
+    ∙ ap (λ (x : Bool). with_clause x (written cs (map (line_at cs) steps)) c) (sym q) ∙ ap (λ (w : WrittenClauses). with_clause b w c) v
 
-pub clauses_joined : (b : Bool) (h : Written) (c : Clause) → (with_clause b h c).clauses ≡ h.clauses ++ c ∷ []
+pub clauses_joined : (b : Bool) (h : WrittenClauses) (c : Clause) → (with_clause b h c).clauses ≡ h.clauses ++ c ∷ []
 clauses_joined true h c = refl
 clauses_joined false h c = refl

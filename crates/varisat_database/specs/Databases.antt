@@ -2,11 +2,11 @@
 use Rattle.std.specs.Prelude.{◌≡◌, ℕ, Bool, true, false, List, [], ◌∷◌, ◌++◌, slice_index_or, slice_set}
 use Rattle.varisat_theory.specs.promises.Literals.{Clause}
 use Rattle.varisat_theory.specs.promises.Derivations.{Line, Add, Delete}
-use Rattle.varisat_database.specs.Written.{Written}
+use Rattle.varisat_database.specs.Written.{WrittenClauses}
 
 -- The clauses that there ever were, in order, whether each is still live, the lines of a proof that added and deleted them, and the
 -- stack by which models are extended. No variable that is flagged in `frozen` is resolved away.
-pub record State : Type 0 where
+pub record DatabaseState : Type 0 where
   pub var_count : ℕ
   pub frozen : List Bool
   pub clauses : List Clause
@@ -15,26 +15,26 @@ pub record State : Type 0 where
   pub stack : List Clause
 
 -- the state of clauses that were written, of which the flagged ones are live
-abbrev pub state_of : ℕ → List Bool → Written → List Bool → List Clause → State
+abbrev pub state_of : ℕ → List Bool → WrittenClauses → List Bool → List Clause → DatabaseState
 state_of n frozen w live stack =
     record { var_count = n; frozen = frozen; clauses = w.clauses; live = live; lines = w.lines; stack = stack }
 
 -- no clauses
-abbrev pub no_clauses : ℕ → List Bool → State
+abbrev pub no_clauses : ℕ → List Bool → DatabaseState
 no_clauses n frozen = record { var_count = n; frozen = frozen; clauses = []; live = []; lines = []; stack = [] }
 
 -- one more clause, which is live, and which a checker has already
-abbrev pub given : State → Clause → State
+abbrev pub given : DatabaseState → Clause → DatabaseState
 given s c = record s { clauses = s.clauses ++ c ∷ []; live = s.live ++ true ∷ [] }
 
 -- one more clause, which is live, and which a line adds
-abbrev pub pushed : State → Clause → State
+abbrev pub pushed : DatabaseState → Clause → DatabaseState
 pushed s c = record s { clauses = s.clauses ++ c ∷ []; live = s.live ++ true ∷ []; lines = s.lines ++ Add c ∷ [] }
 
 -- the one or the other
-abbrev pub joined : Bool → State → Clause → State
-joined true s c = given s c
-joined false s c = pushed s c
+abbrev pub given_or_pushed : Bool → DatabaseState → Clause → DatabaseState
+given_or_pushed true s c = given s c
+given_or_pushed false s c = pushed s c
 
 -- a line that deletes the clause, if it is live
 abbrev pub deletion : Bool → Clause → List Line
@@ -42,15 +42,15 @@ deletion true c = Delete c ∷ []
 deletion false c = []
 
 -- the clause at the place
-abbrev pub clause_at : State → ℕ → Clause
+abbrev pub clause_at : DatabaseState → ℕ → Clause
 clause_at s k = slice_index_or s.clauses k []
 
 -- the clause at the place is live
-abbrev pub IsLive : State → ℕ → Type 0
+abbrev pub IsLive : DatabaseState → ℕ → Type 0
 IsLive s k = slice_index_or s.live k false ≡ true
 
 -- the clause at the place is live no longer, and a line deletes it if it was
-abbrev pub removed : State → ℕ → State
+abbrev pub removed : DatabaseState → ℕ → DatabaseState
 removed s k =
     record s {
       live = slice_set s.live k false;
@@ -59,5 +59,5 @@ removed s k =
     }
 
 -- one more clause on the stack
-abbrev pub saved : State → Clause → State
+abbrev pub saved : DatabaseState → Clause → DatabaseState
 saved s c = record s { stack = s.stack ++ c ∷ [] }

@@ -5,17 +5,17 @@ use Rattle.varisat_theory.specs.promises.Literals.{Literal, Clause}
 use Rattle.varisat_database.specs.Names.{short_of}
 
 -- each live clause is listed for each of its literals, under its short name
-abbrev pub AreListed : List ℕ → List Clause → List Bool → List (List ℕ) → Type 0
-AreListed names cs live lists =
+abbrev pub ListsOccurrences : List ℕ → List Clause → List Bool → List (List ℕ) → Type 0
+ListsOccurrences names cs live lists =
     (k l : ℕ) → slice_index_or live k false ≡ true → l ∈ slice_index_or cs k [] →
     k ∈ slice_index_or lists (short_of names l) []
 
 -- each clause is live or not, and they are listed if the flag says so
-pub record IsSound (n : ℕ) (cs : List Clause) (live : List Bool) (is_listed : Bool) (names : List ℕ)
+pub record IsSoundDatabase (n : ℕ) (cs : List Clause) (live : List Bool) (is_listed : Bool) (names : List ℕ)
     (lists : List (List ℕ)) : Type 0 where
   pub even : length live ≡ length cs
   pub small : n ≤ 2 ^ 31
-  pub listed : is_listed ≡ true → AreListed names cs live lists
+  pub listed : is_listed ≡ true → ListsOccurrences names cs live lists
 
 -- as many lists, each with what it had
 pub record Grows (old new : List (List ℕ)) : Type 0 where

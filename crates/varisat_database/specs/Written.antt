@@ -5,21 +5,21 @@ use Rattle.varisat_theory.specs.promises.Literals.{Clause}
 use Rattle.varisat_theory.specs.promises.Derivations.{Line, Add, Delete}
 
 -- the clauses, and the lines
-pub record Written : Type 0 where
+pub record WrittenClauses : Type 0 where
   pub clauses : List Clause
   pub lines : List Line
 
 -- nothing
-abbrev pub nothing : Written
+abbrev pub nothing : WrittenClauses
 nothing = record { clauses = []; lines = [] }
 
 -- one more clause, which a line adds unless it was given
-abbrev pub with_clause : Bool → Written → Clause → Written
+abbrev pub with_clause : Bool → WrittenClauses → Clause → WrittenClauses
 with_clause true h c = record h { clauses = h.clauses ++ c ∷ [] }
 with_clause false h c = record { clauses = h.clauses ++ c ∷ []; lines = h.lines ++ Add c ∷ [] }
 
 -- a line that deletes the clause at the place
-abbrev pub with_deletion : Written → ℕ → Written
+abbrev pub with_deletion : WrittenClauses → ℕ → WrittenClauses
 with_deletion h k = record h { lines = h.lines ++ Delete (slice_index_or h.clauses k []) ∷ [] }
 
 -- The line by its number: twice the place of the clause that it adds, and one more for a deletion.

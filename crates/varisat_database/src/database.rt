@@ -2,8 +2,8 @@
 //! literals once all that are live then were listed.
 ghost use Rattle.std.specs.Prelude.{◌≡◌, ℕ, List, Bool, true, false, ◌+◌, ◌*◌, ◌/◌, ◌∷◌, ◌++◌, [], ◌<◌, ◌≤◌, ◌^◌, length, IsTrue, OnOk, OnErr, IfOk, IfSome, slice_index_or, slice_set};
 ghost use Rattle.varisat_theory.specs.promises.Membership.{◌∈◌};
-ghost use Rattle.varisat_database.specs.Databases.{State, no_clauses, given, pushed, joined, removed, saved, clause_at, IsLive};
-ghost use Rattle.varisat_database.specs.Sound.{Grows, IsListed, AreListed};
+ghost use Rattle.varisat_database.specs.Databases.{DatabaseState, no_clauses, given, pushed, given_or_pushed, removed, saved, clause_at, IsLive};
+ghost use Rattle.varisat_database.specs.Sound.{Grows, IsListed, ListsOccurrences};
 
 use crate::clauses::ClauseList;
 use crate::history::History;
@@ -32,14 +32,14 @@ pub struct Database<A: Allocator + Copy> {
 }
 
 impl<A: Allocator + Copy> Model for Database<A> {
-    ghost use Rattle.varisat_database.specs.Databases.{State, state_of};
-    ghost use Rattle.varisat_database.specs.Sound.{IsSound};
+    ghost use Rattle.varisat_database.specs.Databases.{DatabaseState, state_of};
+    ghost use Rattle.varisat_database.specs.Sound.{IsSoundDatabase};
 
-    ghost Value = { State };
+    ghost Value = { DatabaseState };
 
     ghost view = { λ d. state_of d.var_count d.frozen.items d.history d.live.items d.stack };
 
-    ghost invariant = { λ d. IsSound d.var_count d.history.clauses d.live.items d.is_listed d.names d.occurrences };
+    ghost invariant = { λ d. IsSoundDatabase d.var_count d.history.clauses d.live.items d.is_listed d.names d.occurrences };
 }
 
 /// One bit for each variable of the clause, out of 32.
@@ -141,7 +141,7 @@ fn list_live<A: Allocator + Copy>(
 ) -> Result<(), AllocError>
     requires { length live.now ≡ length history.now.clauses }
     ensures grows { Grows occurrences.old occurrences.new }
-    ensures ok { OnOk result (AreListed names.now history.now.clauses live.now occurrences.new) }
+    ensures ok { OnOk result (ListsOccurrences names.now history.now.clauses live.now occurrences.new) }
 {
     for place in 0..history.len() {
         list_clause(
@@ -414,7 +414,7 @@ impl<A: Allocator + Copy> Database<A> {
 
     /// Adds a clause, which is live.
     fn join(&mut self, clause: &[Lit], is_given: bool) -> Result<(), AllocError>
-        ensures ok { OnOk result (self.new ≡ joined is_given self.old clause.now) }
+        ensures ok { OnOk result (self.new ≡ given_or_pushed is_given self.old clause.now) }
         ensures refused { OnErr result (self.new ≡ self.old) }
     {
         let place = self.history.len();

@@ -20,9 +20,9 @@ pub struct History<A: Allocator + Copy> {
 
 impl<A: Allocator + Copy> Model for History<A> {
     ghost use Rattle.std.specs.Prelude.{map};
-    ghost use Rattle.varisat_database.specs.Written.{Written, line_at, AreWritten};
+    ghost use Rattle.varisat_database.specs.Written.{WrittenClauses, line_at, AreWritten};
 
-    ghost Value = { Written };
+    ghost Value = { WrittenClauses };
 
     ghost view = { λ h. record { clauses = h.clauses; lines = map (line_at h.clauses) h.steps.items } };
 

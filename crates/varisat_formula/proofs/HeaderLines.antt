@@ -1,6 +1,7 @@
 -- Header lines, a byte at a time.
 use Rattle.std.proofs.Common.{◌≡◌, ℕ, zero, suc, ◌+◌, ◌-◌, ◌*◌, ◌^◌, ◌<◌, ◌≤◌, List, [], ◌∷◌, ◌++◌, Bool, true, false, ◌&&◌, ◌==◌, nat_lt, if◌then◌else◌, refl, sym, ap, ◌∙◌, append_assoc, Option, Some, None, option_map, min, arith, rules, codes, bytes_eq}
 use Rattle.std.proofs.lemmas.Slice.Eq.{bytes_eq-Decides}
+use Rattle.std.proofs.lemmas.Bool.{eqb-true}
 use Rattle.varisat_literals.specs.promises.Numbers.{variable_limit}
 use Rattle.varisat_formula.specs.declared.dimacs.token.Digits.{Digits}
 use Rattle.varisat_formula.specs.declared.dimacs.token.Digits.TheVariants.{Empty, Number, Large, NoNumber}
@@ -295,9 +296,6 @@ wrong_format b w bs f =
     let r = begun b w bs in
     ap (λ ts. header_of (p_word ∷ ts)) r.are ∙ other_format ((b ∷ w) ++ r.more) r.rest (f r.more) ∙ sym (bad_stays bs)
 
-is_byte : (b k : ℕ) → (b == k) ≡ true → b ≡ k
-is_byte b k e = search (rules, e)
-
 not_byte : (b k : ℕ) → (b == k) ≡ false → b ≡ k → ⊥
 not_byte b k e f = let g : (b == k) ≡ true = search (rules, f) in absurd cc
 
@@ -306,7 +304,7 @@ word_goes : (k b : ℕ) (w bs : List ℕ) (x : ℕ) (next : HeaderPart) → ((mo
     (b ≡ k → header_of (p_word ∷ words (x ∷ w ++ b ∷ []) bs) ≡ header_says (header_from next bs)) →
     header_of (p_word ∷ words (x ∷ w ++ b ∷ []) bs) ≡ header_says (header_from (if b == k then next else Bad) bs)
 word_goes k b w bs x next f g = by_byte (b == k)
-    (λ e. g (is_byte b k e) ∙ sym (ap (λ t. header_says (header_from (if t then next else Bad) bs)) e))
+    (λ e. g (eqb-true b k e) ∙ sym (ap (λ t. header_says (header_from (if t then next else Bad) bs)) e))
     (λ e. wrong_format x (w ++ b ∷ []) bs (λ more h. not_byte b k e (f more (ap (λ y. x ∷ y) (sym (append_assoc w (b ∷ []) more)) ∙ h)))
     ∙ sym (ap (λ t. header_says (header_from (if t then next else Bad) bs)) e))
 
@@ -347,7 +345,7 @@ gap_agrees (b ∷ bs) = by_byte (is_blank b)
     (λ e. ap (λ ts. header_of (p_word ∷ ts)) (tokens_more true [] b bs e) ∙ first (b == 99) refl ∙ sym (ap header_says (more_state Gap b bs e)))
   where
     first : (t : Bool) → (b == 99) ≡ t → header_of (p_word ∷ words (b ∷ []) bs) ≡ header_says (header_from (if b == 99 then C else Bad) bs)
-    first true e = ap (λ x. header_of (p_word ∷ words (x ∷ []) bs)) (is_byte b 99 e) ∙ c_agrees bs
+    first true e = ap (λ x. header_of (p_word ∷ words (x ∷ []) bs)) (eqb-true b 99 e) ∙ c_agrees bs
         ∙ sym (ap (λ t. header_says (header_from (if t then C else Bad) bs)) e)
     first false e = wrong_format b [] bs (λ more h. not_byte b 99 e (begins b more h)) ∙ sym (ap (λ t. header_says (header_from (if t then C else Bad) bs)) e)
       where

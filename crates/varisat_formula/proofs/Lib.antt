@@ -14,5 +14,6 @@ pub mod TakenTexts
 pub mod TargetParts
 pub mod TokenBytes
 pub mod TokenRuns
+pub mod ValueLemmas
 pub mod WriterBytes
 pub mod WrittenTexts

@@ -16,7 +16,7 @@ use Rattle.varisat_formula.proofs.TargetParts.{put_part}
 use Rattle.varisat_formula.proofs.ParserProgress.{gives_failed, over_gives, begin_gives, breaks_off}
 
 -- 1. What was read of a source.
-consumes_none : (a b : Option (List ℕ)) → Keeps a b → Consumes a b []
+pub consumes_none : (a b : Option (List ℕ)) → Keeps a b → Consumes a b []
 consumes_none None b k = tt
 consumes_none (Some xs) None k = absurd k
 consumes_none (Some xs) (Some ys) k = sym k

@@ -1,5 +1,6 @@
 -- What one byte does.
-use Rattle.std.proofs.Common.{◌≡◌, ℕ, suc, ◌<◌, List, [], ◌∷◌, ◌++◌, Bool, true, false, ◌==◌, rules, refl, sym, ap, subst, ◌∙◌, append_assoc, length, take, drop, get_or, take-suc, take-append-drop, Option, Some, None, if◌then◌else◌}
+use Rattle.std.proofs.Common.{◌≡◌, ℕ, suc, ◌<◌, List, [], ◌∷◌, ◌++◌, Bool, true, false, ◌==◌, refl, sym, ap, subst, ◌∙◌, append_assoc, length, take, drop, get_or, take-suc, take-append-drop, Option, Some, None, if◌then◌else◌}
+use Rattle.std.proofs.lemmas.Bool.{eqb-true}
 use Rattle.varisat_formula.specs.declared.dimacs.token.Word.{Word}
 use Rattle.varisat_formula.specs.declared.dimacs.header.HeaderPart.{HeaderPart}
 use Rattle.varisat_formula.specs.declared.dimacs.header.HeaderPart.TheVariants.{Name}
@@ -101,9 +102,6 @@ header_start : (n b : ℕ) (ended : Bool) (line : List ℕ) → b ≡ 112 →
     header_items ended n (header_of (tokens true (b ∷ line))) ≡ line_rest ended n (Header Name) line
 header_start n b ended line e = ap (λ x. header_items ended n (header_of (tokens true (x ∷ line)))) e ∙ ap (λ h. header_items ended n h) (header_agrees line)
 
-is_byte : (b k : ℕ) → (b == k) ≡ true → b ≡ k
-is_byte b k e = search (rules, e)
-
 pub start_more : (n b : ℕ) → LineStep n Start b [] (start_place b)
 start_more n b ended line = by_first (b == 99) refl
   where
@@ -117,7 +115,7 @@ start_more n b ended line = by_first (b == 99) refl
     rest_place = if is_blank b then Plain no_word else Plain (after_byte no_word b)
 
     by_second : (t : Bool) → (b == 112) ≡ t → (if t then heading else plain) ≡ line_rest ended n (if t then Header Name else rest_place) line
-    by_second true e = header_start n b ended line (is_byte b 112 e)
+    by_second true e = header_start n b ended line (eqb-true b 112 e)
     by_second false e = plain_agrees ended n (b ∷ line) ∙ plain_start n b ended line
 
     by_first : (t : Bool) → (b == 99) ≡ t → line_items ended n (b ∷ line) ≡ line_rest ended n (start_place b) line

@@ -6,7 +6,7 @@ use Rattle.varisat_literals.specs.promises.Numbers.{literal_text}
 use Rattle.varisat_formula.specs.promises.Written.{Puts, spaced_literals, clauses_text, header_text, formula_text}
 
 -- a beginning of one part is a beginning of the whole
-begin_part : (n : ℕ) (part rest : List ℕ) → (m : ℕ) × (take n part ≡ take m (part ++ rest))
+pub begin_part : (n : ℕ) (part rest : List ℕ) → (m : ℕ) × (take n part ≡ take m (part ++ rest))
 begin_part zero part rest = (0, refl)
 begin_part (suc n) [] rest = (0, refl)
 begin_part (suc n) (x ∷ part) rest = let r = begin_part n part rest in (suc r.0, ap (λ ys. x ∷ ys) r.1)

@@ -85,7 +85,7 @@ byte_more w v u bytes i l h e g =
     subst (λ t. GoesOnTo w t u) (sym (take_more bytes i 0 l)) (goes_on_more w v u (take i bytes) (get_or bytes i 0 ∷ []) g (h, sym e))
 
 -- 3. What they make of the reader.
-no_feed : (b : ℕ) → is_blank b ≡ false → is_line_feed b ≡ false
+pub no_feed : (b : ℕ) → is_blank b ≡ false → is_line_feed b ≡ false
 no_feed b h = search (rules, h)
 
 pub advances_word : (p q : Progress) (w v : Word) (bs : List ℕ) → GoesOnTo w bs v → p.over ≡ false → p.place ≡ Plain w →

@@ -1,6 +1,7 @@
 -- What is written is read back.
 use Rattle.std.proofs.Common.{◌≡◌, ℕ, zero, suc, ◌+◌, ◌-◌, ◌/◌, ◌%◌, ◌^◌, ◌<◌, ◌≤◌, List, [], ◌∷◌, ◌++◌, Bool, true, false, ◌||◌, ◌==◌, nat_lt, if◌then◌else◌, refl, sym, ap, subst, ◌∙◌, append_assoc, append-nil, Option, Some, None, max, length, get_or, arith, rules, decimal, codes}
 use Rattle.std.proofs.lemmas.Fmt.{decimal_by_steps, first_decimal, decimal_nonempty}
+use Rattle.std.proofs.lemmas.Bool.{le-ltb}
 use Rattle.varisat_theory.specs.promises.Literals.{literal_of}
 use Rattle.varisat_formula.specs.declared.dimacs.parser.ParserState.TheVariants.{Start, Comment, Header, Plain}
 use Rattle.varisat_formula.specs.declared.dimacs.token.Word.{Word}
@@ -21,6 +22,7 @@ use Rattle.varisat_formula.proofs.TokenBytes.{one_items, join, split_pieces}
 use Rattle.varisat_formula.proofs.HeaderLines.{below_test, header_agrees}
 use Rattle.varisat_formula.proofs.ParserProgress.{standing, advances_none, advances_more, advances_byte, advances_line_feed, plain_blank, plain_more, header_more, start_more, begin_gives}
 use Rattle.varisat_formula.proofs.DecimalDigits.{number_decimal, literal_text_is}
+use Rattle.varisat_formula.proofs.TokenRuns.{no_feed}
 
 abbrev pub plain : ℕ → Word → Reading → Progress
 plain n w r = standing n (Plain w) r
@@ -48,14 +50,11 @@ or_last false true z w h = absurd cc
 or_last false false true w h = absurd cc
 or_last false false false w h = h
 
-not_feed : (b : ℕ) → is_blank b ≡ false → is_line_feed b ≡ false
-not_feed b h = or_last (b == 32) (b == 9) (b == 13) (b == 10) h
-
 solid_advances : (n : ℕ) (w : Word) (bs : List ℕ) (r : Reading) → Solid bs → AdvancesBy (plain n w r) bs (plain n (word_from w bs) r)
 solid_advances n w [] r s = advances_none (plain n w r)
 solid_advances n w (b ∷ bs) r s =
     advances_more (plain n w r) (plain n (after_byte w b) r) (plain n (word_from w (b ∷ bs)) r) (b ∷ []) bs
-    (advances_byte n (Plain w) r b [] (Plain (after_byte w b)) (plain_more n w b s.0) (not_feed b s.0)) (solid_advances n (after_byte w b) bs r s.1)
+    (advances_byte n (Plain w) r b [] (Plain (after_byte w b)) (plain_more n w b s.0) (no_feed b s.0)) (solid_advances n (after_byte w b) bs r s.1)
 
 -- a token and a space
 token_advances : (n : ℕ) (bs : List ℕ) (r : Reading) → Solid bs →
@@ -79,11 +78,8 @@ meaning_of_negative : (n : ℕ) → 0 < n → n < 2 ^ 64 → meaning (45 ∷ dec
 meaning_of_negative zero p h = absurd (omega arith)
 meaning_of_negative (suc n) p h = ap negative (number_decimal (suc n) h)
 
-not_large : (m v : ℕ) → v ≤ m → nat_lt m v ≡ false
-not_large m v h = search (rules, h)
-
 ranged : (s : Bool) (n l : ℕ) → n ≤ variable_limit → literal_of (n - 1) s ≡ l → in_range s n ≡ Literal l
-ranged s n l h e = ap (λ t. if t then TooLarge else Literal (literal_of (n - 1) s)) (not_large variable_limit n h) ∙ ap Literal e
+ranged s n l h e = ap (λ t. if t then TooLarge else Literal (literal_of (n - 1) s)) (le-ltb variable_limit n h) ∙ ap Literal e
 
 -- the reading of a formula that is being read
 abbrev pub at : ℕ → ℕ → List (List ℕ) → List ℕ → ℕ → Reading
@@ -118,7 +114,7 @@ after_literal vars total done begun k n l f g =
     } in
     ap (λ t. if t then failed r n ClauseCount else (if nat_lt vars (l / 2 + 1) then failed r n VarCount else s (max vars (l / 2 + 1))))
     (not_full begun vars total k f)
-    ∙ ap (λ t. if t then failed r n VarCount else s (max vars (l / 2 + 1))) (not_large vars (l / 2 + 1) small)
+    ∙ ap (λ t. if t then failed r n VarCount else s (max vars (l / 2 + 1))) (le-ltb vars (l / 2 + 1) small)
     ∙ ap s top
 
 is_zero : (m : ℕ) → (m == 0) ≡ true → m ≡ 0
@@ -217,7 +213,7 @@ start_is b h =
 from_start : (n : ℕ) (w : List ℕ) (r : Reading) (q : Progress) → Fine w → AdvancesBy (plain n no_word r) w q → AdvancesBy (standing n Start r) w q
 from_start n [] r q h f = absurd h
 from_start n (b ∷ w) r q h f =
-    let feed = not_feed b h.0 in
+    let feed = no_feed b h.0 in
     let here = advances_byte n Start r b [] (start_place b) (start_more n b) feed in
     let there = advances_byte n (Plain no_word) r b [] (Plain (after_byte no_word b)) (plain_more n no_word b h.0) feed in
     record {
@@ -285,11 +281,11 @@ NoFeed (b ∷ bs) = (is_line_feed b ≡ false) × NoFeed bs
 
 no_feed_append : (w x : List ℕ) → Solid w → NoFeed x → NoFeed (w ++ x)
 no_feed_append [] x s h = h
-no_feed_append (b ∷ w) x s h = (not_feed b s.0, no_feed_append w x s.1 h)
+no_feed_append (b ∷ w) x s h = (no_feed b s.0, no_feed_append w x s.1 h)
 
-no_feed : (w : List ℕ) → Solid w → NoFeed w
-no_feed [] s = tt
-no_feed (b ∷ w) s = (not_feed b s.0, no_feed w s.1)
+no_feeds : (w : List ℕ) → Solid w → NoFeed w
+no_feeds [] s = tt
+no_feeds (b ∷ w) s = (no_feed b s.0, no_feeds w s.1)
 
 header_bytes : (n : ℕ) (h : HeaderPart) (bs : List ℕ) (r : Reading) → NoFeed bs →
     AdvancesBy (standing n (Header h) r) bs (standing n (Header (header_from h bs)) r)
@@ -333,7 +329,7 @@ header_is vars total h f =
     ∙ ap (λ ts. decimal vars ∷ ts) (tokens_last (decimal total) (fine_decimal total f) (decimal_solid total f)))
     ∙ ap (λ o. sizes o (number (decimal total))) (number_decimal vars v) ∙ ap (λ o. sizes (Some vars) o) (number_decimal total f)
     ∙ ap (λ t. if t then sized vars total else Malformed) (below_test total f)
-    ∙ ap (λ t. if t then Oversized else Sized (record { vars = vars; clauses = total })) (not_large variable_limit vars h)
+    ∙ ap (λ t. if t then Oversized else Sized (record { vars = vars; clauses = total })) (le-ltb variable_limit vars h)
 
 header_advances : (vars total : ℕ) → vars ≤ variable_limit → total < 2 ^ 64 →
     AdvancesBy begin (header_line vars total ++ 10 ∷ []) (standing 2 Start (at vars total [] [] 0))
@@ -342,7 +338,7 @@ header_advances vars total h f =
     let m : max 0 vars ≡ vars = omega arith in
     let line : List ℕ = codes " cnf " ++ (decimal vars ++ 32 ∷ decimal total) in
     let quiet : NoFeed (decimal vars ++ 32 ∷ decimal total) = no_feed_append (decimal vars) (32 ∷ decimal total) (decimal_solid vars v)
-    (refl, no_feed (decimal total) (decimal_solid total f)) in
+    (refl, no_feeds (decimal total) (decimal_solid total f)) in
     let first : AdvancesBy begin (112 ∷ []) (standing 1 (Header Name) nothing) = advances_byte 1 Start nothing 112 [] (Header Name) (start_more 1 112) refl in
     let bytes = header_bytes 1 Name line nothing (refl, (refl, (refl, (refl, (refl, quiet))))) in
     let feed = advances_line_feed 1 (Header (header_from Name line)) nothing in
@@ -353,7 +349,7 @@ header_advances vars total h f =
 
 end_is : (vars total m : ℕ) (cs : List (List ℕ)) → at_end (at vars total cs [] total) m ≡ at vars total cs [] total
 end_is vars total m cs = ap (λ t. if t then failed (at vars total cs [] total) m ClauseCount else at vars total cs [] total)
-    (not_large total total (omega arith))
+    (le-ltb total total (omega arith))
 
 pub reads_back : (f : Formula) → f.var_count ≤ variable_limit → length f.clauses < 2 ^ 64 → AreBelow f.var_count f.clauses → ReadsBack f
 reads_back f h k b =

@@ -5,4 +5,5 @@ pub mod Parsed
 pub mod Rest
 pub mod Streams
 pub mod TakenTexts
+pub mod Values
 pub mod Written

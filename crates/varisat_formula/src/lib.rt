@@ -5,5 +5,6 @@ pub mod dimacs;
 pub mod formula;
 pub mod io;
 mod macros;
+pub mod values;
 
 pub use varisat_literals::{lit, lits, var};

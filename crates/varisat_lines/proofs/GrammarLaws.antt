@@ -9,7 +9,7 @@ use Rattle.varisat_lines.specs.inside.Laws.{WrittenIsAccepted, AcceptedOnce, Acc
 use Rattle.varisat_lines.proofs.TokenLines.{only_parsed, parsed_means}
 use Rattle.varisat_lines.proofs.WrittenLines.{written_accepted}
 
-same_lines : (a b : List ProofLine) (f g : Option ℕ) (t : Parsed) → t ≡ record { lines = a; fault = f } → t ≡ record { lines = b; fault = g } → (a ≡ b)
+pub same_lines : (a b : List ProofLine) (f g : Option ℕ) (t : Parsed) → t ≡ record { lines = a; fault = f } → t ≡ record { lines = b; fault = g } → (a ≡ b)
     × (f ≡ g)
 same_lines a b f g t e h = (sym (ap (λ x. x.lines) e) ∙ ap (λ x. x.lines) h, sym (ap (λ x. x.fault) e) ∙ ap (λ x. x.fault) h)
 

@@ -1,5 +1,6 @@
 -- Units that say the lines are read as them.
-use Rattle.std.proofs.Common.{◌≡◌, ℕ, ◌+◌, List, [], ◌∷◌, ◌++◌, Bool, true, false, not, ◌==◌, if◌then◌else◌, flat_map, refl, sym, ap, subst, ◌∙◌, append_assoc, append-nil, inl, inr, Option, Some, None, rules}
+use Rattle.std.proofs.Common.{◌≡◌, ℕ, ◌+◌, List, [], ◌∷◌, ◌++◌, Bool, true, false, not, ◌==◌, if◌then◌else◌, flat_map, refl, sym, ap, subst, ◌∙◌, append_assoc, append-nil, inl, inr, Option, Some, None}
+use Rattle.std.proofs.lemmas.Bool.{not-false, eqb-true}
 use Rattle.varisat_theory.specs.promises.Literals.{Clause}
 use Rattle.varisat_lines.specs.declared.format.Encoding.{Encoding}
 use Rattle.varisat_lines.specs.declared.format.LineKind.{LineKind}
@@ -277,16 +278,8 @@ consume_all f end lines begun front h b e =
           (two.consumed.reads more ∙ ap (λ x. read f end two.place (x ++ more)) (none_of two.consumed.rest two.consumed.says));
     }
 
--- what is parsed where the definitions hold
-is_true : (t : Bool) → not t ≡ false → t ≡ true
-is_true true e = refl
-is_true false e = absurd cc
-
-is_equal : (n m : ℕ) → (n == m) ≡ true → n ≡ m
-is_equal n m e = search (rules, e)
-
 one_event : (n : ℕ) → not (n == 1) ≡ false → number_event n ≡ Fault
-one_event n e = ap number_event (is_equal n 1 (is_true (n == 1) e))
+one_event n e = ap number_event (eqb-true n 1 (not-false (n == 1) e))
 
 -- a symbol that does not fit
 record Unfit (f : Encoding) (i : Bool) (s : Symbol) : Type 0 where

@@ -1,5 +1,6 @@
 -- Lines, a symbol at a time: what the machine parses stands in the tokens.
 use Rattle.std.proofs.Common.{◌≡◌, ℕ, zero, suc, ◌+◌, ◌-◌, List, [], ◌∷◌, ◌++◌, Bool, true, false, ◌==◌, if◌then◌else◌, flat_map, refl, sym, ap, subst, ◌∙◌, append_assoc, append-nil, ◌⊎◌, inl, inr, ⊎_elim, Option, Some, None, arith, rules}
+use Rattle.std.proofs.lemmas.Bool.{eqb-true}
 use Rattle.varisat_theory.specs.promises.Literals.{Clause}
 use Rattle.varisat_lines.specs.declared.format.Encoding.{Encoding}
 use Rattle.varisat_lines.specs.declared.format.LineKind.{LineKind}
@@ -113,9 +114,6 @@ first_does marked d c _ (Code l) = let P : Event → ParserState → Type 0 = λ
     (subst (λ q. Moves (Text marked) (at_place false d c) (Number (l + 2)) q) (sym (code_place (begin_line Adds) l))
     (record { symbols_are = refl; is_place = record { some = refl; has = refl } }))
 
-is_equal : (n m : ℕ) → (n == m) ≡ true → n ≡ m
-is_equal n m e = search (rules, e)
-
 -- the kind is that of lines which begin with the symbol
 record Begins (f : Encoding) (s : Symbol) (kind : LineKind) : Type 0 where
   symbols_are : mark_symbols f kind ≡ s ∷ []
@@ -127,23 +125,23 @@ kind_begins f k kind s e b = let h : k ≡ kind = cc in subst (λ x. Begins f s 
 tag_begins : (a b : Bool) (n : ℕ) (kind : LineKind) → (n == 97) ≡ a → (n == 100) ≡ b →
     (if a then Some Adds else (if b then Some Deletes else None)) ≡ Some kind → Begins Binary (Number n) kind
 tag_begins true b n kind e g h = kind_begins Binary Adds kind (Number n) h
-    (record { symbols_are = ap (λ m. Number m ∷ []) (sym (is_equal n 97 e)); has = refl })
+    (record { symbols_are = ap (λ m. Number m ∷ []) (sym (eqb-true n 97 e)); has = refl })
 tag_begins false true n kind e g h = kind_begins Binary Deletes kind (Number n) h
-    (record { symbols_are = ap (λ m. Number m ∷ []) (sym (is_equal n 100 g)); has = refl })
+    (record { symbols_are = ap (λ m. Number m ∷ []) (sym (eqb-true n 100 g)); has = refl })
 tag_begins false false n kind e g h = absurd cc
 
 mark_begins : (marked t u v w : Bool) (b : ℕ) (kind : LineKind) → (b == 100) ≡ t → (b == 105) ≡ u → (b == 113) ≡ v → (b == 102) ≡ w →
     (if t then Some Deletes else (if marked then (if u then Some
     Accepts else (if v then Some Assumes else (if w then Some Fails else None))) else None)) ≡ Some kind → Begins (Text marked) (Mark b) kind
 mark_begins marked true u v w b kind e f g h k = kind_begins (Text marked) Deletes kind (Mark b) k
-    (record { symbols_are = ap (λ m. Mark m ∷ []) (sym (is_equal b 100 e)); has = refl })
+    (record { symbols_are = ap (λ m. Mark m ∷ []) (sym (eqb-true b 100 e)); has = refl })
 mark_begins false false u v w b kind e f g h k = absurd cc
 mark_begins true false true v w b kind e f g h k = kind_begins (Text true) Accepts kind (Mark b) k
-    (record { symbols_are = ap (λ m. Mark m ∷ []) (sym (is_equal b 105 f)); has = refl })
+    (record { symbols_are = ap (λ m. Mark m ∷ []) (sym (eqb-true b 105 f)); has = refl })
 mark_begins true false false true w b kind e f g h k = kind_begins (Text true) Assumes kind (Mark b) k
-    (record { symbols_are = ap (λ m. Mark m ∷ []) (sym (is_equal b 113 g)); has = refl })
+    (record { symbols_are = ap (λ m. Mark m ∷ []) (sym (eqb-true b 113 g)); has = refl })
 mark_begins true false false false true b kind e f g h k = kind_begins (Text true) Fails kind (Mark b) k
-    (record { symbols_are = ap (λ m. Mark m ∷ []) (sym (is_equal b 102 h)); has = refl })
+    (record { symbols_are = ap (λ m. Mark m ∷ []) (sym (eqb-true b 102 h)); has = refl })
 mark_begins true false false false false b kind e f g h k = absurd cc
 
 -- a symbol between two lines, by the kind that it begins

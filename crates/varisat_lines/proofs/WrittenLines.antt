@@ -1,5 +1,6 @@
 -- What is written for lines is accepted for them.
 use Rattle.std.proofs.Common.{Some, None, ◌≡◌, ℕ, zero, suc, ◌+◌, ◌*◌, ◌/◌, ◌%◌, ◌^◌, ◌<◌, ◌≤◌, List, [], ◌∷◌, ◌++◌, length, Bool, true, false, ◌&&◌, ◌||◌, ◌==◌, nat_lt, nat_le, if◌then◌else◌, flat_map, refl, sym, ap, subst, ◌∙◌, append_assoc, append-nil, ◌⊎◌, inl, inr, arith, rules}
+use Rattle.std.proofs.lemmas.Bool.{lt-ltb, le-ltb, le-leb, eqb-true}
 use Rattle.varisat_theory.specs.promises.Membership.{◌∈◌}
 use Rattle.varisat_theory.specs.promises.Literals.{Literal, Clause}
 use Rattle.varisat_formula.specs.declared.dimacs.token.Meaning.TheVariants as meant_as
@@ -23,22 +24,19 @@ use Rattle.varisat_lines.proofs.MachineTokens.{value_more, length_more}
 literal_spells : (l : ℕ) → l < 2 ^ 29 → Spells (literal_text l) l
 literal_spells l h = let s : l / 2 < variable_limit = omega arith in subst (λ t. Spells t l) (sym (literal_text_is l)) (literal_case (l % 2 == 0) l s refl)
 
-is_equal : (n m : ℕ) → (n == m) ≡ true → n ≡ m
-is_equal n m e = search (rules, e)
-
 -- a mark says no number
 mark_says : (marked t u v w : Bool) (b l : ℕ) → (b == 100) ≡ t → (b == 105) ≡ u → (b == 113) ≡ v → (b == 102) ≡ w → meaning (b ∷ []) ≡ meant_as.Literal l →
     is_kind (if t then Some
     Deletes else (if marked then (if u then Some Accepts else (if v then Some Assumes else (if w then Some Fails else None))) else None)) ≡ false
 mark_says marked true u v w b l e f g h k = absurd (let z : meaning (100 ∷ []) ≡ meant_as.Literal l = subst (λ x. meaning (x ∷ []) ≡ meant_as.Literal l)
-    (is_equal b 100 e) k in cc)
+    (eqb-true b 100 e) k in cc)
 mark_says false false u v w b l e f g h k = refl
 mark_says true false true v w b l e f g h k = absurd (let z : meaning (105 ∷ []) ≡ meant_as.Literal l = subst (λ x. meaning (x ∷ []) ≡ meant_as.Literal l)
-    (is_equal b 105 f) k in cc)
+    (eqb-true b 105 f) k in cc)
 mark_says true false false true w b l e f g h k = absurd (let z : meaning (113 ∷ []) ≡ meant_as.Literal
-    l = subst (λ x. meaning (x ∷ []) ≡ meant_as.Literal l) (is_equal b 113 g) k in cc)
+    l = subst (λ x. meaning (x ∷ []) ≡ meant_as.Literal l) (eqb-true b 113 g) k in cc)
 mark_says true false false false true b l e f g h k = absurd
-    (let z : meaning (102 ∷ []) ≡ meant_as.Literal l = subst (λ x. meaning (x ∷ []) ≡ meant_as.Literal l) (is_equal b 102 h) k in cc)
+    (let z : meaning (102 ∷ []) ≡ meant_as.Literal l = subst (λ x. meaning (x ∷ []) ≡ meant_as.Literal l) (eqb-true b 102 h) k in cc)
 mark_says true false false false false b l e f g h k = refl
 
 symbol_of_text : (marked : Bool) (t : List ℕ) (l : ℕ) → meaning t ≡ meant_as.Literal l → text_symbol marked t ≡ Number (l + 2)
@@ -149,15 +147,6 @@ none_or front n (inl e) = ap (λ t. nat_lt 0 n || t) e ∙ or_true (nat_lt 0 n)
     or_true false = refl
 none_or front n (inr h) = let e : nat_lt 0 n ≡ true = search (rules, h) in ap (λ t. t || is_none front) e
 
-below : (n m : ℕ) → n < m → nat_lt n m ≡ true
-below n m h = search (rules, h)
-
-not_below : (n m : ℕ) → m ≤ n → nat_lt n m ≡ false
-not_below n m h = search (rules, h)
-
-within : (n m : ℕ) → n ≤ m → nat_le n m ≡ true
-within n m h = search (rules, h)
-
 not_four : (n : ℕ) → n < 4 → (n == 4) ≡ false
 not_four n h = search (rules, h)
 
@@ -166,7 +155,7 @@ last_byte : (n v : ℕ) (front : List ℕ) (at start : ℕ) (rest : List ℕ) �
     value_of front + scale (length front) * n ≡ v → v ≤ 2 ^ 29 + 1 →
     symbols (binary_tokens at start front (n ∷ rest)) ≡ Number v ∷ symbols (binary_tokens (next at) (next at) [] rest)
 last_byte n v front at start rest small few some e h =
-    let l = below n 128 small in
+    let l = lt-ltb n 128 small in
     let m : n % 128 ≡ n = omega arith in
     let value : value_of (front ++ n ∷ []) ≡ v = sym (value_more front n few) ∙ ap (λ x. value_of front + scale (length front) * x) m ∙ e in
     let more = binary_tokens (next at) (next at) [] rest in
@@ -177,7 +166,7 @@ last_byte n v front at start rest small few some e h =
     ∙ ap (λ t. (if t && nat_le (value_of (front ++ n ∷ [])) (2 ^ 29 + 1) then Number (value_of (front ++ n ∷ [])) else Bad) ∷ symbols more)
     (none_or front n some)
     ∙ ap (λ x. (if nat_le x (2 ^ 29 + 1) then Number x else Bad) ∷ symbols more) value
-    ∙ ap (λ t. (if t then Number v else Bad) ∷ symbols more) (within v (2 ^ 29 + 1) h)
+    ∙ ap (λ t. (if t then Number v else Bad) ∷ symbols more) (le-leb v (2 ^ 29 + 1) h)
 
 -- the values with a byte more
 value_on : (a b m n v : ℕ) → b % 128 ≡ n % 128 → a + m * n ≡ v → (a + m * (b % 128)) + (128 * m) * (n / 128) ≡ v
@@ -207,7 +196,7 @@ number_case false k n v front at start rest t few some e h more =
     ap (λ x. (value_of front + scale (length front) * (b % 128)) + x * (n / 128)) (scale_more front b short) ∙
     value_on (value_of front) b (scale (length front)) n v f e in
     let r = more (front ++ b ∷ []) (n / 128) (next at) (omega (arith, len)) (inr (omega arith)) value in
-    let one = not_below b 128 (omega arith) in
+    let one = le-ltb b 128 (omega arith) in
     let two = not_four (length front) short in
     let there : List Token = record { at = start; symbol = binary_symbol front b } ∷ binary_tokens (next at) (next at) [] (leb128_by k (n / 128) ++ rest) in
     let on = binary_tokens (next at) start (front ++ b ∷ []) (leb128_by k (n / 128) ++ rest) in

@@ -4,10 +4,13 @@ use Rattle.varisat_theory.specs.promises.Literals.{Literal, Clause, Assignment, 
 use Rattle.varisat_theory.proofs.clauses.Members.{∈-append_left, ∈-append_right, ∈-append_cases}
 use Rattle.varisat_theory.proofs.clauses.Values.{value-opposite}
 use Rattle.varisat_theory.proofs.clauses.Assigned.{satisfies_more, satisfies_fewer}
-use Rattle.varisat_maxsat.specs.promises.Problems.{Soft, is_satisfied, cost}
-use Rattle.varisat_maxsat.specs.inside.Charges.{charged, AgreeBelow, AreBelow, ChargesAreBelow, ClausesAreBelow, Reduces}
+use Rattle.varisat_theory.proofs.journals.Renaming.{value_twice}
+use Rattle.varisat_formula.specs.promises.Values.{is_satisfied}
+use Rattle.varisat_maxsat.specs.promises.Problems.{Soft, cost}
+use Rattle.varisat_maxsat.specs.inside.Charges.{charged, AgreeBelow, LiteralsAreBelow, ChargesAreBelow, ClausesAreBelow, Reduces}
 use Rattle.varisat_maxsat.specs.declared.charge.Charge.{Charge}
-use Rattle.varisat_maxsat.proofs.Agreeing.{satisfied-agree, charged-agree, satisfies-agree, all-agree, charged-append, cost-append, below-append, below-more, is-satisfied, satisfied-is, put, put-there, put-agrees, agree-less, agree-then, value-positive, positive-below, opposite-variable}
+use Rattle.varisat_formula.proofs.ValueLemmas.{is-satisfied, satisfied-is}
+use Rattle.varisat_maxsat.proofs.Agreeing.{satisfied-agree, charged-agree, satisfies-agree, all-agree, charged-append, cost-append, below-append, below-more, put, put-there, put-agrees, agree-less, agree-then, positive-below, opposite-variable}
 
 -- the last of the clauses
 pub last-satisfied : (a : Assignment) (P : List Clause) (c : Clause) → SatisfiesAll a (P ++ c ∷ []) → Satisfies a c
@@ -36,7 +39,7 @@ nothing-added n = record {
   upper = λ a h. (h, omega arith);
 }
 
-pub hard-added : {H : List Clause} {S : List Soft} {n m k : ℕ} {P : List Clause} {cs : List Charge} (c : Clause) → AreBelow n c →
+pub hard-added : {H : List Clause} {S : List Soft} {n m k : ℕ} {P : List Clause} {cs : List Charge} (c : Clause) → LiteralsAreBelow n c →
     Reduces H S n m P cs [] 0 k → Reduces (H ++ c ∷ []) S n m (P ++ c ∷ []) cs [] 0 k
 hard-added {H} {S} {n} {m} {k} {P} {cs} c b r = record {
   named = r.named;
@@ -54,7 +57,7 @@ hard-added {H} {S} {n} {m} {k} {P} {cs} c b r = record {
 }
 
 -- a clause that costs nothing
-pub weightless-soft-added : {H : List Clause} {S : List Soft} {n m k : ℕ} {P : List Clause} {cs : List Charge} (s : Soft) → AreBelow n s.clause → s.weight ≡ 0 →
+pub weightless-soft-added : {H : List Clause} {S : List Soft} {n m k : ℕ} {P : List Clause} {cs : List Charge} (s : Soft) → LiteralsAreBelow n s.clause → s.weight ≡ 0 →
     Reduces H S n m P cs [] 0 k → Reduces H (S ++ s ∷ []) n m P cs [] 0 k
 weightless-soft-added {H} {S} {n} {m} {k} {P} {cs} s b z r = record {
   named = r.named;
@@ -75,7 +78,7 @@ weightless-soft-added {H} {S} {n} {m} {k} {P} {cs} s b z r = record {
     same a = let e = cost-append a S (s ∷ []) in let f = none (is_satisfied a s.clause) in omega arith
 
 -- a soft clause of one literal: its opposite is charged
-pub soft-literal-added : {H : List Clause} {S : List Soft} {n m k : ℕ} {P : List Clause} {cs : List Charge} (l : Literal) (w : ℕ) → AreBelow n (l ∷ []) →
+pub soft-literal-added : {H : List Clause} {S : List Soft} {n m k : ℕ} {P : List Clause} {cs : List Charge} (l : Literal) (w : ℕ) → LiteralsAreBelow n (l ∷ []) →
     Reduces H S n m P cs [] 0 k →
     Reduces H (S ++ record { weight = w; clause = l ∷ [] } ∷ []) n m P (cs ++ record { literal = opposite l; weight = w } ∷ []) [] 0 k
 soft-literal-added {H} {S} {n} {m} {k} {P} {cs} l w b r = record {
@@ -123,7 +126,7 @@ soft-literal-added {H} {S} {n} {m} {k} {P} {cs} l w b r = record {
         let f = ap (λ x. if x then w else 0) (value-opposite a l) in omega arith
 
 -- a soft clause: a new literal is true where it is not satisfied, and is charged
-pub soft-clause-added : {H : List Clause} {S : List Soft} {n m k : ℕ} {P : List Clause} {cs : List Charge} (c : Clause) (w : ℕ) → AreBelow n c →
+pub soft-clause-added : {H : List Clause} {S : List Soft} {n m k : ℕ} {P : List Clause} {cs : List Charge} (c : Clause) (w : ℕ) → LiteralsAreBelow n c →
     Reduces H S n m P cs [] 0 k →
     Reduces H (S ++ record { weight = w; clause = c } ∷ []) n (m + 1) (P ++ (c ++ (2 * m) ∷ []) ∷ [])
     (cs ++ record { literal = 2 * m; weight = w } ∷ []) [] 0 k
@@ -140,7 +143,7 @@ soft-clause-added {H} {S} {n} {m} {k} {P} {cs} c w b r = record {
       let p = not (is_satisfied a c) in
       let x = put m p d in
       let o : AgreeBelow m d x = put-agrees m p d in
-      let v : value x (2 * m) ≡ p = value-positive x m ∙ put-there m p d in
+      let v : value x (2 * m) ≡ p = value_twice x m ∙ put-there m p d in
       let y : AgreeBelow n a x = agree-then n a d x f (agree-less n m d x r.named o) in
       let g = cost-more a in
       let i = charged-more x in
@@ -159,7 +162,7 @@ soft-clause-added {H} {S} {n} {m} {k} {P} {cs} c w b r = record {
       (t, omega arith);
 }
   where
-    longer-below : AreBelow (m + 1) (c ++ (2 * m) ∷ [])
+    longer-below : LiteralsAreBelow (m + 1) (c ++ (2 * m) ∷ [])
     longer-below l i =
         ⊎_elim (λ j. below-more n (m + 1) c (let e = r.named in omega arith) b l j)
         (λ j. ⊎_elim (λ e. subst (λ x. variable_of x < m + 1) (sym e) (positive-below m (m + 1) (omega arith))) (λ z. absurd z) j)

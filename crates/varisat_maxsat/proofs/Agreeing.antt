@@ -3,15 +3,16 @@ use Rattle.std.proofs.Common.{◌≡◌, ◌≢◌, ℕ, ◌+◌, ◌*◌, ◌/�
 use Rattle.varisat_theory.specs.promises.Membership.{◌∈◌}
 use Rattle.varisat_theory.specs.promises.Literals.{Literal, Clause, Assignment, variable_of, opposite, value, Satisfies, SatisfiesAll}
 use Rattle.varisat_theory.proofs.clauses.Members.{∈-append_cases}
-use Rattle.varisat_maxsat.specs.promises.Problems.{Soft, is_satisfied, cost}
-use Rattle.varisat_maxsat.specs.inside.Charges.{charged, weighed, AgreeBelow, AreBelow, ChargesAreBelow, ClausesAreBelow, SoftAreBelow}
+use Rattle.varisat_formula.specs.promises.Values.{is_satisfied}
+use Rattle.varisat_maxsat.specs.promises.Problems.{Soft, cost}
+use Rattle.varisat_maxsat.specs.inside.Charges.{charged, weighed, AgreeBelow, LiteralsAreBelow, ChargesAreBelow, ClausesAreBelow, SoftAreBelow}
 use Rattle.varisat_maxsat.specs.declared.charge.Charge.{Charge}
 
 pub value-agree : (n : ℕ) (a b : Assignment) (l : Literal) → AgreeBelow n a b → variable_of l < n → value b l ≡ value a l
 unfolding value
 value-agree n a b l f h = ap (λ x. if nat_eq (l % 2) 0 then x else not x) (f (l / 2) h)
 
-pub satisfied-agree : (n : ℕ) (a b : Assignment) (c : Clause) → AgreeBelow n a b → AreBelow n c → is_satisfied b c ≡ is_satisfied a c
+pub satisfied-agree : (n : ℕ) (a b : Assignment) (c : Clause) → AgreeBelow n a b → LiteralsAreBelow n c → is_satisfied b c ≡ is_satisfied a c
 satisfied-agree n a b [] f h = refl
 satisfied-agree n a b (l ∷ c) f h =
     let e = value-agree n a b l f (h l (inl refl)) in
@@ -32,14 +33,14 @@ charged-agree n a b (c ∷ cs) f h =
     let g = charged-agree n a b cs f (λ k i. h k (inr i)) in
     ap (λ x. (if x then c.weight else 0) + charged b cs) e ∙ ap (λ x. (if value a c.literal then c.weight else 0) + x) g
 
-pub weighed-agree : (n : ℕ) (a b : Assignment) (w : ℕ) (ls : List Literal) → AgreeBelow n a b → AreBelow n ls → weighed b w ls ≡ weighed a w ls
+pub weighed-agree : (n : ℕ) (a b : Assignment) (w : ℕ) (ls : List Literal) → AgreeBelow n a b → LiteralsAreBelow n ls → weighed b w ls ≡ weighed a w ls
 weighed-agree n a b w [] f h = refl
 weighed-agree n a b w (l ∷ ls) f h =
     let e = value-agree n a b l f (h l (inl refl)) in
     let g = weighed-agree n a b w ls f (λ k i. h k (inr i)) in
     ap (λ x. (if x then w else 0) + weighed b w ls) e ∙ ap (λ x. (if value a l then w else 0) + x) g
 
-pub satisfies-agree : (n : ℕ) (a b : Assignment) (c : Clause) → AgreeBelow n a b → AreBelow n c → Satisfies a c → Satisfies b c
+pub satisfies-agree : (n : ℕ) (a b : Assignment) (c : Clause) → AgreeBelow n a b → LiteralsAreBelow n c → Satisfies a c → Satisfies b c
 satisfies-agree n a b c f h s = (s.0, s.1, value-agree n a b s.0 f (h s.0 s.1) ∙ s.2)
 
 pub all-agree : (n : ℕ) (a b : Assignment) (P : List Clause) → AgreeBelow n a b → ClausesAreBelow n P → SatisfiesAll a P → SatisfiesAll b P
@@ -59,34 +60,13 @@ cost-append a [] ys = sym (zero-add (cost a ys))
 cost-append a (x ∷ xs) ys = let g = cost-append a xs ys in omega arith
 
 -- below a count in lists that are appended
-pub below-append : {X : Type 0} (f : X → List Literal) (n : ℕ) (xs : List X) (y : X) → ((x : X) → x ∈ xs → AreBelow n (f x)) → AreBelow n (f y) →
-    (x : X) → x ∈ (xs ++ y ∷ []) → AreBelow n (f x)
+pub below-append : {X : Type 0} (f : X → List Literal) (n : ℕ) (xs : List X) (y : X) → ((x : X) → x ∈ xs → LiteralsAreBelow n (f x)) → LiteralsAreBelow n (f y) →
+    (x : X) → x ∈ (xs ++ y ∷ []) → LiteralsAreBelow n (f x)
 below-append f n xs y h k x i =
-    ⊎_elim (λ j. h x j) (λ j. ⊎_elim (λ e. subst (λ z. AreBelow n (f z)) (sym e) k) (λ z. absurd z) j) (∈-append_cases x xs (y ∷ []) i)
+    ⊎_elim (λ j. h x j) (λ j. ⊎_elim (λ e. subst (λ z. LiteralsAreBelow n (f z)) (sym e) k) (λ z. absurd z) j) (∈-append_cases x xs (y ∷ []) i)
 
-pub below-more : (n m : ℕ) (ls : List Literal) → n ≤ m → AreBelow n ls → AreBelow m ls
+pub below-more : (n m : ℕ) (ls : List Literal) → n ≤ m → LiteralsAreBelow n ls → LiteralsAreBelow m ls
 below-more n m ls h f l i = let k = f l i in omega arith
-
--- a literal is true, as a test
-pub is-satisfied : (a : Assignment) (c : Clause) → Satisfies a c → is_satisfied a c ≡ true
-is-satisfied a [] s = absurd s.1
-is-satisfied a (l ∷ c) s =
-    ⊎_elim
-    (λ e. ap (λ x. x || is_satisfied a c) (subst (λ x. value a x ≡ true) e s.2))
-    (λ i. ap (λ x. value a l || x) (is-satisfied a c (s.0, i, s.2)) ∙ or-true (value a l))
-    s.1
-  where
-    or-true : (b : Bool) → b || true ≡ true
-    or-true true = refl
-    or-true false = refl
-
-pub satisfied-is : (a : Assignment) (c : Clause) → is_satisfied a c ≡ true → Satisfies a c
-satisfied-is a [] e = let z : false ≡ true = e in cc
-satisfied-is a (l ∷ c) e = go (λ g. satisfied-is a c g) (value a l) refl
-  where
-    go : (is_satisfied a c ≡ true → Satisfies a c) → (b : Bool) → value a l ≡ b → Satisfies a (l ∷ c)
-    go rest true f = (l, inl refl, f)
-    go rest false f = let s = rest (sym (ap (λ x. x || is_satisfied a c) f) ∙ e) in (s.0, inr s.1, s.2)
 
 -- the assignment with another value at one variable
 abbrev pub put : ℕ → Bool → Assignment → Assignment
@@ -103,14 +83,6 @@ agree-less n m a b h f v k = f v (omega arith)
 
 pub agree-then : (n : ℕ) (a b d : Assignment) → AgreeBelow n a b → AgreeBelow n b d → AgreeBelow n a d
 agree-then n a b d f g v h = g v h ∙ f v h
-
--- the positive literal of a variable
-pub value-positive : (a : Assignment) (n : ℕ) → value a (2 * n) ≡ a n
-unfolding value
-value-positive a n =
-    let e : (2 * n) % 2 ≡ 0 = omega arith in
-    let f : (2 * n) / 2 ≡ n = omega arith in
-    rw (e, f) refl
 
 pub positive-below : (n m : ℕ) → n < m → variable_of (2 * n) < m
 positive-below n m h = omega arith

@@ -4,9 +4,10 @@ use Rattle.varisat_theory.specs.promises.Membership.{◌∈◌}
 use Rattle.varisat_theory.specs.promises.Literals.{Literal, Clause, Assignment, opposite, SatisfiesAll, MakesTrue, IsSatisfiable}
 use Rattle.varisat_client.specs.promises.Pasts.{Past, IsFoundModel, count}
 use Rattle.varisat_client.specs.inside.Clients.{Client}
-use Rattle.varisat_maxsat.specs.promises.Problems.{Problem, cost, assignment_of, IsSolution, IsOptimum}
+use Rattle.varisat_formula.specs.promises.Values.{assignment_of}
+use Rattle.varisat_maxsat.specs.promises.Problems.{Problem, cost, IsSolution, IsOptimum}
 use Rattle.varisat_maxsat.specs.inside.Charges.{ClausesAreBelow, Reduces, ReducesBelow, Divides, Exchanges, CountsCharge, AreValues}
-use Rattle.varisat_maxsat.specs.inside.Reductions.{IsReady, Finds, FindsModel, FindsCore, FindsLightly, FindsSolution, Reduction, ReducesTo, ReducesToAfter, ReducesToBelow, IsDecided, IsImproved}
+use Rattle.varisat_maxsat.specs.inside.Reductions.{IsReady, Finds, FindsModel, FindsCore, FindsLightly, FindsSolution, Reduction, ReducesTo, ReducesToAfter, ReducesToBelow, DecidesHard, IsImproved}
 use Rattle.varisat_maxsat.specs.declared.charge.Charge.{Charge}
 use Rattle.varisat_maxsat.specs.declared.counter.Counter.{Counter}
 use Rattle.varisat_maxsat.proofs.Counting.{counting-begins, counter-made, charge-counted, within-given, adds-given, past-given, ceiling-lower, none-below, bound-meets, exchanged}
@@ -122,7 +123,7 @@ and-none : (n : ℕ) → n + 0 ≡ n
 and-none n = omega arith
 
 pub light-step : (p : Problem) (r : Reduction) (h : Client) (ds : List Charge) →
-    ((q : Past) → IsReady r.client q → FindsLightly r.charges ds q.clauses h) → ReducesTo p r → IsDecided true p (record r { client = h; charges = ds })
+    ((q : Past) → IsReady r.client q → FindsLightly r.charges ds q.clauses h) → ReducesTo p r → DecidesHard true p (record r { client = h; charges = ds })
 light-step p r h ds f st =
     let g = f st.past st.ready in
     let x = subst (λ n. Reduces p.hard p.soft p.variables r.named st.past.clauses ds [] 0 n) (and-none r.bound) (exchanged 0 ds g.exchanges st.reduces) in (

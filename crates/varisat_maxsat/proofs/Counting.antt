@@ -5,11 +5,12 @@ use Rattle.varisat_theory.specs.promises.Membership.{◌∈◌}
 use Rattle.varisat_theory.specs.promises.Literals.{Literal, Clause, Assignment, variable_of, opposite, value, Satisfies, SatisfiesAll}
 use Rattle.varisat_theory.proofs.clauses.Values.{value-opposite}
 use Rattle.varisat_theory.proofs.clauses.Assigned.{satisfies_more, satisfies_fewer}
+use Rattle.varisat_theory.proofs.journals.Renaming.{value_twice}
 use Rattle.varisat_maxsat.specs.promises.Problems.{Soft, cost}
-use Rattle.varisat_maxsat.specs.inside.Charges.{charged, due, AgreeBelow, AreBelow, ChargesAreBelow, Counts, CountersAreBelow, Divides, Exchanges, Reduces, ReducesBelow}
+use Rattle.varisat_maxsat.specs.inside.Charges.{charged, due, AgreeBelow, LiteralsAreBelow, ChargesAreBelow, Counts, CountersAreBelow, Divides, Exchanges, Reduces, ReducesBelow}
 use Rattle.varisat_maxsat.specs.declared.charge.Charge.{Charge}
 use Rattle.varisat_maxsat.specs.declared.counter.Counter.{Counter}
-use Rattle.varisat_maxsat.proofs.Agreeing.{value-agree, charged-agree, all-agree, charged-append, below-append, put, put-there, put-agrees, agree-less, agree-then, value-positive, opposite-variable}
+use Rattle.varisat_maxsat.proofs.Agreeing.{value-agree, charged-agree, all-agree, charged-append, below-append, put, put-there, put-agrees, agree-less, agree-then, opposite-variable}
 use Rattle.varisat_maxsat.proofs.Adding.{clauses-more, charges-more}
 use Rattle.varisat_maxsat.proofs.Taking.{take-item, item-∈, last-cases}
 
@@ -94,7 +95,7 @@ counter-made {H} {S} {n} {m} {k} {u} {P} {cs} {ks} at f e r = record {
         all-agree m b d P o r.clauses_below s,
         omega arith,
         λ x j. ⊎_elim (λ q. counts-agree m b d cs x o r.charges_below (r.counters_below x q) (c x q))
-            (λ q. subst (Counts d cs) (sym q) (new-counts b d o (value-positive d m ∙ put-there m (reached b) b))) (last-cases x ks new j),
+            (λ q. subst (Counts d cs) (sym q) (new-counts b d o (value_twice d m ∙ put-there m (reached b) b))) (last-cases x ks new j),
       );
   upper = r.upper;
 }
@@ -143,7 +144,7 @@ charge-counted {H} {S} {n} {m} {k} {u} {P} {cs} {ks} c i h e w r = record {
         (λ t. let z : true ≡ false = sym t ∙ v in absurd cc, λ t. absurd (omega arith))
 
 -- a clause that follows from what counters count
-pub counted-clause : {H : List Clause} {S : List Soft} {n m k u : ℕ} {P : List Clause} {cs : List Charge} {ks : List Counter} (d : Clause) → AreBelow m d →
+pub counted-clause : {H : List Clause} {S : List Soft} {n m k u : ℕ} {P : List Clause} {cs : List Charge} {ks : List Counter} (d : Clause) → LiteralsAreBelow m d →
     ((b : Assignment) → k + charged b cs < u → ((x : Counter) → x ∈ ks → Counts b cs x) → Satisfies b d) → ReducesBelow H S n m P cs ks k u →
     ReducesBelow H S n m (P ++ d ∷ []) cs ks k u
 counted-clause {H} {S} {n} {m} {k} {u} {P} {cs} {ks} d below holds r = record {
@@ -200,11 +201,11 @@ past-holds b cs x k u h l p = go (value b x.literal) refl
     go false v = (opposite x.literal, inl refl, opposite-true b x.literal v)
     go true v = let c = p.0 v in let i = charged-taken b cs x.end in absurd (omega arith)
 
-one-below : (m : ℕ) (x : Literal) → variable_of x < m → AreBelow m (x ∷ [])
+one-below : (m : ℕ) (x : Literal) → variable_of x < m → LiteralsAreBelow m (x ∷ [])
 one-below m x h l (inl e) = subst (λ z. variable_of z < m) (sym e) h
 one-below m x h l (inr z) = absurd z
 
-more-below : (m : ℕ) (x : Literal) (c : Clause) → variable_of x < m → AreBelow m c → AreBelow m (x ∷ c)
+more-below : (m : ℕ) (x : Literal) (c : Clause) → variable_of x < m → LiteralsAreBelow m c → LiteralsAreBelow m (x ∷ c)
 more-below m x c h k l (inl e) = subst (λ z. variable_of z < m) (sym e) h
 more-below m x c h k l (inr i) = k l i
 

@@ -4,10 +4,12 @@ use Rattle.std.proofs.lemmas.List.{get_or-take, length-take-le}
 use Rattle.varisat_theory.specs.promises.Membership.{◌∈◌, ◌⊆◌}
 use Rattle.varisat_theory.specs.promises.Literals.{Literal, Clause, Assignment, variable_of, opposite, value, SatisfiesAll, MakesTrue, IsSatisfiable}
 use Rattle.varisat_theory.proofs.clauses.Values.{value-opposite, not_both, parity}
-use Rattle.varisat_maxsat.specs.promises.Problems.{Soft, cost, assignment_of, IsSolution, IsOptimum}
+use Rattle.varisat_theory.proofs.journals.Renaming.{value_twice}
+use Rattle.varisat_formula.specs.promises.Values.{assignment_of}
+use Rattle.varisat_maxsat.specs.promises.Problems.{Soft, cost, IsSolution, IsOptimum}
 use Rattle.varisat_maxsat.specs.inside.Charges.{charged, AgreeBelow, ClausesAreBelow, Reduces, AreAssumed, AreValues}
 use Rattle.varisat_maxsat.specs.declared.charge.Charge.{Charge}
-use Rattle.varisat_maxsat.proofs.Agreeing.{cost-agree, all-agree, value-positive, opposite-variable}
+use Rattle.varisat_maxsat.proofs.Agreeing.{cost-agree, all-agree, opposite-variable}
 
 -- no charge is due
 pub charged-none : (a : Assignment) (cs : List Charge) → ((c : Charge) → c ∈ cs → value a c.literal ≡ false) → charged a cs ≡ 0
@@ -36,9 +38,9 @@ pub values-true : {m : ℕ} {model : List Literal} {vs : List Bool} (a : Assignm
 values-true {m} {model} {vs} a t r l i h =
     ⊎_elim
     (λ e. subst (λ z. value (assignment_of vs) z ≡ true) (sym e)
-    (value-positive (assignment_of vs) (l / 2) ∙ (r.read (l / 2) h).1 (subst (λ z. z ∈ model) e i)))
+    (value_twice (assignment_of vs) (l / 2) ∙ (r.read (l / 2) h).1 (subst (λ z. z ∈ model) e i)))
     (λ e. subst (λ z. value (assignment_of vs) z ≡ true) (sym e) (value-opposite (assignment_of vs) (2 * (l / 2)) ∙
-    ap not (value-positive (assignment_of vs) (l / 2) ∙ is-false (assignment_of vs (l / 2))
+    ap not (value_twice (assignment_of vs) (l / 2) ∙ is-false (assignment_of vs (l / 2))
     (λ g. not_both a (2 * (l / 2)) (t (2 * (l / 2)) ((r.read (l / 2) h).0 g)) (subst (λ z. value a z ≡ true) e (t l i))))))
     (literal-cases l)
   where

@@ -2,7 +2,8 @@
 use Rattle.std.proofs.Common.{◌≡◌, ℕ, ◌<◌, ◌≤◌, Bool, List, [], ◌∷◌, refl, sym, ap, ◌∙◌, subst, arith}
 use Rattle.std.specs.Prelude.{Option, Some, None, option_map, IfSome, IsSomeAnd}
 use Rattle.varisat_theory.specs.promises.Literals.{IsSatisfiable}
-use Rattle.varisat_maxsat.specs.promises.Problems.{Problem, cost, assignment_of, IsSolution, IsOptimum, Found, Improve, last_found}
+use Rattle.varisat_formula.specs.promises.Values.{assignment_of}
+use Rattle.varisat_maxsat.specs.promises.Problems.{Problem, cost, IsSolution, IsOptimum, Found, Improve, last_found}
 use Rattle.varisat_maxsat.specs.inside.Reductions.{Took}
 
 improve-more : (p : Problem) (f : Found) (fs : List Found) → IfSome (last_found fs) (λ g. f.cost < g.cost) → IsSolution p f.cost f.values → Improve p fs →

@@ -2,7 +2,7 @@
 use Rattle.std.proofs.Common.{◌≡◌, ℕ, ◌≤◌, Bool, true, false, List, subst}
 use Rattle.std.specs.Prelude.{Option, Some, None, IfSome}
 use Rattle.varisat_maxsat.specs.promises.Problems.{Problem, IsSolution, IsOptimum}
-use Rattle.varisat_maxsat.specs.inside.Reductions.{Reduction, ReducesTo, ReducesToBelow, FindsSolution, IsDecided, IsImproved}
+use Rattle.varisat_maxsat.specs.inside.Reductions.{Reduction, ReducesTo, ReducesToBelow, FindsSolution, DecidesHard, IsImproved}
 use Rattle.varisat_maxsat.proofs.Below.{met-optimal}
 
 pub best-met : {X : Type 0} (cost_of : X → ℕ) (values_of : X → List Bool) (p : Problem) (r : Reduction) (o : Option X) → IsImproved false p r →
@@ -17,8 +17,8 @@ improved p r b e h = subst (λ x. IsImproved x p r) e h
 pub not-improved : (p : Problem) (r : Reduction) (b : Bool) → b ≡ false → IsImproved b p r → IsImproved false p r
 not-improved p r b e h = subst (λ x. IsImproved x p r) e h
 
-pub decided : (p : Problem) (r : Reduction) (b : Bool) → b ≡ true → IsDecided b p r → ReducesTo p r × FindsSolution p r
-decided p r b e h = subst (λ x. IsDecided x p r) e h
+pub decided : (p : Problem) (r : Reduction) (b : Bool) → b ≡ true → DecidesHard b p r → ReducesTo p r × FindsSolution p r
+decided p r b e h = subst (λ x. DecidesHard x p r) e h
 
-pub not-decided : (p : Problem) (r : Reduction) (b : Bool) → b ≡ false → IsDecided b p r → IsDecided false p r
-not-decided p r b e h = subst (λ x. IsDecided x p r) e h
+pub not-decided : (p : Problem) (r : Reduction) (b : Bool) → b ≡ false → DecidesHard b p r → DecidesHard false p r
+not-decided p r b e h = subst (λ x. DecidesHard x p r) e h

@@ -4,10 +4,11 @@ use Rattle.varisat_theory.specs.promises.Literals.{Literal, Clause, Assignment, 
 use Rattle.varisat_theory.proofs.clauses.Members.{∈-append_left, ∈-append_right, ∈-append_cases}
 use Rattle.varisat_theory.proofs.clauses.Values.{value-opposite, not_both}
 use Rattle.varisat_theory.proofs.clauses.Assigned.{satisfies_more, satisfies_fewer}
+use Rattle.varisat_theory.proofs.journals.Renaming.{value_twice}
 use Rattle.varisat_maxsat.specs.promises.Problems.{Soft}
-use Rattle.varisat_maxsat.specs.inside.Charges.{charged, weighed, AgreeBelow, AreBelow, Reduces, IsPending}
+use Rattle.varisat_maxsat.specs.inside.Charges.{charged, weighed, AgreeBelow, LiteralsAreBelow, Reduces, IsPending}
 use Rattle.varisat_maxsat.specs.declared.charge.Charge.{Charge}
-use Rattle.varisat_maxsat.proofs.Agreeing.{value-agree, charged-agree, weighed-agree, all-agree, charged-append, weighed-append, below-append, put, put-there, put-agrees, agree-less, agree-then, value-positive, opposite-variable}
+use Rattle.varisat_maxsat.proofs.Agreeing.{value-agree, charged-agree, weighed-agree, all-agree, charged-append, weighed-append, below-append, put, put-there, put-agrees, agree-less, agree-then, opposite-variable}
 use Rattle.varisat_maxsat.proofs.Adding.{last-satisfied, charge-below, charges-more, clauses-more}
 
 or-true : (b : Bool) → b || true ≡ true
@@ -124,12 +125,12 @@ joined {H} {S} {n} {m} {k} {w} {P} {cs} x y rest r = record {
     at : (d l : Literal) → variable_of d < m + 1 + 1 → l ≡ d → variable_of l < m + 1 + 1
     at d l h e = subst (λ z. variable_of z < m + 1 + 1) (sym e) h
 
-    two : (d e : Literal) → variable_of d < m + 1 + 1 → variable_of e < m + 1 + 1 → AreBelow (m + 1 + 1) (d ∷ e ∷ [])
+    two : (d e : Literal) → variable_of d < m + 1 + 1 → variable_of e < m + 1 + 1 → LiteralsAreBelow (m + 1 + 1) (d ∷ e ∷ [])
     two d e h i l (inl f) = at d l h f
     two d e h i l (inr (inl f)) = at e l i f
     two d e h i l (inr (inr z)) = absurd z
 
-    three : (c d e : Literal) → variable_of c < m + 1 + 1 → variable_of d < m + 1 + 1 → variable_of e < m + 1 + 1 → AreBelow (m + 1 + 1) (c ∷ d ∷ e ∷ [])
+    three : (c d e : Literal) → variable_of c < m + 1 + 1 → variable_of d < m + 1 + 1 → variable_of e < m + 1 + 1 → LiteralsAreBelow (m + 1 + 1) (c ∷ d ∷ e ∷ [])
     three c d e g h i l (inl f) = at c l g f
     three c d e g h i l (inr f) = two d e h i l f
 
@@ -152,8 +153,8 @@ joined {H} {S} {n} {m} {k} {w} {P} {cs} x y rest r = record {
         let o : AgreeBelow m b c = agree-then m b c1 c (put-agrees m (px || py) b) (agree-less m (m + 1) c1 c (omega arith) o1) in
         let vx : value c x ≡ value b x = value-agree m b c x o (r.pending_below x (inl refl)) in
         let vy : value c y ≡ value b y = value-agree m b c y o (r.pending_below y (inr (inl refl))) in
-        let vd : value c (2 * m) ≡ (px || py) = value-positive c m ∙ o1 m (omega arith) ∙ put-there m (px || py) b in
-        let ve : value c (2 * (m + 1)) ≡ (px && py) = value-positive c (m + 1) ∙ put-there (m + 1) (px && py) c1 in
+        let vd : value c (2 * m) ≡ (px || py) = value_twice c m ∙ o1 m (omega arith) ∙ put-there m (px || py) b in
+        let ve : value c (2 * (m + 1)) ≡ (px && py) = value_twice c (m + 1) ∙ put-there (m + 1) (px && py) c1 in
         let wd : value c (2 * m) ≡ (value c x || value c y) = vd ∙ ap (λ z. z || py) (sym vx) ∙ ap (λ z. value c x || z) (sym vy) in
         let we : value c (2 * (m + 1)) ≡ (value c x && value c y) = ve ∙ ap (λ z. z && py) (sym vx) ∙ ap (λ z. value c x && z) (sym vy) in
         let g = more-charged c in

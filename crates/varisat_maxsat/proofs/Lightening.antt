@@ -6,7 +6,7 @@ use Rattle.varisat_theory.specs.promises.Literals.{Literal, Clause, Assignment, 
 use Rattle.varisat_theory.proofs.clauses.Members.{∈-append_cases}
 use Rattle.varisat_client.specs.promises.Pasts.{Past}
 use Rattle.varisat_client.specs.inside.Clients.{Client}
-use Rattle.varisat_maxsat.specs.inside.Charges.{ChargesAreBelow, Exchanges, IsParted, IsSplit}
+use Rattle.varisat_maxsat.specs.inside.Charges.{ChargesAreBelow, Exchanges, AreParted, IsSplit}
 use Rattle.varisat_maxsat.specs.inside.Reductions.{IsReady, IsReadyWith, FindsModel, FindsCore, Finds, FindsWithin, FindsLightly, SearchesOn, KeepsParted, GivesUp}
 use Rattle.varisat_maxsat.specs.declared.charge.Charge.{Charge}
 use Rattle.varisat_maxsat.proofs.Agreeing.{charged-append}
@@ -15,23 +15,23 @@ use Rattle.varisat_maxsat.proofs.Taking.{core-charge}
 both-below : (n : ℕ) (xs ys : List Charge) → ChargesAreBelow n xs → ChargesAreBelow n ys → ChargesAreBelow n (xs ++ ys)
 both-below n xs ys f g c i = ⊎_elim (λ j. f c j) (λ j. g c j) (∈-append_cases c xs ys i)
 
-parted-start : (cs left given : List Charge) → left ≡ cs → given ≡ [] → IsParted cs left given
+parted-start : (cs left given : List Charge) → left ≡ cs → given ≡ [] → AreParted cs left given
 parted-start cs left given e f =
-    subst (λ x. IsParted cs x given) (sym e) (subst (IsParted cs cs) (sym f) (record {
+    subst (λ x. AreParted cs x given) (sym e) (subst (AreParted cs cs) (sym f) (record {
       same = λ a. omega arith;
       left_below = λ n h. h;
       given_up_below = λ n h c i. absurd i;
     }))
 
 parted-core : (cs left given kept failed more : List Charge) (ls : List Literal) → more ≡ given ++ failed → IsSplit ls left kept failed →
-    IsParted cs left given → IsParted cs kept more
-parted-core cs left given kept failed more ls e p s = subst (IsParted cs kept) (sym e) (record {
+    AreParted cs left given → AreParted cs kept more
+parted-core cs left given kept failed more ls e p s = subst (AreParted cs kept) (sym e) (record {
   same = λ a. let f = p.same a in let g = s.same a in let h = charged-append a given failed in omega arith;
   left_below = λ n h. p.below n (s.left_below n h);
   given_up_below = λ n h. both-below n given failed (s.given_up_below n h) (p.failed_below n (s.left_below n h));
 })
 
-parted-whole : (cs left given : List Charge) → IsParted cs left given → Exchanges cs 0 (given ++ left)
+parted-whole : (cs left given : List Charge) → AreParted cs left given → Exchanges cs 0 (given ++ left)
 parted-whole cs left given s = record {
   same = λ a. let f = s.same a in let g = charged-append a given left in omega arith;
   below = λ n h. both-below n given left (s.given_up_below n h) (s.left_below n h);
@@ -41,7 +41,7 @@ parted-whole cs left given s = record {
 pub all-given-up : (left given later more taken : List Charge) → taken ≡ left → more ≡ given ++ taken → later ≡ [] → KeepsParted left given later more
 all-given-up left given later more taken t e f cs s =
     let x = parted-whole cs left given s in
-    subst (λ y. IsParted cs y more) (sym f) (subst (IsParted cs []) (sym e) (subst (λ y. IsParted cs [] (given ++ y)) (sym t) (record {
+    subst (λ y. AreParted cs y more) (sym f) (subst (AreParted cs []) (sym e) (subst (λ y. AreParted cs [] (given ++ y)) (sym t) (record {
       same = λ a. x.same a;
       left_below = λ n h c i. absurd i;
       given_up_below = x.below;
@@ -52,8 +52,8 @@ pub core-given-up : (left given kept failed later more taken core : List Charge)
     more ≡ given ++ core → later ≡ kept → ((q : Past) → IsReady h q → IsSplit q.core taken kept failed) → FindsCore 0 left P h →
     KeepsParted left given later more
 core-given-up left given kept failed later more taken core P h t f e k split found cs s =
-    subst (λ x. IsParted cs x more) (sym k)
-    (subst (IsParted cs kept) (sym e) (subst (λ x. IsParted cs kept (given ++ x)) (sym f)
+    subst (λ x. AreParted cs x more) (sym k)
+    (subst (AreParted cs kept) (sym e) (subst (λ x. AreParted cs kept (given ++ x)) (sym f)
     (parted-core cs left given kept failed (given ++ failed) found.past.core refl
     (subst (λ x. IsSplit found.past.core x kept failed) t (split found.past found.ready)) s)))
 

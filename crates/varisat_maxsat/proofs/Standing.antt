@@ -7,8 +7,9 @@ use Rattle.varisat_theory.specs.promises.Membership.{◌∈◌}
 use Rattle.varisat_theory.specs.promises.Literals.{Literal, Clause, Assignment, opposite, MakesTrue, IsSatisfiable}
 use Rattle.varisat_client.specs.promises.Pasts.{Past, empty_past, count}
 use Rattle.varisat_client.specs.inside.Clients.{Client, RepresentsPast}
-use Rattle.varisat_maxsat.specs.promises.Problems.{Problem, with_hard, with_soft, paired, problem_of, cost, is_satisfied, IsOptimum}
-use Rattle.varisat_maxsat.specs.inside.Charges.{AreBelow, Reduces, IsSplit, TakesWeight, AreValues, IsPending}
+use Rattle.varisat_formula.specs.promises.Values.{is_satisfied}
+use Rattle.varisat_maxsat.specs.promises.Problems.{Problem, with_hard, with_soft, paired, problem_of, cost, IsOptimum}
+use Rattle.varisat_maxsat.specs.inside.Charges.{LiteralsAreBelow, Reduces, IsSplit, TakesWeight, AreValues, IsPending}
 use Rattle.varisat_maxsat.specs.inside.Reductions.{IsReady, FindsModel, FindsCore, Reduction, ReducesTo, ReducesToWith, ReducesToAfter}
 use Rattle.varisat_maxsat.specs.declared.charge.Charge.{Charge}
 use Rattle.varisat_maxsat.proofs.Adding.{nothing-added, hard-added, weightless-soft-added, soft-literal-added, soft-clause-added}
@@ -31,40 +32,40 @@ stands-first n r st v m cs k = record {
       (subst (λ x. Reduces [] [] n n [] [] [] 0 x) (sym k) (nothing-added n)));
 }
 
-pub stands-hard : (p : Problem) (r s : Reduction) (c : Clause) → AreBelow r.variables c → Gives c r.client s.client → s ≡ record r { client = s.client } →
+pub stands-hard : (p : Problem) (r s : Reduction) (c : Clause) → LiteralsAreBelow r.variables c → Gives c r.client s.client → s ≡ record r { client = s.client } →
     ReducesTo p r → ReducesTo (with_hard c p) s
 stands-hard p r s c b gives e st = subst (ReducesTo (with_hard c p)) (sym e) (record {
   past = record (count c st.past) { clauses = st.past.clauses ++ c ∷ [] };
   ready = gives st.past st.ready;
   variables = st.variables;
-  reduces = hard-added c (subst (λ n. AreBelow n c) st.variables b) st.reduces;
+  reduces = hard-added c (subst (λ n. LiteralsAreBelow n c) st.variables b) st.reduces;
 })
 
-pub stands-nothing : (p : Problem) (r : Reduction) (c : Clause) (w : ℕ) → w ≡ 0 → AreBelow r.variables c → ReducesTo p r → ReducesTo (with_soft w c p) r
+pub stands-nothing : (p : Problem) (r : Reduction) (c : Clause) (w : ℕ) → w ≡ 0 → LiteralsAreBelow r.variables c → ReducesTo p r → ReducesTo (with_soft w c p) r
 stands-nothing p r c w z b st = record {
   past = st.past;
   ready = st.ready;
   variables = st.variables;
-  reduces = weightless-soft-added (record { weight = w; clause = c }) (subst (λ n. AreBelow n c) st.variables b) z st.reduces;
+  reduces = weightless-soft-added (record { weight = w; clause = c }) (subst (λ n. LiteralsAreBelow n c) st.variables b) z st.reduces;
 }
 
-pub stands-literal : (p : Problem) (r s : Reduction) (c : Clause) (l : Literal) (w : ℕ) → c ≡ l ∷ [] → AreBelow r.variables c →
+pub stands-literal : (p : Problem) (r s : Reduction) (c : Clause) (l : Literal) (w : ℕ) → c ≡ l ∷ [] → LiteralsAreBelow r.variables c →
     s ≡ record r { charges = r.charges ++ record { literal = opposite l; weight = w } ∷ [] } → ReducesTo p r → ReducesTo (with_soft w c p) s
 stands-literal p r s c l w f b e st = subst (ReducesTo (with_soft w c p)) (sym e) (subst (λ d. ReducesTo (with_soft w d p) (record r { charges = r.charges ++ record { literal = opposite l; weight = w } ∷ [] })) (sym f) (record {
   past = st.past;
   ready = st.ready;
   variables = st.variables;
-  reduces = soft-literal-added l w (subst (λ d. AreBelow p.variables d) f (subst (λ n. AreBelow n c) st.variables b)) st.reduces;
+  reduces = soft-literal-added l w (subst (λ d. LiteralsAreBelow p.variables d) f (subst (λ n. LiteralsAreBelow n c) st.variables b)) st.reduces;
 }))
 
-pub stands-clause : (p : Problem) (r s : Reduction) (c : Clause) (w : ℕ) → AreBelow r.variables c → Gives (c ++ (2 * r.named) ∷ []) r.client s.client →
+pub stands-clause : (p : Problem) (r s : Reduction) (c : Clause) (w : ℕ) → LiteralsAreBelow r.variables c → Gives (c ++ (2 * r.named) ∷ []) r.client s.client →
     s ≡ record r { client = s.client; named = r.named + 1; charges = r.charges ++ record { literal = 2 * r.named; weight = w } ∷ [] } →
     ReducesTo p r → ReducesTo (with_soft w c p) s
 stands-clause p r s c w b gives e st = subst (ReducesTo (with_soft w c p)) (sym e) (record {
   past = record (count (c ++ (2 * r.named) ∷ []) st.past) { clauses = st.past.clauses ++ (c ++ (2 * r.named) ∷ []) ∷ [] };
   ready = gives st.past st.ready;
   variables = st.variables;
-  reduces = soft-clause-added c w (subst (λ n. AreBelow n c) st.variables b) st.reduces;
+  reduces = soft-clause-added c w (subst (λ n. LiteralsAreBelow n c) st.variables b) st.reduces;
 })
 
 -- a core that names no charge
@@ -155,16 +156,16 @@ charge-put : (cs after : List Charge) (k l : Literal) (w : ℕ) → after ≡ cs
     after ≡ cs ++ record { literal = l; weight = w } ∷ []
 charge-put cs after k l w e f = e ∙ ap (λ (x : Literal). cs ++ record { literal = x; weight = w } ∷ []) f
 
-pub hard-step : (p : Problem) (r : Reduction) (h : Client) (c : Clause) → AreBelow r.variables c → Gives c r.client h → ReducesTo p r →
+pub hard-step : (p : Problem) (r : Reduction) (h : Client) (c : Clause) → LiteralsAreBelow r.variables c → Gives c r.client h → ReducesTo p r →
     ReducesTo (with_hard c p) (record r { client = h })
 hard-step p r h c b gives st = stands-hard p r (record r { client = h }) c b gives refl st
 
-pub literal-step : (p : Problem) (r : Reduction) (after : List Charge) (c : Clause) (k l : Literal) (w : ℕ) → c ≡ l ∷ [] → AreBelow r.variables c →
+pub literal-step : (p : Problem) (r : Reduction) (after : List Charge) (c : Clause) (k l : Literal) (w : ℕ) → c ≡ l ∷ [] → LiteralsAreBelow r.variables c →
     after ≡ r.charges ++ record { literal = k; weight = w } ∷ [] → k ≡ opposite l → ReducesTo p r → ReducesTo (with_soft w c p) (record r { charges = after })
 literal-step p r after c k l w f b e o st =
     stands-literal p r (record r { charges = after }) c l w f b (ap (λ x. record r { charges = x }) (charge-put r.charges after k (opposite l) w e o)) st
 
-pub clause-step : (p : Problem) (r u : Reduction) (h : Client) (after : List Charge) (c longer : Clause) (k : Literal) (w : ℕ) → AreBelow r.variables c →
+pub clause-step : (p : Problem) (r u : Reduction) (h : Client) (after : List Charge) (c longer : Clause) (k : Literal) (w : ℕ) → LiteralsAreBelow r.variables c →
     u ≡ record r { named = r.named + 1 } → Gives longer u.client h → longer ≡ c ++ k ∷ [] → k ≡ 2 * r.named →
     after ≡ u.charges ++ record { literal = k; weight = w } ∷ [] → ReducesTo p r → ReducesTo (with_soft w c p) (record u { client = h; charges = after })
 clause-step p r u h after c longer k w b e gives f o a st =
@@ -285,15 +286,6 @@ soft-put h f g ws vs w c l e k =
     ∙ ap (λ x. problem_of (max h.var_count (max f.var_count (variables_of c))) h.clauses (paired x (f.clauses ++ c ∷ []))) k
     ∙ ap (λ n. problem_of n h.clauses (paired (ws ++ w ∷ []) (f.clauses ++ c ∷ []))) (max-more h.var_count f.var_count (variables_of c))
     ∙ ap (λ s. problem_of (max (max h.var_count f.var_count) (variables_of c)) h.clauses s) (paired-append ws f.clauses w c l)
-
--- tests and results
-pub not-true : (b : Bool) → not b ≡ true → b ≡ false
-not-true true e = sym e
-not-true false e = refl
-
-pub not-false : (b : Bool) → not b ≡ false → b ≡ true
-not-false true e = refl
-not-false false e = sym e
 
 pub if-ok : {X E : Type 0} (r : Result X E) (P Q : X → Type 0) → ((x : X) → P x → Q x) → IfOk r P → IfOk r Q
 if-ok (Ok x) P Q f h = f x h

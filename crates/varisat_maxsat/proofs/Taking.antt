@@ -7,7 +7,7 @@ use Rattle.varisat_theory.proofs.clauses.Members.{∈-append_left, ∈-append_ri
 use Rattle.varisat_theory.proofs.clauses.Places.{∈-get_or}
 use Rattle.varisat_theory.proofs.clauses.Values.{value-opposite}
 use Rattle.varisat_maxsat.specs.promises.Problems.{Soft}
-use Rattle.varisat_maxsat.specs.inside.Charges.{AreBelow, ChargesAreBelow, TakesWeight, IsSplit, Reduces, AreAssumed, IsPending}
+use Rattle.varisat_maxsat.specs.inside.Charges.{LiteralsAreBelow, ChargesAreBelow, TakesWeight, IsSplit, Reduces, AreAssumed, IsPending}
 use Rattle.varisat_maxsat.specs.declared.charge.Charge.{Charge}
 use Rattle.varisat_maxsat.proofs.Agreeing.{charged-append, weighed-append}
 use Rattle.varisat_maxsat.proofs.Adding.{charge-below}
@@ -19,7 +19,7 @@ take-item xs i v h e = take_more xs i v h ∙ ap (λ x. take i xs ++ x ∷ []) (
 pub last-cases : {X : Type 0} (x : X) (xs : List X) (y : X) → x ∈ (xs ++ y ∷ []) → (x ∈ xs) ⊎ (x ≡ y)
 last-cases x xs y i = ⊎_elim inl (λ j. ⊎_elim inr (λ z. absurd z) j) (∈-append_cases x xs (y ∷ []) i)
 
-literals-more : (n : ℕ) (ls : List Literal) (l : Literal) → AreBelow n ls → variable_of l < n → AreBelow n (ls ++ l ∷ [])
+literals-more : (n : ℕ) (ls : List Literal) (l : Literal) → LiteralsAreBelow n ls → variable_of l < n → LiteralsAreBelow n (ls ++ l ∷ [])
 literals-more n ls l h k m i = ⊎_elim (λ j. h m j) (λ e. subst (λ x. variable_of x < n) (sym e) k) (last-cases m ls l i)
 
 split-weight : (b : Bool) (w v : ℕ) → w < v → (if b then v else 0) ≡ (if b then v - w else 0) + (if b then w else 0)

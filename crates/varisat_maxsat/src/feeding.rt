@@ -4,7 +4,7 @@ ghost use Rattle.varisat_theory.specs.promises.Literals.{Clause, Assignment, Sat
 ghost use Rattle.varisat_literals.specs.promises.Numbers.{literal_numbered};
 ghost use Rattle.varisat_client.specs.promises.Pasts.{Past, count};
 ghost use Rattle.varisat_client.specs.inside.Clients.{RepresentsPast};
-ghost use Rattle.varisat_maxsat.specs.inside.Charges.{AreBelow, IsSplit, AreValues};
+ghost use Rattle.varisat_maxsat.specs.inside.Charges.{LiteralsAreBelow, IsSplit, AreValues};
 ghost use Rattle.varisat_maxsat.specs.inside.Reductions.{IsReady, HasBegun, FindsCore, FindsWithin, GivesUp, KeepsParted, FindsLightly};
 
 use crate::charge::Charge;
@@ -36,7 +36,7 @@ fn number_of(literal: Lit) -> Result<i32, MaxSatError>
 
 /// Refuses a clause that has a variable from the count on.
 pub(crate) fn ensure_below(clause: &[Lit], count: usize) -> Result<(), MaxSatError>
-    ensures { OnOk result (AreBelow count clause.now) }
+    ensures { OnOk result (LiteralsAreBelow count clause.now) }
 {
     for literal in clause {
         if literal.index() >= count {

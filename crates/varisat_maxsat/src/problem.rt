@@ -1,8 +1,8 @@
 //! Problems.
 ghost use Rattle.std.specs.Prelude.{◌≡◌, ◌++◌, ◌∷◌, [], ◌+◌, max, OnOk, OnErr, IfOk, IfSome, ◌≤◌, ◌^◌, length, if◌then◌else◌};
 ghost use Rattle.varisat_formula.specs.promises.Formulas.{variables_of};
-ghost use Rattle.varisat_theory.specs.promises.Literals.{value};
-ghost use Rattle.varisat_maxsat.specs.promises.Problems.{Problem as Asked, starting, paired, with_hard, with_soft, assignment_of, is_satisfied, cost};
+ghost use Rattle.varisat_formula.specs.promises.Values.{assignment_of, is_satisfied};
+ghost use Rattle.varisat_maxsat.specs.promises.Problems.{Problem as Asked, starting, paired, with_hard, with_soft, cost};
 ghost use Rattle.varisat_maxsat.specs.inside.Reductions.{ReducesTo};
 
 use crate::reduction::Reduction;
@@ -10,6 +10,7 @@ use crate::refusal::MaxSatError;
 use std::alloc::Allocator;
 use std::marker::Model;
 use varisat_formula::formula::{CnfFormula, FormulaError};
+use varisat_formula::values::is_satisfied;
 use varisat_literals::Lit;
 
 /// Hard clauses, which must be satisfied, and soft clauses, each with the weight that it costs not to satisfy it.
@@ -63,30 +64,6 @@ fn add_all_soft<A: Allocator + Copy>(
         index += 1;
     }
     Ok(())
-}
-
-/// Whether the literal is true. A variable without a value is false.
-#[tactic(auto, unfolding(varisat_theory::specs::promises::Literals::value))]
-fn is_true(values: &[bool], literal: Lit) -> bool
-    ensures { result ≡ value (assignment_of values.now) literal }
-{
-    let value = match values.get(literal.index()) {
-        Some(value) => *value,
-        None => false,
-    };
-    if literal.is_positive() { value } else { !value }
-}
-
-/// Whether a literal of the clause is true.
-fn is_satisfied(values: &[bool], clause: &[Lit]) -> bool
-    ensures { result ≡ is_satisfied (assignment_of values.now) clause.now }
-{
-    for literal in clause {
-        if is_true(values, *literal) {
-            return true;
-        }
-    }
-    false
 }
 
 /// The weight of a clause that is not satisfied, else 0.

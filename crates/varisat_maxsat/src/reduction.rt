@@ -1,7 +1,8 @@
 //! A problem that is reduced to hard clauses, and literals that cost a weight each.
 ghost use Rattle.std.specs.Prelude.{◌≡◌, ◌+◌, ◌*◌, ◌++◌, ◌∷◌, [], List, ℕ, OnOk, IfOk, IfErr, true, false};
-ghost use Rattle.varisat_maxsat.specs.promises.Problems.{Problem, with_hard, with_soft, assignment_of, cost, IsSolution, IsOptimum};
-ghost use Rattle.varisat_maxsat.specs.inside.Reductions.{ReducesTo, ReducesToWith, ReducesToAfter, ReducesToBelow, FindsSolution, IsDecided, IsImproved, Keeps, IsRelaxed};
+ghost use Rattle.varisat_formula.specs.promises.Values.{assignment_of};
+ghost use Rattle.varisat_maxsat.specs.promises.Problems.{Problem, with_hard, with_soft, cost, IsSolution, IsOptimum};
+ghost use Rattle.varisat_maxsat.specs.inside.Reductions.{ReducesTo, ReducesToWith, ReducesToAfter, ReducesToBelow, FindsSolution, DecidesHard, IsImproved, KeepsReductions, IsRelaxed};
 
 use crate::charge::{Charge, Joined, divide_digits, join_equal, least_weight, raised, take_weight};
 use crate::counter::{Counter, adds_up, counter_of_charge, is_within};
@@ -118,7 +119,7 @@ impl<A: Allocator + Copy> Reduction<A> {
 
     /// Searches for a model in which few charges are true, and puts those first that were given up.
     pub fn search_lightly(&mut self) -> Result<bool, MaxSatError>
-        ensures { IfOk result (λ b. (p : Problem) → ReducesTo p self.old → IsDecided b p self.new) }
+        ensures { IfOk result (λ b. (p : Problem) → ReducesTo p self.old → DecidesHard b p self.new) }
     {
         let found = search_lightly(&mut self.client, &self.charges, self.steps, self.alloc)?;
         match found {
@@ -217,7 +218,7 @@ impl<A: Allocator + Copy> Reduction<A> {
 
     /// Lowers the ceiling, and never raises it.
     pub fn lower_ceiling(&mut self, ceiling: u64)
-        ensures { Keeps self.old self.new }
+        ensures { KeepsReductions self.old self.new }
     {
         self.ceiling = self.ceiling.min(ceiling);
     }
@@ -229,7 +230,7 @@ impl<A: Allocator + Copy> Reduction<A> {
 
     /// Counts a sum of charges.
     pub fn add_counter(&mut self, sum: Sum) -> Result<(), MaxSatError>
-        ensures { OnOk result (Keeps self.old self.new) }
+        ensures { OnOk result (KeepsReductions self.old self.new) }
     {
         if let Some(counter) = counter_of_charge(&self.charges, sum) {
             self.counters.push(counter)?;
@@ -247,7 +248,7 @@ impl<A: Allocator + Copy> Reduction<A> {
 
     /// Gives the clause of a rule by which one counter follows from another one.
     fn imply(&mut self, cause: usize, effect: usize) -> Result<(), MaxSatError>
-        ensures { OnOk result (Keeps self.old self.new) }
+        ensures { OnOk result (KeepsReductions self.old self.new) }
     {
         if cause >= self.counters.len() || effect >= self.counters.len() {
             return Ok(());
@@ -263,7 +264,7 @@ impl<A: Allocator + Copy> Reduction<A> {
 
     /// Gives the clause of a rule by which one counter follows from two others.
     fn add_up(&mut self, left: usize, right: usize, effect: usize) -> Result<(), MaxSatError>
-        ensures { OnOk result (Keeps self.old self.new) }
+        ensures { OnOk result (KeepsReductions self.old self.new) }
     {
         let count = self.counters.len();
         if left >= count || right >= count || effect >= count {
@@ -284,7 +285,7 @@ impl<A: Allocator + Copy> Reduction<A> {
 
     /// Gives the clause of a rule.
     pub fn follow(&mut self, rule: Rule) -> Result<(), MaxSatError>
-        ensures { OnOk result (Keeps self.old self.new) }
+        ensures { OnOk result (KeepsReductions self.old self.new) }
     {
         if rule.left == rule.right {
             self.imply(rule.left, rule.effect)?;
@@ -296,7 +297,7 @@ impl<A: Allocator + Copy> Reduction<A> {
 
     /// Forbids what costs no less than the ceiling by this counter.
     pub fn forbid(&mut self, index: usize) -> Result<(), MaxSatError>
-        ensures { OnOk result (Keeps self.old self.new) }
+        ensures { OnOk result (KeepsReductions self.old self.new) }
     {
         if index >= self.counters.len() {
             return Ok(());

@@ -1,8 +1,8 @@
 //! Solving.
 ghost use Rattle.std.specs.Prelude.{◌≡◌, ◌<◌, ◌≤◌, List, [], Some, OnOk, IfOk, IfSome, IsSomeAnd, MatchOption, IsTrue, IsFalse, true};
 ghost use Rattle.varisat_theory.specs.promises.Literals.{IsSatisfiable};
-ghost use Rattle.varisat_maxsat.specs.promises.Problems.{Problem as Asked, IsSolution, IsOptimum, IsAnswer, starting, Found, Improve, last_found};
-ghost use Rattle.varisat_maxsat.specs.inside.Reductions.{ReducesTo, ReducesToAfter, ReducesToBelow, FindsSolution, IsEnded, Keeps, HandsOn};
+ghost use Rattle.varisat_maxsat.specs.promises.Problems.{Problem as Asked, IsSolution, IsOptimum, IsOptimumOrSolution, starting, Found, Improve, last_found};
+ghost use Rattle.varisat_maxsat.specs.inside.Reductions.{ReducesTo, ReducesToAfter, ReducesToBelow, FindsSolution, IsEnded, KeepsReductions, HandsOn};
 
 use crate::charge::greatest_weight;
 use crate::problem::Problem;
@@ -159,7 +159,7 @@ fn follow<A: Allocator + Copy>(
     reduction: &mut Reduction<A>,
     plan: &Plan<A>,
 ) -> Result<(), MaxSatError>
-    ensures { OnOk result (Keeps reduction.old reduction.new) }
+    ensures { OnOk result (KeepsReductions reduction.old reduction.new) }
 {
     let sums = plan.sums();
     'sums: for index in reduction.counter_count()..sums.len() {
@@ -176,7 +176,7 @@ fn forbid_ceiling<A: Allocator + Copy>(
     reduction: &mut Reduction<A>,
     plan: &mut Plan<A>,
 ) -> Result<(), MaxSatError>
-    ensures { OnOk result (Keeps reduction.old reduction.new) }
+    ensures { OnOk result (KeepsReductions reduction.old reduction.new) }
 {
     let least = reduction.ceiling().saturating_sub(reduction.bound());
     let Some(index) = plan.reach(least)? else {
@@ -238,7 +238,7 @@ fn lower_ceiling<A: Allocator + Copy>(
     reduction: &mut Reduction<A>,
     cost: u64,
 ) -> Result<(), MaxSatError>
-    ensures { Keeps reduction.old reduction.new }
+    ensures { KeepsReductions reduction.old reduction.new }
 {
     if cost >= reduction.ceiling() {
         return Err(MaxSatError::StepsSpent);
@@ -323,8 +323,8 @@ fn answer<A: Allocator + Copy>(
     is_optimum: bool,
 ) -> Result<Solution<A>, MaxSatError>
     ensures answer { IfOk result
-        (λ s. (p : Asked) → IfSome best (λ t. IsAnswer is_optimum p t.cost t.values.items) →
-        IsAnswer s.is_optimum p s.cost s.values.items) }
+        (λ s. (p : Asked) → IfSome best (λ t. IsOptimumOrSolution is_optimum p t.cost t.values.items) →
+        IsOptimumOrSolution s.is_optimum p s.cost s.values.items) }
     ensures same { IfOk result
         (λ s. IsSomeAnd best (λ t. (t.cost ≡ s.cost) × (t.values.items ≡ s.values.items))) }
 {
@@ -361,7 +361,7 @@ fn solve<A: Allocator + Copy, S: SolutionSink>(
     ensures answer { IfOk result
         (λ o. ReducesTo (starting problem.now.variables) reduction.old →
         MatchOption o (IsSatisfiable problem.now.hard → ⊥)
-        (λ s. IsAnswer s.is_optimum problem.now s.cost s.values.items)) }
+        (λ s. IsOptimumOrSolution s.is_optimum problem.now s.cost s.values.items)) }
     ensures taken { ReducesTo (starting problem.now.variables) reduction.old → (found : List Found)
         × Improve problem.now found × S.takes sink.old found sink.new
         × IfOk result (λ o. MatchOption o (found ≡ [])
@@ -399,7 +399,7 @@ pub fn optimize_within<A: Allocator + Copy, S: SolutionSink>(
 ) -> Result<Option<Solution<A>>, MaxSatError>
     ensures answer { IfOk result
         (λ o. MatchOption o (IsSatisfiable problem.now.hard → ⊥)
-        (λ s. IsAnswer s.is_optimum problem.now s.cost s.values.items)) }
+        (λ s. IsOptimumOrSolution s.is_optimum problem.now s.cost s.values.items)) }
     ensures taken { (found : List Found) × Improve problem.now found × S.takes sink.old found sink.new
         × IfOk result (λ o. MatchOption o (found ≡ [])
         (λ s. last_found found ≡ Some (record { cost = s.cost; values = s.values.items }))) }

@@ -34,7 +34,7 @@ splits (x ∷ f) b (y ∷ g) d e =
     (splits f b g d t)
 
 -- no derivation goes past a wrong line
-wrong_line : (Q R : List Clause) (line : Line) (rest : List Line) (S : List Clause) → SameClauses R Q → IsWrong Q line → Derives R (line ∷ rest) S → ⊥
+pub wrong_line : (Q R : List Clause) (line : Line) (rest : List Line) (S : List Clause) → SameClauses R Q → IsWrong Q line → Derives R (line ∷ rest) S → ⊥
 wrong_line Q R (Add c) rest S s w d = w (follows_same R Q c c s (same_set-self c) d.0)
 wrong_line Q R (Delete c) rest S s w d =
     let t = takes_from R c d.0 d.1 in

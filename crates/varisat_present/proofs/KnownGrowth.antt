@@ -10,7 +10,7 @@ use Rattle.varisat_theory.proofs.clauses.Values.{opposite_twice}
 use Rattle.varisat_theory.proofs.clauses.ConflictForms.{never_its_own}
 use Rattle.varisat_theory.proofs.clauses.Places.{∈-take_more, ∈-take_all}
 use Rattle.varisat_plain.proofs.PropagationRounds.{IsQuiet, quiet_known, quiet_open, unknown, unknown_fewer, unknown_less}
-use Rattle.varisat_present.specs.Knowing.{AreImplied, GrowsKnown, Finds, Saturates, TakesBase, IsPassed, Joins, Passes}
+use Rattle.varisat_present.specs.Knowing.{AreImplied, GrowsKnown, FindsConflict, Saturates, TakesBase, IsPassed, Joins, Passes}
 
 -- 1. One literal.
 no_clash_joined : (known : List Literal) (l : Literal) → (HasClash known → ⊥) → (opposite l ∈ known → ⊥) → HasClash (known ++ (l ∷ [])) → ⊥
@@ -66,19 +66,19 @@ pub cut_back : (a b more : List Literal) → b ≡ a ++ more → take (length a)
 cut_back a b more e = ap (take (length a)) e ∙ take_at a more (length a) refl
 
 -- 3. Findings.
-pub finds_none : (P : List Clause) (old : List Literal) → (HasClash old → ⊥) → Finds P old false old
+pub finds_none : (P : List Clause) (old : List Literal) → (HasClash old → ⊥) → FindsConflict P old false old
 finds_none P old n = record { grows = grows_none P old n; conflict = λ e. absurd cc }
 
-pub finds_no_more : (P : List Clause) (old new : List Literal) → GrowsKnown P old new → Finds P old false new
+pub finds_no_more : (P : List Clause) (old new : List Literal) → GrowsKnown P old new → FindsConflict P old false new
 finds_no_more P old new g = record { grows = g; conflict = λ e. absurd cc }
 
-pub finds_conflict : (P : List Clause) (old : List Literal) → (HasClash old → ⊥) → Conflicts P old → Finds P old true old
+pub finds_conflict : (P : List Clause) (old : List Literal) → (HasClash old → ⊥) → Conflicts P old → FindsConflict P old true old
 finds_conflict P old n k = record { grows = grows_none P old n; conflict = λ e. k }
 
-pub finds_found : (P : List Clause) (a b c : List Literal) → GrowsKnown P a b → GrowsKnown P b c → Conflicts P c → Finds P a true c
+pub finds_found : (P : List Clause) (a b c : List Literal) → GrowsKnown P a b → GrowsKnown P b c → Conflicts P c → FindsConflict P a true c
 finds_found P a b c g h k = record { grows = grows_on P a b c g h; conflict = λ e. k }
 
-pub finds_on : (P : List Clause) (a b c : List Literal) (found : Bool) → GrowsKnown P a b → Finds P b found c → Finds P a found c
+pub finds_on : (P : List Clause) (a b c : List Literal) (found : Bool) → GrowsKnown P a b → FindsConflict P b found c → FindsConflict P a found c
 finds_on P a b c found g f = record { grows = grows_on P a b c g f.grows; conflict = f.conflict }
 
 -- 4. One clause.
@@ -146,9 +146,9 @@ round_false P first known known' passed c i r w =
 
 -- one clause alone
 pub passed_finds : (P : List Clause) (old new : List Literal) (c : Clause) (found : Bool) → (HasClash old → ⊥) → c ∈ P → IsPassed c old found new →
-    Finds P old found new
-passed_finds P old new c true n i w = subst (λ (k : List Literal). Finds P old true k) (sym w.0) (finds_conflict P old n (FalseClause c i w.1))
-passed_finds P old new c false n i (inl w) = subst (λ (k : List Literal). Finds P old false k) (sym w.0) (finds_none P old n)
+    FindsConflict P old found new
+passed_finds P old new c true n i w = subst (λ (k : List Literal). FindsConflict P old true k) (sym w.0) (finds_conflict P old n (FalseClause c i w.1))
+passed_finds P old new c false n i (inl w) = subst (λ (k : List Literal). FindsConflict P old false k) (sym w.0) (finds_none P old n)
 passed_finds P old new c false n i (inr (l, j, u, o, m, f)) = finds_no_more P old new (grows_by P old new c l n i j o u f)
 
 pub round_end : (P : List Clause) (first known : List Literal) (passed : List Clause) → passed ≡ P → Round P first known passed → Passes P first false known
@@ -179,8 +179,8 @@ less_left P a b c g r n h =
     omega (arith, s, t))
     r
 
-pub saturates_early : (P : List Clause) (a b : List Literal) (found : Bool) → found ≡ true → Finds P a found b → Saturates P a true b
-saturates_early P a b found e f = record { finds = subst (λ (x : Bool). Finds P a x b) e f; saturated = λ t. absurd cc }
+pub saturates_early : (P : List Clause) (a b : List Literal) (found : Bool) → found ≡ true → FindsConflict P a found b → Saturates P a true b
+saturates_early P a b found e f = record { finds = subst (λ (x : Bool). FindsConflict P a x b) e f; saturated = λ t. absurd cc }
 
 pub saturates_on : (P : List Clause) (a b c : List Literal) (found : Bool) → GrowsKnown P a b → Saturates P b found c → Saturates P a found c
 saturates_on P a b c found g s = record { finds = finds_on P a b c found g s.finds; saturated = s.saturated }

@@ -17,13 +17,13 @@ pub record GrowsKnown (P : List Clause) (old new : List Literal) : Type 0 where
   pub implied : (base : List Literal) → AreImplied P base old → AreImplied P base new
 
 -- a conflict was found
-pub record Finds (P : List Clause) (old : List Literal) (found : Bool) (new : List Literal) : Type 0 where
+pub record FindsConflict (P : List Clause) (old : List Literal) (found : Bool) (new : List Literal) : Type 0 where
   pub grows : GrowsKnown P old new
   pub conflict : found ≡ true → Conflicts P new
 
 -- the same, or else propagation has come to its end
 pub record Saturates (P : List Clause) (old : List Literal) (found : Bool) (new : List Literal) : Type 0 where
-  pub finds : Finds P old found new
+  pub finds : FindsConflict P old found new
   pub saturated : found ≡ false → IsSaturated P new
 
 -- the base joins the known literals, or clashes with them or in itself
@@ -50,5 +50,5 @@ Joins P old new = (c : Clause) × (l : Literal) × (c ∈ P) × (l ∈ c) × (l 
 
 -- A pass over all clauses: with no conflict, nothing was left to propagate, or a literal joined.
 pub record Passes (P : List Clause) (old : List Literal) (found : Bool) (new : List Literal) : Type 0 where
-  pub finds : Finds P old found new
+  pub finds : FindsConflict P old found new
   pub rest : found ≡ false → ((new ≡ old) × IsSaturated P new) ⊎ Joins P old new

@@ -6,7 +6,7 @@ ghost use Rattle.varisat_theory.specs.promises.Literals.{opposite};
 ghost use Rattle.varisat_theory.specs.promises.Propagation.{HasClash};
 ghost use Rattle.varisat_present.specs.Places.{present};
 ghost use Rattle.varisat_present.specs.Pairs.{HaveLiterals};
-ghost use Rattle.varisat_present.specs.Knowing.{Finds, Saturates, Passes, TakesBase, IsPassed};
+ghost use Rattle.varisat_present.specs.Knowing.{FindsConflict, Saturates, Passes, TakesBase, IsPassed};
 
 use crate::clause::status_of;
 use crate::guide::Guide;
@@ -45,7 +45,7 @@ fn follow<A: Allocator + Copy>(
     way: &[u32],
 ) -> Result<bool, AllocError>
     requires { HasClash known.old → ⊥ }
-    ensures { IfOk result (λ found. Finds (present places.now) known.old found known.new) }
+    ensures { IfOk result (λ found. FindsConflict (present places.now) known.old found known.new) }
 {
     for place in way {
         let clause = match clause_at(places, *place as usize) {
@@ -68,7 +68,7 @@ pub fn propagate<A: Allocator + Copy>(
     first: usize,
 ) -> Result<bool, AllocError>
     requires { HasClash known.old → ⊥ }
-    ensures { IfOk result (λ found. Finds (present places.now) known.old found known.new) }
+    ensures { IfOk result (λ found. FindsConflict (present places.now) known.old found known.new) }
 {
     guide.lead(known, first)?;
     let found = follow(places, known, guide.way())?;
@@ -111,7 +111,7 @@ fn take_newest<A: Allocator + Copy>(
     guide: &mut Guide<A>,
 ) -> Result<bool, AllocError>
     requires { HasClash known.old → ⊥ }
-    ensures { IfOk result (λ found. Finds (present places.now) known.old found known.new) }
+    ensures { IfOk result (λ found. FindsConflict (present places.now) known.old found known.new) }
 {
     let count = known.len();
     let clause = match clause_at(places, places.len().saturating_sub(1)) {

@@ -4,7 +4,7 @@ use Rattle.std.specs.Io.KnownBytes.{Consumes, Keeps, IsAtEnd}
 use Rattle.varisat_theory.specs.promises.Propagation.{Conflicts}
 use Rattle.varisat_formula.specs.promises.Streams as streams
 use Rattle.varisat_formula.specs.promises.Streams.{Input, HasEnded}
-use Rattle.varisat_formula.proofs.ParsedSources.{reads_none, reads_more}
+use Rattle.varisat_formula.proofs.ParsedSources.{reads_none, reads_more, consumes_none}
 use Rattle.varisat_lines.specs.declared.format.Encoding.{Encoding}
 use Rattle.varisat_proof.specs.declared.checker.error.CheckVerdict.{CheckVerdict}
 use Rattle.varisat_proof.specs.declared.checker.error.CheckerError.{CheckerError}
@@ -22,14 +22,9 @@ pub record Gave (s : Input) (piece : List ℕ) (t : Input) : Type 0 where
   pub reads : streams.Reads s piece t
   pub quiet : t.faults ≡ s.faults
 
-keeps_none : (a b : Option (List ℕ)) → Keeps a b → Consumes a b []
-keeps_none None b k = tt
-keeps_none (Some xs) None k = absurd k
-keeps_none (Some xs) (Some ys) k = sym k
-
 -- the source failed and gave nothing
 pub gave_nothing : (s t : Input) → t.given ≡ s.given → Keeps s.left t.left → t.pieces ≤ s.pieces → streams.Reads s [] t
-gave_nothing s t g k n = record { gave = g ∙ sym (append-nil s.given); consumed = keeps_none s.left t.left k; no_more = n }
+gave_nothing s t g k n = record { gave = g ∙ sym (append-nil s.given); consumed = consumes_none s.left t.left k; no_more = n }
 
 -- no byte for a buffer that has room is the end
 pub ended_here : (before : Bool) (n : ℕ) (buffer : List ℕ) → n ≡ 0 → 0 < length buffer → streams.ended_after {E = Unit {0}} before (Ok n) buffer ≡ true

@@ -5,6 +5,7 @@ use Rattle.varisat_theory.specs.promises.Propagation.{Conflicts}
 use Rattle.varisat_theory.specs.promises.Derivations.{Line, Add, Delete, Derives, IsPresentAfter}
 use Rattle.varisat_theory.specs.promises.Held.{SameClauses}
 use Rattle.varisat_plain.specs.promises.Checking.{IsWrong}
+use Rattle.varisat_plain.proofs.Checking.{wrong_line}
 use Rattle.varisat_theory.specs.inside.StepLaws.{unit_lines}
 use Rattle.varisat_theory.proofs.clauses.Held.{same_set-self, same_set-through, same_clauses-self, same_clauses_find, takes_from, follows_same, conflicts_same}
 use Rattle.varisat_theory.proofs.clauses.Lines.{derives_cut, derives_present, derives_same, same_lines-self, present_unique}
@@ -54,13 +55,6 @@ spent-step checker old new step (Err e) is m h =
     subst (λ k. IsSpent k (Some new)) (sym is) w.1
 
 -- 2. A step that is right is not answered to be wrong.
-wrong_line : (Q R : List Clause) (line : Line) (rest : List Line) (S : List Clause) → SameClauses R Q → IsWrong Q line → Derives R (line ∷ rest) S → ⊥
-wrong_line Q R (Add c) rest S s w d = w (follows_same R Q c c s (same_set-self c) d.0)
-wrong_line Q R (Delete c) rest S s w d =
-    let t = takes_from R c d.0 d.1 in
-    let u = same_clauses_find R Q s t.0 t.1 in
-    w u.0 u.1 (same_set-through u.0 t.0 c u.2 t.2)
-
 -- lines that can be derived from what a checker may hold have no wrong one
 none-fails : (P : List Clause) (lines : List Line) (n : ℕ) (line : Line) (Q : List Clause) →
     CanTake (MayBePresent (Some (record { clauses = P; spent = false }))) lines → FailsAt P lines n line Q → ⊥

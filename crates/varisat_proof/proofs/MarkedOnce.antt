@@ -21,6 +21,7 @@ use Rattle.varisat_lines.specs.inside.Machine.{Parsed, parsed}
 use Rattle.varisat_proof.specs.promises.Marked.{MarkedLog, ProofState, Rules, strict_rules, TakesKind, IsWrongKind, GoesBy, Goes, TakesAll, GoesThrough, StopsBeforeBy, StopsCheckBy, StopsCheck, CheckOnceBy, CheckOnce, CheckGoesThrough}
 use Rattle.varisat_proof.proofs.CheckedLines.{error_of}
 use Rattle.varisat_lines.proofs.TokenLines.{only_parsed}
+use Rattle.varisat_lines.proofs.GrammarLaws.{same_lines}
 
 -- 1. The same but for the order of clauses and of their literals.
 pub record Same (s t : ProofState) : Type 0 where
@@ -179,13 +180,9 @@ return_same rules d fault n t t' back r q w (AtLine k x y z a i e) (AtLine l x' 
     let same = d.status t t' x a b w i (subst (λ (o : ProofLine). rules.wrong t' o b) (sym g) j) in
     e ∙ ap (λ o. Err (error_of o (step_number (suc n)))) same ∙ sym f
 
-same_parsed : (a b : List ProofLine) (f g : Option ℕ) (t : Parsed) → t ≡ record { lines = a; fault = f } → t ≡ record { lines = b; fault = g } → (a ≡ b)
-    × (f ≡ g)
-same_parsed a b f g t e h = (sym (ap (λ x. x.lines) e) ∙ ap (λ x. x.lines) h, sym (ap (λ x. x.fault) e) ∙ ap (λ x. x.fault) h)
-
 pub once : (rules : Rules) → AreDetermined rules → (e : Encoding) → CheckOnceBy rules e
 once rules d e = λ s bytes r q t u a b.
-    let p = same_parsed a.lines b.lines a.fault b.fault (parsed e bytes) (only_parsed e bytes a.lines a.fault a.means)
+    let p = same_lines a.lines b.lines a.fault b.fault (parsed e bytes) (only_parsed e bytes a.lines a.fault a.means)
     (only_parsed e bytes b.lines b.fault b.means) in
     let x = halts rules a.fault (length a.front) t a.back r a.stops in
     let y = subst (λ f. Halts rules f (length b.front) u b.back q) (sym p.1) (halts rules b.fault (length b.front) u b.back q b.stops) in
@@ -236,7 +233,7 @@ through s lines front back u (Err error) t fault e g k x = absurd (⊎_elim
 
 pub check_through : (e : Encoding) → CheckGoesThrough e
 check_through e = λ s bytes lines u r t m a k.
-    let p = same_parsed lines k.lines None k.fault (parsed e bytes) (only_parsed e bytes lines None m) (only_parsed e bytes k.lines k.fault k.means) in
+    let p = same_lines lines k.lines None k.fault (parsed e bytes) (only_parsed e bytes lines None m) (only_parsed e bytes k.lines k.fault k.means) in
     let h = subst (λ f. Halts strict_rules f (length k.front) t k.back r) (sym p.1) (halts strict_rules k.fault (length k.front) t k.back r k.stops) in
     let self : Same s s = record { present = same_clauses-self s.present; logged = refl } in
     through s lines k.front k.back u r t k.fault (p.0 ∙ k.splits) k.goes k.stops

@@ -3,7 +3,7 @@ use Rattle.std.proofs.Common.{◌≡◌, true, ℕ, zero, suc, ◌+◌, ◌≤�
 use Rattle.varisat_theory.specs.promises.Membership.{◌∈◌}
 use Rattle.varisat_theory.specs.promises.Literals.{Literal, Clause, Assignment, SatisfiesAll, IsSatisfiable, IsSatisfiableWith}
 use Rattle.varisat_theory.proofs.clauses.Members.{∈-append_cases, ∈-append_left, ∈-append_right}
-use Rattle.varisat_theory.proofs.clauses.Assigned.{satisfies_more}
+use Rattle.varisat_theory.proofs.clauses.Assigned.{satisfies_more, satisfies_fewer}
 use Rattle.varisat_theory.proofs.clauses.Sound.{conflicts_sound, follows_entails, takes_less}
 use Rattle.varisat_lines.specs.declared.format.LineKind.{LineKind}
 use Rattle.varisat_lines.specs.declared.format.LineKind.TheVariants.{Adds, Deletes, Accepts, Assumes, Fails}
@@ -14,10 +14,6 @@ use Rattle.varisat_proof.specs.declared.checker.marked.MarkedReport.{MarkedRepor
 use Rattle.varisat_lines.specs.promises.Lines.{ProofLine}
 use Rattle.varisat_proof.specs.promises.Marked.{MarkedLog, ProofState, nothing_logged, TakesKind, Goes, StopsCheck, IsCheckOf, state_of}
 use Rattle.varisat_proof.specs.promises.Calls.{core_lists, IsMarkedResult, IsTrueReport}
-
--- what satisfies all of both lists satisfies each
-satisfies_left : (a : Assignment) (P Q : List Clause) → SatisfiesAll a (P ++ Q) → SatisfiesAll a P
-satisfies_left a P Q s c m = s c (∈-append_left c P Q m)
 
 satisfies_right : (a : Assignment) (P Q : List Clause) → SatisfiesAll a (P ++ Q) → SatisfiesAll a Q
 satisfies_right a P Q s c m = s c (∈-append_right c P Q m)
@@ -52,7 +48,7 @@ sound_line P s Deletes c t w h = subst (λ x. IsSound P x) (sym h.2) (record {
   cores = w.cores;
 })
 sound_line P s Accepts c t w h = subst (λ x. IsSound P x) (sym h) (record {
-  present = λ a p i. satisfies_more a s.present c (w.present a p (satisfies_left a s.logged.inputs.clauses (c ∷ []) i))
+  present = λ a p i. satisfies_more a s.present c (w.present a p (satisfies_fewer a s.logged.inputs.clauses (c ∷ []) i))
       (satisfies_right a s.logged.inputs.clauses (c ∷ []) i c (inl refl));
   before = λ core m. let e = length_more s.logged.inputs.clauses c in let b = w.before core m in omega (arith, e, b);
   cores = λ core m k. w.cores core m (subst (λ x. IsSatisfiableWith (P ++ x) core.1) (take_front core.0 s.logged.inputs.clauses c (w.before core m)) k);
@@ -72,7 +68,7 @@ sound_line P s Fails c t w h = subst (λ x. IsSound P x) (sym h.2) (record {
     fails_here : IsSatisfiableWith (P ++ take (length all) all) c → ⊥
     fails_here k =
         let i = subst (λ x. SatisfiesAll k.0 (P ++ x)) (take_all (length all) all (omega arith)) k.1 in
-        conflicts_sound s.present c k.0 (w.present k.0 (satisfies_left k.0 P all i) (satisfies_right k.0 P all i)) k.2 h.1
+        conflicts_sound s.present c k.0 (w.present k.0 (satisfies_fewer k.0 P all i) (satisfies_right k.0 P all i)) k.2 h.1
 
     fails : (core : ℕ × List Literal) → core ≡ (length all, c) → IsSatisfiableWith (P ++ take core.0 all) core.1 → ⊥
     fails core e k = fails_here (subst (λ x. IsSatisfiableWith (P ++ take x.0 all) x.1) e k)
@@ -89,7 +85,7 @@ refutation_sound P Q bytes logged v e k (a, i) =
     let t : ProofState = state_of Q logged in
     let w = goes_sound P k.front s t (sound_start P) k.goes in
     let h = subst (λ v. StopsCheck k.fault (length k.front) t k.back (Ok v)) e k.stops in
-    conflicts_sound Q [] a (w.present a (satisfies_left a P logged.inputs.clauses i) (satisfies_right a P logged.inputs.clauses i)) (λ l m. absurd m) h.1
+    conflicts_sound Q [] a (w.present a (satisfies_fewer a P logged.inputs.clauses i) (satisfies_right a P logged.inputs.clauses i)) (λ l m. absurd m) h.1
 
 -- a report is true
 pub report_true : {A : Type 0} (P Q : List Clause) (bytes : List ℕ) (report : MarkedReport A) → IsMarkedResult P bytes (Ok report) Q → IsTrueReport P report

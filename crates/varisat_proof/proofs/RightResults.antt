@@ -15,6 +15,7 @@ use Rattle.varisat_lines.specs.inside.Machine.{Parsed, parsed}
 use Rattle.varisat_proof.specs.promises.Results.{result_of, IsAccepted, DerivationIsAccepted, ResultOnce}
 use Rattle.varisat_lines.proofs.TokenLines.{only_parsed}
 use Rattle.varisat_lines.proofs.WrittenLines.{written_accepted}
+use Rattle.varisat_lines.proofs.GrammarLaws.{same_lines}
 
 -- plain lines are those of one list
 line_same : (l m : Line) → plain_line l ≡ plain_line m → l ≡ m
@@ -30,13 +31,9 @@ plain_same (l ∷ ls) [] e = absurd cc
 plain_same (l ∷ ls) (m ∷ ms) e = let h : plain_line l ≡ plain_line m = cc in let t : plain_lines ls ≡ plain_lines ms = cc in
     ap (λ x. x ∷ ls) (line_same l m h) ∙ ap (λ x. m ∷ x) (plain_same ls ms t)
 
-same_parsed : (a b : List ProofLine) (f g : Option ℕ) (t : Parsed) → t ≡ record { lines = a; fault = f } → t ≡ record { lines = b; fault = g } → (a ≡ b)
-    × (f ≡ g)
-same_parsed a b f g t e h = (sym (ap (λ x. x.lines) e) ∙ ap (λ x. x.lines) h, sym (ap (λ x. x.fault) e) ∙ ap (λ x. x.fault) h)
-
 pub result_once : (f : ProofFormat) → ResultOnce f
 result_once f = λ P bytes r q Q R a b.
-    let t = same_parsed (plain_lines a.lines) (plain_lines b.lines) a.fault b.fault (parsed (plain_encoding f) bytes)
+    let t = same_lines (plain_lines a.lines) (plain_lines b.lines) a.fault b.fault (parsed (plain_encoding f) bytes)
     (only_parsed (plain_encoding f) bytes (plain_lines a.lines) a.fault a.means)
     (only_parsed (plain_encoding f) bytes (plain_lines b.lines) b.fault b.means) in
     let v : a.verdict ≡ b.verdict = (exact P a.lines a.verdict a.is_verdict b.verdict).1
@@ -59,7 +56,7 @@ by_verdict P lines (plain.DeletesNothing n) r d (c, w) e = absurd (wrong_no_deri
 pub derivation_accepted : (f : ProofFormat) → DerivationIsAccepted f
 derivation_accepted f = λ P lines bytes r Q d range w a.
     let e = plain_encoding f in
-    let t = same_parsed (plain_lines a.lines) (plain_lines lines) a.fault None (parsed e bytes)
+    let t = same_lines (plain_lines a.lines) (plain_lines lines) a.fault None (parsed e bytes)
     (only_parsed e bytes (plain_lines a.lines) a.fault a.means)
     (only_parsed e bytes (plain_lines lines) None (written_accepted e (plain_lines lines) bytes (plain_kinds e lines) range w)) in
     by_verdict P lines a.verdict r d (subst (λ l. IsVerdict P l a.verdict) (plain_same a.lines lines t.0) a.is_verdict)

@@ -123,7 +123,7 @@ pub given_more : (P cs : List Clause) (c : Clause) → AreGiven P cs → ((d : C
 given_more P cs c g w x m = ⊎_elim (λ k. g x k) (λ k. ⊎_elim (λ e. subst (λ y. (d : Clause) × (d ∈ P) × SameSet d y) (sym e) w) (λ z. absurd z) k)
     (∈-append_cases x cs (c ∷ []) m)
 
-given_satisfied : (P cs : List Clause) → AreGiven P cs → IsSatisfiable P → IsSatisfiable cs
+pub given_satisfied : (P cs : List Clause) → AreGiven P cs → IsSatisfiable P → IsSatisfiable cs
 given_satisfied P cs g (a, s) = (a, λ c m. let w = g c m in let x = s w.0 w.1 in (x.0, w.2.0 x.0 x.1, x.2))
 
 marked_refutes : (P inputs Q : List Clause) (r : Result CheckVerdict CheckerError) (old new : Input) →

@@ -202,7 +202,7 @@ fn verify_by<A: Allocator + Copy, S: ByteSource, P: ByteSource>(
 }
 
 /// Whether each clause of the formula is equal as a set to one that the checker has.
-fn are_given<A: Allocator + Copy>(given: &Checker<A>, formula: &CnfFormula<A>) -> bool
+pub fn are_given<A: Allocator + Copy>(given: &Checker<A>, formula: &CnfFormula<A>) -> bool
     ensures { IsTrue result ↔ AreGiven given.now.clauses formula.now.clauses }
 {
     for clause in formula.iter() {

@@ -51,7 +51,7 @@ view_of_parts p =
 
 -- The queue's head stays, and so does what the view doesn't show: the values that were remembered, and of the stored
 -- clauses all but the order of literals.
-pub record KeepsParts (p q : SearchParts) : Type 0 where
+pub record KeepsUnseen (p q : SearchParts) : Type 0 where
   pub last : q.values.last ≡ p.values.last
   pub head : q.trail.queue_head ≡ p.trail.queue_head
   pub store : KeepsShapes p.store q.store
@@ -66,7 +66,7 @@ pub record IsNext (W : Watches) (s : View) (l : Literal) : Type 0 where
 -- The search went on without a decision, and the lists, which are V now, watch the clauses.
 pub record GoesOnWith (p q : SearchParts) (V : Watches) : Type 0 where
   pub propagates : Propagates (view_of_parts p) (view_of_parts q)
-  pub keeps : KeepsParts p q
+  pub keeps : KeepsUnseen p q
   pub watched : IsWatched V (view_of_parts q) q.trail.queue_head
 
 -- Propagation ended so in the view: it has the property, or a kept clause is named, all whose literals are false.
@@ -119,7 +119,7 @@ with_lists p W = record { parts = p; lists = W }
 pub record IsVisitedAs (x y : PartsWithLists) (l : Literal) (i : ℕ) (v : Visit) : Type 0 where
   pub visited : IsVisited (view_of_parts x.parts) (view_of_parts y.parts) x.lists y.lists l i
   pub visit : IsVisit (view_of_parts y.parts) l i v
-  pub keeps : KeepsParts x.parts y.parts
+  pub keeps : KeepsUnseen x.parts y.parts
 
 -- The parts of a search one by one, of which the clauses of two literals stay: each as it was, and as it is then.
 module _ {A : Type 0} (store store' : Store) (binary : List (List Literal)) (values values' : Values)
@@ -131,7 +131,7 @@ module _ {A : Type 0} (store store' : Store) (binary : List (List Literal)) (val
 
   -- the queue's head stays, and so does what the view doesn't show
   abbrev pub PartsKeep : Type 0
-  PartsKeep = KeepsParts (parts_of store binary values trail graph) (parts_of store' binary values' trail' graph')
+  PartsKeep = KeepsUnseen (parts_of store binary values trail graph) (parts_of store' binary values' trail' graph')
 
   -- the search went on so, and the lists, which are V now, watch the clauses
   abbrev pub PartsGoOn : Watches → Type 0

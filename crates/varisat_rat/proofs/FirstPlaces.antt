@@ -1,5 +1,6 @@
 -- Places before which no clause has a literal.
-use Rattle.std.proofs.Common.{◌≡◌, ℕ, zero, suc, ◌+◌, ◌<◌, ◌≤◌, List, [], ◌∷◌, ◌++◌, ◌⊎◌, Option, Some, None, Vec, set, take, length, get_or, refl, sym, ap, ◌∙◌, subst, inl, inr, ⊎_elim, arith}
+use Rattle.std.proofs.Common.{◌≡◌, ℕ, zero, suc, ◌+◌, ◌<◌, ◌≤◌, List, [], ◌∷◌, ◌++◌, ◌⊎◌, Option, Some, None, Vec, set, take, length, get_or, sym, ap, ◌∙◌, subst, inl, inr, ⊎_elim, arith}
+use Rattle.std.proofs.lemmas.List.{get_or-set_same}
 use Rattle.varisat_theory.specs.promises.Membership.{◌∈◌}
 use Rattle.varisat_theory.specs.promises.Literals.{Literal, Clause}
 use Rattle.varisat_theory.proofs.clauses.Places.{∈-take_more}
@@ -15,11 +16,6 @@ lowered_set (x ∷ xs) zero v (suc l) d h = omega arith
 lowered_set (x ∷ xs) (suc i) v zero d h = omega arith
 lowered_set (x ∷ xs) (suc i) v (suc l) d h = lowered_set xs i v l d h
 
-set_there : (xs : List ℕ) (i v d : ℕ) → i < length xs → get_or (set xs i v) i d ≡ v
-set_there [] i v d h = absurd (omega arith)
-set_there (x ∷ xs) zero v d h = refl
-set_there (x ∷ xs) (suc i) v d h = set_there xs i v d (omega arith)
-
 pub lowered_same : (old new : List ℕ) → ((l : ℕ) → get_or new l unseen ≡ get_or old l unseen) → AreLowered old new
 lowered_same old new e l = let h = e l in omega (arith, h)
 
@@ -33,7 +29,7 @@ lowered_to old mid new i v e h q l =
 
 pub noted_at : (mid new : List ℕ) (i v : ℕ) → i < length mid → new ≡ set mid i v → get_or new i unseen ≤ v
 noted_at mid new i v h q =
-    let a = set_there mid i v unseen h in
+    let a = get_or-set_same mid i v unseen h in
     let c = ap (λ xs. get_or xs i unseen) q in
     omega (arith, a, c)
 

@@ -1,6 +1,7 @@
 -- What is kept of the known literals as clauses come and go, and what questions find.
 use Rattle.std.proofs.Common.{◌≡◌, ◌≢◌, ℕ, List, [], ◌∷◌, ◌++◌, ◌⊎◌, ◌↔◌, IsTrue, Bool, true, false, not, take, length, refl, sym, ap, ◌∙◌, subst, inl, inr, ⊎_elim}
 use Rattle.std.proofs.lemmas.List.{append_assoc}
+use Rattle.std.proofs.lemmas.Bool.{not-true}
 use Rattle.varisat_theory.specs.promises.Membership.{◌∈◌, ◌⊆◌}
 use Rattle.varisat_theory.specs.promises.Literals.{Literal, Clause, opposite, IsUnit}
 use Rattle.varisat_theory.specs.promises.Propagation.{Conflicts, LeavesOnly, IsComplete, IsSaturated}
@@ -10,8 +11,9 @@ use Rattle.varisat_theory.proofs.clauses.Members.{equal_or_not, ∈-append_cases
 use Rattle.varisat_theory.proofs.clauses.Saturated.{saturated_no_conflict, complete_fewer}
 use Rattle.varisat_theory.proofs.clauses.Implication.{implied_known, implied_clash, implied_more, implied_alone}
 use Rattle.varisat_theory.proofs.clauses.Growth.{conflicts_known}
+use Rattle.varisat_theory.proofs.clauses.Sound.{takes_less}
 use Rattle.varisat_plain.proofs.Scans.{answers_true, answers_false}
-use Rattle.varisat_present.specs.Knowing.{AreImplied, Finds, Saturates, TakesBase}
+use Rattle.varisat_present.specs.Knowing.{AreImplied, FindsConflict, Saturates, TakesBase}
 use Rattle.varisat_rat.specs.inside.Asking.{Keeps, IsPropagatedTo, Asks, Sees, IsSpare}
 use Rattle.varisat_present.proofs.KnownGrowth.{complete_both, grows_part, cut_back}
 
@@ -53,10 +55,6 @@ spare_implied P Q c d known s q t w l (ByReason x i j h) =
     (λ e. replaced Q c known l w (λ m a n. implied_is_known P known s (opposite m) (h m (subst (λ y. m ∈ y) (sym e) (t m a)) n)))
     (q x i)
 
-deleted_part : (P : List Clause) (c : Clause) (Q : List Clause) → TakesOut P c Q → Q ⊆ P
-deleted_part P c Q t = λ x m. subst (λ l. x ∈ l) (sym t.3) (⊎_elim (λ a. ∈-append_left x t.0 (t.1 ∷ t.2) a) (λ b. ∈-append_right x t.0 (t.1 ∷ t.2) (inr b))
-    (∈-append_cases x t.0 t.2 (subst (λ l. x ∈ l) t.5 m)))
-
 left_cases : (P : List Clause) (c : Clause) (Q : List Clause) (t : TakesOut P c Q) → (x : Clause) → x ∈ P → (x ∈ Q) ⊎ (x ≡ t.1)
 left_cases P c Q t = λ x m.
     ⊎_elim
@@ -71,7 +69,7 @@ keeps_without b P Q c known e t w k =
     record {
       no_clash = k.no_clash;
       implied = λ l m. spare_implied P Q c t.1 known s (left_cases P c Q t) t.4.1 w l (k.implied l m);
-      saturated = λ f. record { no_clash = s.no_clash; complete = complete_fewer P Q known (deleted_part P c Q t) s.complete };
+      saturated = λ f. record { no_clash = s.no_clash; complete = complete_fewer P Q known (takes_less P c Q t) s.complete };
     }
 
 -- 4. What the clauses alone imply.
@@ -129,7 +127,7 @@ pub sees_clash : (P : List Clause) (old base new : List Literal) → AreImplied 
 sees_clash P old base new h a = let w = asks_clash P old base new h a in record { more = w.more; joined = w.joined; right = w.right.0 }
 
 pub sees_found : (P : List Clause) (old base mid new : List Literal) (seen : Bool) → AreImplied P [] old → TakesBase old base false mid →
-    Finds P mid seen new → Sees P old base seen new
+    FindsConflict P mid seen new → Sees P old base seen new
 sees_found P old base mid new seen h a f = record {
   more = a.more ++ f.grows.more;
   joined = f.grows.joined ∙ ap (λ x. x ++ f.grows.more) a.joined ∙ append_assoc old a.more f.grows.more;
@@ -151,10 +149,6 @@ pub spare_left : (P : List Clause) (known : List Literal) (c : Clause) (code l :
     × LeavesOnly known c code → ((d : Clause) × (d ∈ P) × IsUnit l d) → IsSpare P known c
 spare_left P known c code l q w u = inr (code, u.0, w.0, w.1, u.1, subst (λ (x : Literal). IsUnit x u.0) q u.2)
 
-pub not_true : (b : Bool) → not b ≡ true → b ≡ false
-not_true true e = absurd cc
-not_true false e = refl
-
 pub saturates_there : (P Q : List Clause) (old new : List Literal) (found : Bool) → P ≡ Q → Saturates P old found new → Saturates Q old found new
 saturates_there P Q old new found e s = subst (λ (x : List Clause). Saturates x old found new) e s
 
@@ -166,7 +160,7 @@ found_there P Q base other found e f h = subst (λ (x : List Clause). IsTrue fou
 -- 7. Propagation to the end.
 pub propagated_found : (b : Bool) (P : List Clause) (old new : List Literal) (found : Bool) → Keeps b P old → Saturates P old found new → IsPropagatedTo P found new
 propagated_found b P old new found k s = record {
-  keeps = keeps_found b P old new found (not found) k s (not_true found);
+  keeps = keeps_found b P old new found (not found) k s (not-true found);
   right = refuted_is b P old new found k s;
 }
 

@@ -3,10 +3,10 @@ use Rattle.std.proofs.Common.{◌≡◌, ℕ, subst}
 use Rattle.varisat_theory.specs.promises.Literals.{Clause}
 use Rattle.varisat_rules.specs.declared.resolve.Relation.{Relation}
 use Rattle.varisat_rules.specs.declared.resolve.Relation.TheVariants.{Nothing, Subsumes, Strengthens}
-use Rattle.varisat_database.specs.Databases.{State, clause_at, IsLive}
+use Rattle.varisat_database.specs.Databases.{DatabaseState, clause_at, IsLive}
 use Rattle.varisat_rules.specs.inside.Resolving.{Relates, Compares}
 
-pub compares : (s : State) (j i : ℕ) (c d : Clause) (r : Relation) → c ≡ clause_at s j → d ≡ clause_at s i → IsLive s j → IsLive s i → (j ≡ i → ⊥) →
+pub compares : (s : DatabaseState) (j i : ℕ) (c d : Clause) (r : Relation) → c ≡ clause_at s j → d ≡ clause_at s i → IsLive s j → IsLive s i → (j ≡ i → ⊥) →
     Relates c d r → Compares s j i r
 compares s j i c d r e f lj li n w = go r (subst (λ (x : Clause). Relates (clause_at s j) x r) f (subst (λ (x : Clause). Relates x d r) e w))
   where

@@ -5,21 +5,23 @@ use Rattle.varisat_theory.specs.promises.Literals.{Literal, Clause, Assignment, 
 use Rattle.varisat_theory.proofs.clauses.Members.{equal_or_not, ∈-or_not}
 use Rattle.varisat_theory.proofs.clauses.Places.{∈-get_or, ∈-take_more, ∈-take_all, place_in}
 use Rattle.varisat_theory.proofs.clauses.Values.{opposite_twice, true_or_opposite}
-use Rattle.varisat_rules.specs.promises.Stacks.{assignment_of, with_true, amended, extended, avoids}
+use Rattle.varisat_formula.specs.promises.Values.{assignment_of, with_true}
+use Rattle.varisat_rules.specs.promises.Stacks.{amended, extended, avoids}
 use Rattle.varisat_rules.specs.promises.Leading.{AreNamedBy}
 use Rattle.varisat_rules.proofs.LeadingLemmas.{leads_removed, told_removed, named_at}
+use Rattle.varisat_formula.proofs.ValueLemmas.{made-true, stays-true}
 use Rattle.varisat_rules.proofs.ExtendLemmas.{thawed_more}
-use Rattle.varisat_database.specs.Databases.{State, pushed, removed, saved, clause_at, IsLive}
-use Rattle.varisat_rules.specs.inside.States.{IsThawed, Models, Reduces, Becomes, ModelsRest, SatisfiesBut, Collects, IsResolved, Adds, Saves, Drops}
+use Rattle.varisat_database.specs.Databases.{DatabaseState, pushed, removed, saved, clause_at, IsLive}
+use Rattle.varisat_rules.specs.inside.States.{IsThawed, Models, DerivesFrom, IsLaterState, ModelsRest, SatisfiesBut, Collects, IsPairResolved, ResolvesPairs, SavesClauses, Drops}
 use Rattle.varisat_rules.proofs.StateLemmas.{becomes_self, becomes_then, pushed_live, pushed_keeps, pushed_new, removed_live, removed_keeps, removed_even, pushed_even, satisfies_same, push_resolvent}
-use Rattle.varisat_rules.proofs.ExtendLemmas.{extended_more, made_true, stays_true, amended_cases, amended_length}
+use Rattle.varisat_rules.proofs.ExtendLemmas.{extended_more, amended_cases, amended_length}
 
 -- what has a literal, in a clause that is equal
 in_same : (l : Literal) (c d : Clause) → c ≡ d → l ∈ c → l ∈ d
 in_same l c d e h = subst (λ x. l ∈ x) e h
 
 -- A clause without the literal and its opposite is added.
-collects_pushed : (s : State) (e : Clause) (l : Literal) (w : List ℕ) → (l ∈ e → ⊥) → Collects s l w → Collects (pushed s e) l w
+collects_pushed : (s : DatabaseState) (e : Clause) (l : Literal) (w : List ℕ) → (l ∈ e → ⊥) → Collects s l w → Collects (pushed s e) l w
 collects_pushed s e l w n c = record {
   even = pushed_even s e c.even;
   all = λ k live h. ⊎_elim
@@ -31,7 +33,7 @@ collects_pushed s e l w n c = record {
   without = λ k h o. c.without k h (in_same (opposite l) (clause_at (pushed s e) k) (clause_at s k) (pushed_keeps s e k c.even (c.live k h)).1 o);
 }
 
-rest_pushed : (s : State) (e : Clause) (l : Literal) (a : Assignment) → length s.live ≡ length s.clauses → ModelsRest l a (pushed s e) → ModelsRest l a s
+rest_pushed : (s : DatabaseState) (e : Clause) (l : Literal) (a : Assignment) → length s.live ≡ length s.clauses → ModelsRest l a (pushed s e) → ModelsRest l a s
 rest_pushed s e l a even m k live n o =
     let g = pushed_keeps s e k even live in
     satisfies_same a (clause_at s k) (clause_at (pushed s e) k) (sym g.1)
@@ -40,15 +42,15 @@ rest_pushed s e l a even m k live n o =
 but_same : (l : Literal) (a : Assignment) (c d : Clause) → c ≡ d → SatisfiesBut l a c → SatisfiesBut l a d
 but_same l a c d e h = subst (λ x. SatisfiesBut l a x) e h
 
-resolved_pushed : (s : State) (e : Clause) (l : Literal) (i j : ℕ) → length s.live ≡ length s.clauses → IsLive s i → IsLive s j → IsResolved s l i j →
-    IsResolved (pushed s e) l i j
+resolved_pushed : (s : DatabaseState) (e : Clause) (l : Literal) (i j : ℕ) → length s.live ≡ length s.clauses → IsLive s i → IsLive s j → IsPairResolved s l i j →
+    IsPairResolved (pushed s e) l i j
 resolved_pushed s e l i j even li lj r a m =
     ⊎_elim
     (λ h. inl (but_same l a (clause_at s i) (clause_at (pushed s e) i) (sym (pushed_keeps s e i even li).1) h))
     (λ h. inr (but_same (opposite l) a (clause_at s j) (clause_at (pushed s e) j) (sym (pushed_keeps s e j even lj).1) h))
     (r a (rest_pushed s e l a even m))
 
-pub adds_first : (s : State) (l : Literal) (w g : List ℕ) → Collects s l w → Collects s (opposite l) g → Adds s s l w g 0 0
+pub adds_first : (s : DatabaseState) (l : Literal) (w g : List ℕ) → Collects s l w → Collects s (opposite l) g → ResolvesPairs s s l w g 0 0
 adds_first s l w g c d = record {
   becomes = becomes_self s;
   ones = c;
@@ -62,14 +64,14 @@ adds_first s l w g c d = record {
     no_first i (x ∷ xs) h = h
 
 -- the next row begins
-pub adds_row : (s t : State) (l : Literal) (w g : List ℕ) (x y : ℕ) → length g ≤ y → Adds s t l w g x y → Adds s t l w g (x + 1) 0
+pub adds_row : (s t : DatabaseState) (l : Literal) (w g : List ℕ) (x y : ℕ) → length g ≤ y → ResolvesPairs s t l w g x y → ResolvesPairs s t l w g (x + 1) 0
 adds_row s t l w g x y e r = record {
   becomes = r.becomes;
   ones = r.ones;
   others = r.others;
   done = λ i j h k. ⊎_elim
       (λ o. r.done i j o k)
-      (λ q. subst (λ n. IsResolved t l n j) (sym q) (r.begun j (∈-take_all j g y e k)))
+      (λ q. subst (λ n. IsPairResolved t l n j) (sym q) (r.begun j (∈-take_all j g y e k)))
       (∈-take_more i w x 0 h);
   begun = λ j h. absurd (no_first j g h);
 }
@@ -79,28 +81,28 @@ adds_row s t l w g x y e r = record {
     no_first i (x ∷ xs) h = h
 
 -- the two clauses clash in another literal, so their resolvent is a tautology
-pub adds_skip : (s t : State) (l : Literal) (w g : List ℕ) (x y : ℕ) (n : Literal) → n ∈ clause_at t (get_or w x 0) → (n ≡ l → ⊥) →
-    opposite n ∈ clause_at t (get_or g y 0) → Adds s t l w g x y → Adds s t l w g x (y + 1)
+pub adds_skip : (s t : DatabaseState) (l : Literal) (w g : List ℕ) (x y : ℕ) (n : Literal) → n ∈ clause_at t (get_or w x 0) → (n ≡ l → ⊥) →
+    opposite n ∈ clause_at t (get_or g y 0) → ResolvesPairs s t l w g x y → ResolvesPairs s t l w g x (y + 1)
 adds_skip s t l w g x y n h d o r = record {
   becomes = r.becomes;
   ones = r.ones;
   others = r.others;
   done = r.done;
-  begun = λ j k. ⊎_elim (r.begun j) (λ q. subst (λ i. IsResolved t l (get_or w x 0) i) (sym q) here) (∈-take_more j g y 0 k);
+  begun = λ j k. ⊎_elim (r.begun j) (λ q. subst (λ i. IsPairResolved t l (get_or w x 0) i) (sym q) here) (∈-take_more j g y 0 k);
 }
   where
-    here : IsResolved t l (get_or w x 0) (get_or g y 0)
+    here : IsPairResolved t l (get_or w x 0) (get_or g y 0)
     here a m = ⊎_elim
         (λ v. inl (n, h, d, v))
         (λ v. inr (opposite n, o, (λ q. d (sym (opposite_twice n) ∙ ap opposite q ∙ opposite_twice l)), v))
         (true_or_opposite a n)
 
 -- the resolvent is added
-pub adds_push : (s t : State) (l : Literal) (w g : List ℕ) (x y : ℕ) (e : Clause) → x < length w → y < length g →
+pub adds_push : (s t : DatabaseState) (l : Literal) (w g : List ℕ) (x y : ℕ) (e : Clause) → x < length w → y < length g →
     ((m : Literal) → m ∈ e → ((m ∈ clause_at t (get_or w x 0)) × (m ≡ l → ⊥)) ⊎ ((m ∈ clause_at t (get_or g y 0)) × (m ≡ opposite l → ⊥))) →
     ((m : Literal) → m ∈ clause_at t (get_or w x 0) → (m ≡ l) ⊎ (m ∈ e)) →
     ((m : Literal) → m ∈ clause_at t (get_or g y 0) → (m ≡ opposite l) ⊎ (m ∈ e)) →
-    Adds s t l w g x y → Adds s (pushed t e) l w g x (y + 1)
+    ResolvesPairs s t l w g x y → ResolvesPairs s (pushed t e) l w g x (y + 1)
 adds_push s t l w g x y e hx hy from left right r = record {
   becomes = becomes_then s t (pushed t e) r.becomes
       (push_resolvent t i j l e li lj (r.ones.with i iw) left right (λ m h. ⊎_elim (λ p. inl p.0) (λ p. inr p.0) (from m h)));
@@ -109,7 +111,7 @@ adds_push s t l w g x y e hx hy from left right r = record {
   done = λ p q h k. resolved_pushed t e l p q even (r.ones.live p (taken p w x h)) (r.others.live q k) (r.done p q h k);
   begun = λ q h. ⊎_elim
       (λ o. resolved_pushed t e l i q even li (r.others.live q (taken q g y o)) (r.begun q o))
-      (λ k. subst (λ n. IsResolved (pushed t e) l i n) (sym k) here)
+      (λ k. subst (λ n. IsPairResolved (pushed t e) l i n) (sym k) here)
       (∈-take_more q g y 0 h);
 }
   where
@@ -153,7 +155,7 @@ adds_push s t l w g x y e hx hy from left right r = record {
     no_o : opposite l ∈ e → ⊥
     no_o h = ⊎_elim (λ p. r.ones.without i iw p.0) (λ p. p.1 refl) (from (opposite l) h)
 
-    here : IsResolved (pushed t e) l i j
+    here : IsPairResolved (pushed t e) l i j
     here a m =
         let new = pushed_new t e even in
         let sat = satisfies_same a e (clause_at (pushed t e) (length t.clauses)) (sym new.1)
@@ -166,7 +168,7 @@ adds_push s t l w g x y e hx hy from left right r = record {
         (from sat.0 sat.1)
 
 -- all pairs are done
-pub saves_first : (s t : State) (l : Literal) (w g : List ℕ) (x : ℕ) → length w ≤ x → Adds s t l w g x 0 → Saves t t l w g 0
+pub saves_first : (s t : DatabaseState) (l : Literal) (w g : List ℕ) (x : ℕ) → length w ≤ x → ResolvesPairs s t l w g x 0 → SavesClauses t t l w g 0
 saves_first s t l w g x h r = record {
   becomes = becomes_self t;
   others = r.others;
@@ -177,9 +179,9 @@ saves_first s t l w g x h r = record {
 }
 
 -- A clause with the literal is saved and removed.
-pub save_reduces : (P : List Clause) (s : State) (l : Literal) (e : Clause) (i : ℕ) (g : List ℕ) → l / 2 < s.var_count → l ∈ clause_at s i →
+pub save_reduces : (P : List Clause) (s : DatabaseState) (l : Literal) (e : Clause) (i : ℕ) (g : List ℕ) → l / 2 < s.var_count → l ∈ clause_at s i →
     ((m : Literal) → m ∈ e → m ∈ clause_at s i) → ((m : Literal) → m ∈ clause_at s i → (m ≡ l) ⊎ (m ∈ e)) → Collects s (opposite l) g →
-    ((j : ℕ) → j ∈ g → IsResolved s l i j) → IsThawed s l → Reduces P s → Reduces P (removed (saved s (l ∷ e)) i)
+    ((j : ℕ) → j ∈ g → IsPairResolved s l i j) → IsThawed s l → DerivesFrom P s → DerivesFrom P (removed (saved s (l ∷ e)) i)
 save_reduces P s l e i g small hl part whole others pairs thaw r = record {
   even = removed_even s i r.even;
   keeps = λ a h k live. r.keeps a h k (removed_live s i k live).0;
@@ -209,14 +211,14 @@ save_reduces P s l e i g small hl part whole others pairs thaw r = record {
 
         after : (Satisfies (assignment_of vs) (l ∷ e) → ⊥) → Satisfies (assignment_of (with_true l vs)) (clause_at s k)
         after u = ⊎_elim
-            (λ h. (l, h, made_true vs l room))
+            (λ h. (l, h, made-true vs l room))
             (λ d. ⊎_elim
             (λ o. ⊎_elim
             (λ b. absurd (u (b.0, ⊎_elim (λ q. absurd (b.2 q)) inr (whole b.0 b.1), b.3)))
-            (λ b. (b.0, b.1, stays_true vs l b.0 room b.2 b.3))
+            (λ b. (b.0, b.1, stays-true vs l b.0 room b.2 b.3))
             (pairs k (others.all k live o) (assignment_of vs) rest))
             (λ o. let b = m k (removed_keeps s i k live (other d)) in
-            (b.0, b.1, stays_true vs l b.0 room (λ q. o (subst (λ x. x ∈ clause_at s k) q b.1)) b.2))
+            (b.0, b.1, stays-true vs l b.0 room (λ q. o (subst (λ x. x ∈ clause_at s k) q b.1)) b.2))
             (∈-or_not (opposite l) (clause_at s k)))
             (∈-or_not l (clause_at s k))
           where
@@ -226,7 +228,7 @@ save_reduces P s l e i g small hl part whole others pairs thaw r = record {
             rest : ModelsRest l (assignment_of vs) s
             rest p alive a b = m p (removed_keeps s i p alive (other a))
 
-collects_removed : (s : State) (e : Clause) (l : Literal) (g : List ℕ) (i : ℕ) → (i ∈ g → ⊥) → Collects s l g → Collects (removed (saved s e) i) l g
+collects_removed : (s : DatabaseState) (e : Clause) (l : Literal) (g : List ℕ) (i : ℕ) → (i ∈ g → ⊥) → Collects s l g → Collects (removed (saved s e) i) l g
 collects_removed s e l g i n c = record {
   even = removed_even s i c.even;
   all = λ k live h. c.all k (removed_live s i k live).0 h;
@@ -235,9 +237,9 @@ collects_removed s e l g i n c = record {
   without = c.without;
 }
 
-pub saves_next : (s t : State) (l : Literal) (w g : List ℕ) (x : ℕ) (e : Clause) → x < length w → l / 2 < t.var_count → IsThawed t l →
+pub saves_next : (s t : DatabaseState) (l : Literal) (w g : List ℕ) (x : ℕ) (e : Clause) → x < length w → l / 2 < t.var_count → IsThawed t l →
     ((m : Literal) → m ∈ e → m ∈ clause_at t (get_or w x 0)) → ((m : Literal) → m ∈ clause_at t (get_or w x 0) → (m ≡ l) ⊎ (m ∈ e)) →
-    Saves s t l w g x → Saves s (removed (saved t (l ∷ e)) (get_or w x 0)) l w g (x + 1)
+    SavesClauses s t l w g x → SavesClauses s (removed (saved t (l ∷ e)) (get_or w x 0)) l w g (x + 1)
 saves_next s t l w g x e h small thaw part whole r = record {
   becomes = becomes_then s t (removed (saved t (l ∷ e)) i) r.becomes (record {
     more = ([], sym (append-nil t.clauses));
@@ -264,10 +266,10 @@ saves_next s t l w g x e h small thaw part whole r = record {
     after : (y : ℕ) → x ≤ y → (y ≡ x → ⊥) → x + 1 ≤ y
     after y a n = ⊎_elim (λ q. absurd (n q)) (λ d. omega (arith, a, d)) (equal_or_not y x)
 
-pub saves_end : (s t : State) (l : Literal) (w g : List ℕ) (x : ℕ) → length w ≤ x → Saves s t l w g x → (k : ℕ) → IsLive t k → l ∈ clause_at t k → ⊥
+pub saves_end : (s t : DatabaseState) (l : Literal) (w g : List ℕ) (x : ℕ) → length w ≤ x → SavesClauses s t l w g x → (k : ℕ) → IsLive t k → l ∈ clause_at t k → ⊥
 saves_end s t l w g x h r k live c = let p = r.ones k live c in let a = p.1 in let b = p.2 in omega (arith, a, b, h)
 
-pub drops_first : (s : State) (m : Literal) → Drops s (saved s (m ∷ [])) m
+pub drops_first : (s : DatabaseState) (m : Literal) → Drops s (saved s (m ∷ [])) m
 drops_first s m = record {
   count = refl;
   frozen = refl;
@@ -279,7 +281,7 @@ drops_first s m = record {
   tells = λ P q. (q.leads, q.spoken);
 }
 
-pub drops_next : (s t : State) (m : Literal) (i : ℕ) → m ∈ clause_at s i → Drops s t m → Drops s (removed t i) m
+pub drops_next : (s t : DatabaseState) (m : Literal) (i : ℕ) → m ∈ clause_at s i → Drops s t m → Drops s (removed t i) m
 drops_next s t m i h r = record {
   count = r.count;
   frozen = r.frozen;
@@ -300,13 +302,13 @@ drops_next s t m i h r = record {
     length-set (y ∷ xs) zero x = refl
     length-set (y ∷ xs) (suc i) x = ap suc (length-set xs i x)
 
-pub drops_end : (s t : State) (m : Literal) → m / 2 < s.var_count → IsThawed s m → ((k : ℕ) → IsLive s k → opposite m ∈ clause_at s k → ⊥) → Drops s t m → Becomes s t
+pub drops_end : (s t : DatabaseState) (m : Literal) → m / 2 < s.var_count → IsThawed s m → ((k : ℕ) → IsLive s k → opposite m ∈ clause_at s k → ⊥) → Drops s t m → IsLaterState s t
 drops_end s t m small thaw pure r = record { more = ([], r.same ∙ sym (append-nil s.clauses)); count = r.count; frozen = r.frozen; reduces = λ P q. reduces P q }
   where
     at : (k : ℕ) → clause_at t k ≡ clause_at s k
     at k = ap (λ (cs : List Clause). get_or cs k []) r.same
 
-    reduces : (P : List Clause) → Reduces P s → Reduces P t
+    reduces : (P : List Clause) → DerivesFrom P s → DerivesFrom P t
     reduces P q = record {
       even = r.even ∙ q.even ∙ ap length (sym r.same);
       keeps = λ a h k live. satisfies_same a (clause_at t k) (clause_at s k) (at k) (q.keeps a h k (r.fewer k live));
@@ -341,6 +343,6 @@ drops_end s t m small thaw pure r = record { more = ([], r.same ∙ sym (append-
 
             after : Satisfies (assignment_of (with_true m vs)) (clause_at s k)
             after = ⊎_elim
-                (λ i. (m, i, made_true vs m room))
-                (λ d. let v = old d in (v.0, v.1, stays_true vs m v.0 room (λ e. pure k live (subst (λ x. x ∈ clause_at s k) e v.1)) v.2))
+                (λ i. (m, i, made-true vs m room))
+                (λ d. let v = old d in (v.0, v.1, stays-true vs m v.0 room (λ e. pure k live (subst (λ x. x ∈ clause_at s k) e v.1)) v.2))
                 (∈-or_not m (clause_at s k))

@@ -5,7 +5,7 @@ use Rattle.varisat_theory.specs.promises.Membership.{◌∈◌, ◌⊆◌}
 use Rattle.varisat_theory.specs.promises.Literals.{Literal, Clause, opposite}
 use Rattle.varisat_theory.proofs.clauses.Members.{∈-append_left, ∈-append_right, ∈-append_cases}
 use Rattle.varisat_theory.proofs.clauses.Places.{∈-get_or, ∈-take_more, ∈-take_all}
-use Rattle.varisat_theory.proofs.clauses.Values.{parity}
+use Rattle.varisat_theory.proofs.clauses.Values.{same_or_opposite}
 use Rattle.varisat_rules.specs.inside.Resolving.{LeavesOut, Resolves, Clashes}
 use Rattle.varisat_rules.specs.promises.Stacks.{amended, extended}
 
@@ -45,19 +45,14 @@ taken_last {X = X} xs n d h = subst (λ k. get_or xs n d ∈ take k xs) one (go 
     go (y ∷ ys) zero m = inl refl
     go (y ∷ ys) (suc k) m = inr (go ys k (omega arith))
 
-same_or_opposite : (m l : ℕ) → m / 2 ≡ l / 2 → (m ≡ l → ⊥) → opposite l ≡ m
-unfolding opposite
-same_or_opposite m l e n =
-    ⊎_elim
-    (λ p. ⊎_elim (λ q. absurd (n (omega (arith, p, q, e)))) (λ q. omega (arith, p, q, e)) (parity l))
-    (λ p. ⊎_elim (λ q. omega (arith, p, q, e)) (λ q. absurd (n (omega (arith, p, q, e)))) (parity l))
-    (parity m)
+opposite_else : (m l : ℕ) → m / 2 ≡ l / 2 → (m ≡ l → ⊥) → opposite l ≡ m
+opposite_else m l e n = ⊎_elim (λ q. absurd (n q)) (λ q. sym q) (same_or_opposite m l e)
 
 pub found_same : (c : Clause) (i l m : ℕ) → i < length c → m ≡ get_or c i 0 → m ≡ l → l ∈ c
 found_same c i l m h e f = subst (λ x. x ∈ c) (sym e ∙ f) (∈-get_or c i 0 h)
 
 pub found_opposite : (c : Clause) (i l m : ℕ) → i < length c → m ≡ get_or c i 0 → m / 2 ≡ l / 2 → (m ≡ l → ⊥) → opposite l ∈ c
-found_opposite c i l m h e f n = subst (λ x. x ∈ c) (sym e ∙ sym (same_or_opposite m l f n)) (∈-get_or c i 0 h)
+found_opposite c i l m h e f n = subst (λ x. x ∈ c) (sym e ∙ sym (opposite_else m l f n)) (∈-get_or c i 0 h)
 
 pub unseen_more : (c : Clause) (i l m : ℕ) → m ≡ get_or c i 0 → (m ≡ l → ⊥) → (l ∈ take i c → ⊥) → l ∈ take (i + 1) c → ⊥
 unseen_more c i l m e n f h = ⊎_elim f (λ q. n (e ∙ sym q)) (∈-take_more l c i 0 h)

@@ -1,22 +1,24 @@
 -- What pushing and removing make of a state.
 use Rattle.std.proofs.Common.{◌≡◌, ℕ, zero, suc, ◌+◌, ◌<◌, ◌≤◌, Bool, true, false, List, [], ◌∷◌, ◌++◌, ◌⊎◌, inl, inr, ⊎_elim, sym, ap, ◌∙◌, subst, refl, length, get_or, set, append-nil, arith}
-use Rattle.std.proofs.lemmas.List.{get_or_append_left, length-append, append_assoc}
+use Rattle.std.proofs.lemmas.List.{get_or_append_left, length-append, append_assoc, length-set}
 use Rattle.varisat_theory.specs.promises.Membership.{◌∈◌, ◌⊆◌}
 use Rattle.varisat_theory.specs.promises.Literals.{Literal, Clause, Assignment, opposite, value, Satisfies}
 use Rattle.varisat_theory.specs.promises.Propagation.{FalseClause, Propagate, Follows}
 use Rattle.varisat_theory.specs.promises.Derivations.{Add}
 use Rattle.varisat_theory.proofs.clauses.Members.{equal_or_not}
 use Rattle.varisat_theory.proofs.clauses.Values.{∈-opposites, opposite_twice, not_both}
-use Rattle.varisat_rules.specs.promises.Stacks.{assignment_of}
-use Rattle.varisat_database.specs.Databases.{State, pushed, removed, clause_at, IsLive}
-use Rattle.varisat_rules.specs.inside.States.{live_clauses, Models, Reduces, Becomes}
+use Rattle.varisat_theory.proofs.clauses.Assigned.{same_set_satisfied}
+use Rattle.varisat_formula.specs.promises.Values.{assignment_of}
+use Rattle.varisat_database.specs.Databases.{DatabaseState, pushed, removed, clause_at, IsLive}
+use Rattle.varisat_database.proofs.ListLemmas.{get_or-pushed}
+use Rattle.varisat_rules.specs.inside.States.{live_clauses, Models, DerivesFrom, IsLaterState}
 use Rattle.varisat_rules.specs.promises.Leading.{LeadsTo, IsNamedBy}
 use Rattle.varisat_rules.proofs.LeadingLemmas.{flagged_pushed, flagged_has, leads_add, leads_removed, told_add, told_removed, named_more, named_at}
 
-pub becomes_self : (s : State) → Becomes s s
+pub becomes_self : (s : DatabaseState) → IsLaterState s s
 becomes_self s = record { more = ([], sym (append-nil s.clauses)); count = refl; frozen = refl; reduces = λ P r. r }
 
-pub becomes_then : (s t u : State) → Becomes s t → Becomes t u → Becomes s u
+pub becomes_then : (s t u : DatabaseState) → IsLaterState s t → IsLaterState t u → IsLaterState s u
 becomes_then s t u b d = record {
   more = (
     b.more.0 ++ d.more.0,
@@ -27,25 +29,13 @@ becomes_then s t u b d = record {
   reduces = λ P r. d.reduces P (b.reduces P r);
 }
 
--- what is read from a list with one more at its end
-get_or-pushed : {X : Type 0} (xs : List X) (x d : X) (k : ℕ) → ((k < length xs) × (get_or (xs ++ x ∷ []) k d ≡ get_or xs k d))
-    ⊎ (((k ≡ length xs) × (get_or (xs ++ x ∷ []) k d ≡ x)) ⊎ ((length xs < k) × (get_or (xs ++ x ∷ []) k d ≡ d)))
-get_or-pushed [] x d zero = inr (inl (refl, refl))
-get_or-pushed [] x d (suc k) = inr (inr (omega arith, refl))
-get_or-pushed (y ∷ xs) x d zero = inl (omega arith, refl)
-get_or-pushed (y ∷ xs) x d (suc k) =
-    ⊎_elim
-    (λ h. inl (let p = h.0 in omega (arith, p), h.1))
-    (λ h. inr (⊎_elim (λ e. inl (ap suc e.0, e.1)) (λ g. inr (let p = g.0 in omega (arith, p), g.1)) h))
-    (get_or-pushed xs x d k)
-
 get_or-beyond : {X : Type 0} (xs : List X) (d : X) (k : ℕ) → length xs ≤ k → get_or xs k d ≡ d
 get_or-beyond [] d k h = refl
 get_or-beyond (x ∷ xs) d zero h = absurd (omega arith)
 get_or-beyond (x ∷ xs) d (suc k) h = get_or-beyond xs d k (omega arith)
 
 -- a live place is one of a clause
-pub live_below : (s : State) (k : ℕ) → IsLive s k → k < length s.live
+pub live_below : (s : DatabaseState) (k : ℕ) → IsLive s k → k < length s.live
 live_below s k e = go s.live k e
   where
     go : (xs : List Bool) (k : ℕ) → get_or xs k false ≡ true → k < length xs
@@ -54,7 +44,7 @@ live_below s k e = go s.live k e
     go (x ∷ xs) (suc k) e = let h = go xs k e in omega (arith, h)
 
 -- a live place after a push is an old one, with its clause, or the new one
-pub pushed_live : (s : State) (c : Clause) (k : ℕ) → length s.live ≡ length s.clauses → IsLive (pushed s c) k →
+pub pushed_live : (s : DatabaseState) (c : Clause) (k : ℕ) → length s.live ≡ length s.clauses → IsLive (pushed s c) k →
     (IsLive s k × (clause_at (pushed s c) k ≡ clause_at s k)) ⊎ ((k ≡ length s.clauses) × (clause_at (pushed s c) k ≡ c))
 pushed_live s c k even e =
     ⊎_elim
@@ -69,14 +59,14 @@ pushed_live s c k even e =
         (get_or-pushed s.clauses c [] k)
 
 -- an old live place stays live, with its clause
-pub pushed_keeps : (s : State) (c : Clause) (k : ℕ) → length s.live ≡ length s.clauses → IsLive s k →
+pub pushed_keeps : (s : DatabaseState) (c : Clause) (k : ℕ) → length s.live ≡ length s.clauses → IsLive s k →
     IsLive (pushed s c) k × (clause_at (pushed s c) k ≡ clause_at s k)
 pushed_keeps s c k even e =
     let h = live_below s k e in
     (get_or_append_left s.live (true ∷ []) false k h ∙ e, get_or_append_left s.clauses (c ∷ []) [] k (omega (arith, h, even)))
 
 -- the new place is live
-pub pushed_new : (s : State) (c : Clause) → length s.live ≡ length s.clauses →
+pub pushed_new : (s : DatabaseState) (c : Clause) → length s.live ≡ length s.clauses →
     IsLive (pushed s c) (length s.clauses) × (clause_at (pushed s c) (length s.clauses) ≡ c)
 pushed_new s c even = (
   ⊎_elim
@@ -90,7 +80,7 @@ pushed_new s c even = (
 )
 
 -- a live place after a removal was live, and is another
-pub removed_live : (s : State) (i k : ℕ) → IsLive (removed s i) k → IsLive s k × (k ≡ i → ⊥)
+pub removed_live : (s : DatabaseState) (i k : ℕ) → IsLive (removed s i) k → IsLive s k × (k ≡ i → ⊥)
 removed_live s i k e = go s.live i k e
   where
     go : (xs : List Bool) (i k : ℕ) → get_or (set xs i false) k false ≡ true → (get_or xs k false ≡ true) × (k ≡ i → ⊥)
@@ -101,7 +91,7 @@ removed_live s i k e = go s.live i k e
     go (x ∷ xs) (suc i) (suc k) e = let r = go xs i k e in (r.0, λ q. r.1 (omega (arith, q)))
 
 -- another live place stays live
-pub removed_keeps : (s : State) (i k : ℕ) → IsLive s k → (k ≡ i → ⊥) → IsLive (removed s i) k
+pub removed_keeps : (s : DatabaseState) (i k : ℕ) → IsLive s k → (k ≡ i → ⊥) → IsLive (removed s i) k
 removed_keeps s i k e n = go s.live i k e n
   where
     go : (xs : List Bool) (i k : ℕ) → get_or xs k false ≡ true → (k ≡ i → ⊥) → get_or (set xs i false) k false ≡ true
@@ -111,30 +101,22 @@ removed_keeps s i k e n = go s.live i k e n
     go (x ∷ xs) (suc i) zero e n = e
     go (x ∷ xs) (suc i) (suc k) e n = go xs i k e (λ q. n (ap suc q))
 
-length-set : {X : Type 0} (xs : List X) (i : ℕ) (x : X) → length (set xs i x) ≡ length xs
-length-set [] i x = refl
-length-set (y ∷ xs) zero x = refl
-length-set (y ∷ xs) (suc i) x = ap suc (length-set xs i x)
-
-pub removed_even : (s : State) (i : ℕ) → length s.live ≡ length s.clauses → length (removed s i).live ≡ length (removed s i).clauses
+pub removed_even : (s : DatabaseState) (i : ℕ) → length s.live ≡ length s.clauses → length (removed s i).live ≡ length (removed s i).clauses
 removed_even s i e = length-set s.live i false ∙ e
 
-pub pushed_even : (s : State) (c : Clause) → length s.live ≡ length s.clauses → length (pushed s c).live ≡ length (pushed s c).clauses
+pub pushed_even : (s : DatabaseState) (c : Clause) → length s.live ≡ length s.clauses → length (pushed s c).live ≡ length (pushed s c).clauses
 pushed_even s c e = length-append s.live (true ∷ []) ∙ ap (λ n. n + 1) e ∙ sym (length-append s.clauses (c ∷ []))
-
-pub satisfies_more : (a : Assignment) (c d : Clause) → c ⊆ d → Satisfies a c → Satisfies a d
-satisfies_more a c d h s = (s.0, h s.0 s.1, s.2)
 
 pub satisfies_same : (a : Assignment) (c d : Clause) → c ≡ d → Satisfies a d → Satisfies a c
 satisfies_same a c d e s = subst (λ x. Satisfies a x) (sym e) s
 
 -- one more live clause
-pub live_pushed : (s : State) (c : Clause) → length s.live ≡ length s.clauses → live_clauses (pushed s c) ≡ live_clauses s ++ c ∷ []
+pub live_pushed : (s : DatabaseState) (c : Clause) → length s.live ≡ length s.clauses → live_clauses (pushed s c) ≡ live_clauses s ++ c ∷ []
 live_pushed s c e = flagged_pushed s.live s.clauses true c e
 
 -- one more clause, which follows from what is live
-pub push_reduces : (P : List Clause) (s : State) (c : Clause) → ((a : Assignment) → Models a s → Satisfies a c) →
-    Follows (live_clauses s) c → ((l : Literal) → l ∈ c → IsNamedBy P l) → Reduces P s → Reduces P (pushed s c)
+pub push_reduces : (P : List Clause) (s : DatabaseState) (c : Clause) → ((a : Assignment) → Models a s → Satisfies a c) →
+    Follows (live_clauses s) c → ((l : Literal) → l ∈ c → IsNamedBy P l) → DerivesFrom P s → DerivesFrom P (pushed s c)
 push_reduces P s c entails f named r = record {
   even = pushed_even s c r.even;
   keeps = λ a h k e. ⊎_elim
@@ -151,13 +133,13 @@ push_reduces P s c entails f named r = record {
 }
 
 -- a live clause goes of which another live one is a part
-pub remove_reduces : (P : List Clause) (s : State) (i j : ℕ) → IsLive s j → (j ≡ i → ⊥) → clause_at s j ⊆ clause_at s i → Reduces P s →
-    Reduces P (removed s i)
+pub remove_reduces : (P : List Clause) (s : DatabaseState) (i j : ℕ) → IsLive s j → (j ≡ i → ⊥) → clause_at s j ⊆ clause_at s i → DerivesFrom P s →
+    DerivesFrom P (removed s i)
 remove_reduces P s i j live n part r = record {
   even = removed_even s i r.even;
   keeps = λ a h k e. r.keeps a h k (removed_live s i k e).0;
   extends = λ vs b m. r.extends vs b (λ k e. ⊎_elim
-      (λ q. satisfies_more (assignment_of vs) (clause_at s j) (clause_at s k) (λ l h. subst (λ x. l ∈ clause_at s x) (sym q) (part l h)) (m j (removed_keeps s i j live n)))
+      (λ q. same_set_satisfied (assignment_of vs) (clause_at s j) (clause_at s k) (λ l h. subst (λ x. l ∈ clause_at s x) (sym q) (part l h)) (m j (removed_keeps s i j live n)))
       (λ d. m k (removed_keeps s i k e d))
       (equal_or_not k i));
   leads = leads_removed P s.lines s.live s.clauses i r.even r.leads;
@@ -186,13 +168,13 @@ resolvent_satisfied a c d e l left right sc sd =
     (left sc.0 sc.1)
 
 -- the clause at a live place is one of those that are live
-pub clause_held : (s : State) (k : ℕ) → length s.live ≡ length s.clauses → IsLive s k → clause_at s k ∈ live_clauses s
+pub clause_held : (s : DatabaseState) (k : ℕ) → length s.live ≡ length s.clauses → IsLive s k → clause_at s k ∈ live_clauses s
 clause_held s k even e = flagged_has s.live s.clauses k even e
 
 -- The resolvent of two live clauses is added.
-pub push_resolvent : (s : State) (i j : ℕ) (l : Literal) (e : Clause) → IsLive s i → IsLive s j → l ∈ clause_at s i →
+pub push_resolvent : (s : DatabaseState) (i j : ℕ) (l : Literal) (e : Clause) → IsLive s i → IsLive s j → l ∈ clause_at s i →
     ((m : Literal) → m ∈ clause_at s i → (m ≡ l) ⊎ (m ∈ e)) → ((m : Literal) → m ∈ clause_at s j → (m ≡ opposite l) ⊎ (m ∈ e)) →
-    ((m : Literal) → m ∈ e → (m ∈ clause_at s i) ⊎ (m ∈ clause_at s j)) → Becomes s (pushed s e)
+    ((m : Literal) → m ∈ e → (m ∈ clause_at s i) ⊎ (m ∈ clause_at s j)) → IsLaterState s (pushed s e)
 push_resolvent s i j l e li lj hl left right from = record {
   more = (e ∷ [], refl);
   count = refl;
@@ -205,9 +187,9 @@ push_resolvent s i j l e li lj hl left right from = record {
 }
 
 -- The clause at j takes a literal from the one at i: the shorter one is added, and the other goes.
-pub strengthened : (s : State) (j i : ℕ) (l : Literal) (e : Clause) → IsLive s j → IsLive s i → l ∈ clause_at s j →
+pub strengthened : (s : DatabaseState) (j i : ℕ) (l : Literal) (e : Clause) → IsLive s j → IsLive s i → l ∈ clause_at s j →
     ((m : Literal) → m ∈ clause_at s j → (m ≡ l) ⊎ (m ∈ e)) → ((m : Literal) → m ∈ clause_at s i → (m ≡ opposite l) ⊎ (m ∈ e)) → e ⊆ clause_at s i →
-    Becomes s (removed (pushed s e) i)
+    IsLaterState s (removed (pushed s e) i)
 strengthened s j i l e lj li hl left right part = record {
   more = (e ∷ [], refl);
   count = refl;

@@ -7,9 +7,9 @@ use Rattle.varisat_theory.specs.promises.Propagation.Conflicts.{FalseClause, Pro
 use Rattle.varisat_theory.proofs.clauses.Members.{∈-append_left, ∈-append_right, ∈-append_cases}
 use Rattle.varisat_theory.proofs.clauses.Places.{∈-take_more, ∈-take_all}
 use Rattle.varisat_theory.proofs.clauses.Values.{∈-opposites, not_both}
-use Rattle.varisat_database.specs.Databases.{State, pushed, removed, clause_at, IsLive}
-use Rattle.varisat_rules.specs.inside.States.{live_clauses, Models, Becomes}
-use Rattle.varisat_rules.specs.inside.Resolving.{IsFixed, LeavesOutFalse}
+use Rattle.varisat_database.specs.Databases.{DatabaseState, pushed, removed, clause_at, IsLive}
+use Rattle.varisat_rules.specs.inside.States.{live_clauses, Models, IsLaterState}
+use Rattle.varisat_rules.specs.inside.Resolving.{IsLiveUnit, LeavesOutFalse}
 use Rattle.varisat_rules.proofs.LeadingLemmas.{named_at}
 use Rattle.varisat_rules.proofs.ResolveLemmas.{none_taken, taken_before, taken_last}
 use Rattle.varisat_rules.proofs.StateLemmas.{push_reduces, remove_reduces, pushed_new, pushed_keeps, live_below, clause_held}
@@ -21,13 +21,13 @@ only_one (x ∷ []) l e (inl q) = ap (λ m. m ∷ []) (sym q)
 only_one (x ∷ []) l e (inr h) = absurd h
 only_one (x ∷ y ∷ c) l e h = absurd (omega (arith, e))
 
-pub false_none : (s : State) (c e : Clause) → e ≡ [] → LeavesOutFalse s (take 0 c) e
+pub false_none : (s : DatabaseState) (c e : Clause) → e ≡ [] → LeavesOutFalse s (take 0 c) e
 false_none s c e q = record {
   part = λ m h. absurd (subst (λ x. m ∈ x) q h);
   whole = λ m h. absurd (none_taken m c h);
 }
 
-pub false_kept : (s : State) (c e f : Clause) (i x : ℕ) → i < length c → x ≡ get_or c i 0 → f ≡ e ++ x ∷ [] →
+pub false_kept : (s : DatabaseState) (c e f : Clause) (i x : ℕ) → i < length c → x ≡ get_or c i 0 → f ≡ e ++ x ∷ [] →
     LeavesOutFalse s (take i c) e → LeavesOutFalse s (take (i + 1) c) f
 false_kept s c e f i x h q r w = record {
   part = λ m k. ⊎_elim
@@ -40,17 +40,17 @@ false_kept s c e f i x h q r w = record {
       (∈-take_more m c i 0 k);
 }
 
-pub false_dropped : (s : State) (c e f : Clause) (i x : ℕ) → x ≡ get_or c i 0 → IsFixed s (opposite x) → f ≡ e →
+pub false_dropped : (s : DatabaseState) (c e f : Clause) (i x : ℕ) → x ≡ get_or c i 0 → IsLiveUnit s (opposite x) → f ≡ e →
     LeavesOutFalse s (take i c) e → LeavesOutFalse s (take (i + 1) c) f
 false_dropped s c e f i x q d r w = subst (λ g. LeavesOutFalse s (take (i + 1) c) g) (sym r) (record {
   part = λ m k. taken_before m c i (w.part m k);
   whole = λ m k. ⊎_elim
       (w.whole m)
-      (λ p. inr (subst (λ y. IsFixed s (opposite y)) (q ∙ sym p) d))
+      (λ p. inr (subst (λ y. IsLiveUnit s (opposite y)) (q ∙ sym p) d))
       (∈-take_more m c i 0 k);
 })
 
-pub false_all : (s : State) (c e : Clause) (i : ℕ) → length c ≤ i → LeavesOutFalse s (take i c) e → LeavesOutFalse s c e
+pub false_all : (s : DatabaseState) (c e : Clause) (i : ℕ) → length c ≤ i → LeavesOutFalse s (take i c) e → LeavesOutFalse s c e
 false_all s c e i h w = record {
   part = λ m k. inside m c i (w.part m k);
   whole = λ m k. w.whole m (∈-take_all m c i h k);
@@ -64,12 +64,12 @@ false_all s c e i h w = record {
     inside m (y ∷ c) (suc n) (inr h) = inr (inside m c n h)
 
 -- What is left follows.
-left_follows : (s : State) (i : ℕ) (e : Clause) → length s.live ≡ length s.clauses → IsLive s i → LeavesOutFalse s (clause_at s i) e → Follows (live_clauses s) e
+left_follows : (s : DatabaseState) (i : ℕ) (e : Clause) → length s.live ≡ length s.clauses → IsLive s i → LeavesOutFalse s (clause_at s i) e → Follows (live_clauses s) e
 left_follows s i e even live w =
     go (clause_at s i) (opposites e) (λ m h. inr h) (λ m h. ⊎_elim (λ k. inl (∈-opposites m e k)) inr (w.whole m h))
   where
     go : (rest : Clause) (known : List Literal) → ((m : Literal) → m ∈ clause_at s i → (opposite m ∈ known) ⊎ (m ∈ rest)) →
-        ((m : Literal) → m ∈ rest → (opposite m ∈ known) ⊎ IsFixed s (opposite m)) → Conflicts (live_clauses s) known
+        ((m : Literal) → m ∈ rest → (opposite m ∈ known) ⊎ IsLiveUnit s (opposite m)) → Conflicts (live_clauses s) known
     go [] known h f = FalseClause (clause_at s i) (clause_held s i even live) (λ m k. ⊎_elim (λ a. a) (λ z. absurd z) (h m k))
     go (x ∷ rest) known h f = ⊎_elim
         (λ k. go rest known
@@ -83,7 +83,7 @@ left_follows s i e even live w =
         (f x (inl refl))
 
 -- What satisfies the live clauses satisfies it.
-left_satisfied : (a : Assignment) (s : State) (i : ℕ) (e : Clause) → IsLive s i → LeavesOutFalse s (clause_at s i) e → Models a s → Satisfies a e
+left_satisfied : (a : Assignment) (s : DatabaseState) (i : ℕ) (e : Clause) → IsLive s i → LeavesOutFalse s (clause_at s i) e → Models a s → Satisfies a e
 left_satisfied a s i e live w m =
     let t = m i live in
     ⊎_elim
@@ -93,8 +93,8 @@ left_satisfied a s i e live w m =
     (w.whole t.0 t.1)
 
 -- The clause at i gives way to what is left of it.
-pub shortened : (s t u : State) (i : ℕ) (c d e : Clause) → c ≡ clause_at s i → d ≡ e → t ≡ pushed s d → u ≡ removed t i → IsLive s i →
-    LeavesOutFalse s c e → Becomes s u
+pub shortened : (s t u : DatabaseState) (i : ℕ) (c d e : Clause) → c ≡ clause_at s i → d ≡ e → t ≡ pushed s d → u ≡ removed t i → IsLive s i →
+    LeavesOutFalse s c e → IsLaterState s u
 shortened s t u i c d e ec ed et eu live out =
     becomes_next s (removed (pushed s e) i) u
     (record {
@@ -111,7 +111,7 @@ shortened s t u i c d e ec ed et eu live out =
           (push_reduces P s e (λ a m. left_satisfied a s i e live w m) (left_follows s i e r.even live w)
           (λ m h. named_at P s.clauses i r.named m (w.part m h)) r);
     })
-    (eu ∙ ap (λ (x : State). removed x i) (et ∙ ap (λ (x : Clause). pushed s x) ed))
+    (eu ∙ ap (λ (x : DatabaseState). removed x i) (et ∙ ap (λ (x : Clause). pushed s x) ed))
   where
     w : LeavesOutFalse s (clause_at s i) e
     w = subst (λ (x : Clause). LeavesOutFalse s x e) ec out

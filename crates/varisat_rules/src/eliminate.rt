@@ -3,7 +3,7 @@ ghost use Rattle.std.specs.Prelude.{◌≡◌, ℕ, ◌/◌, ◌<◌, ◌≤◌,
 ghost use Rattle.varisat_theory.specs.promises.Membership.{◌∈◌};
 ghost use Rattle.varisat_theory.specs.promises.Literals.{opposite, variable_of};
 ghost use Rattle.varisat_database.specs.Databases.{IsLive, clause_at, removed, saved};
-ghost use Rattle.varisat_rules.specs.inside.States.{IsThawed, Becomes, Collects, Adds, Saves};
+ghost use Rattle.varisat_rules.specs.inside.States.{IsThawed, IsLaterState, Collects, ResolvesPairs, SavesClauses};
 
 use crate::resolve::{holds, resolve};
 use std::alloc::{AllocError, Allocator};
@@ -52,8 +52,8 @@ fn add_resolvents<A: Allocator + Copy>(
 ) -> Result<(), AllocError>
     requires with { Collects db.old lit with.now }
     requires against { Collects db.old (opposite lit) against.now }
-    ensures becomes { Becomes db.old db.new }
-    ensures adds { OnOk result (Adds db.old db.new lit with.now against.now (length with.now) 0) }
+    ensures becomes { IsLaterState db.old db.new }
+    ensures adds { OnOk result (ResolvesPairs db.old db.new lit with.now against.now (length with.now) 0) }
 {
     'rows: for one in with {
         'pairs: for other in against {
@@ -92,8 +92,8 @@ fn save_all<A: Allocator + Copy>(
 ) -> Result<(), AllocError>
     requires small { variable_of lit < db.old.var_count }
     requires thawed { IsThawed db.old lit }
-    requires saves { Saves db.old db.old lit with.now against.now 0 }
-    ensures becomes { OnOk result (Becomes db.old db.new) }
+    requires saves { SavesClauses db.old db.old lit with.now against.now 0 }
+    ensures becomes { OnOk result (IsLaterState db.old db.new) }
     ensures pure { OnOk result ((k : ℕ) → IsLive db.new k → lit ∈ clause_at db.new k → ⊥) }
     ensures rest { OnOk result (Collects db.new (opposite lit) against.now) }
 {
@@ -113,7 +113,7 @@ fn save_literal<A: Allocator + Copy>(
     requires thawed { IsThawed db.old lit }
     requires pure { (k : ℕ) → IsLive db.old k → opposite lit ∈ clause_at db.old k → ⊥ }
     requires with { (k : ℕ) → k ∈ places.now → lit ∈ clause_at db.old k }
-    ensures { OnOk result (Becomes db.old db.new) }
+    ensures { OnOk result (IsLaterState db.old db.new) }
 {
     db.save(&[lit])?;
     for place in places {
@@ -146,7 +146,7 @@ pub fn resolve_away<A: Allocator + Copy>(
     requires thawed { IsThawed db.old lit }
     requires with { Collects db.old lit with.now }
     requires against { Collects db.old (opposite lit) against.now }
-    ensures { OnOk result (Becomes db.old db.new) }
+    ensures { OnOk result (IsLaterState db.old db.new) }
 {
     add_resolvents(db, lit, with, against, literals)?;
     save_all(db, lit, with, against)?;

@@ -1,35 +1,11 @@
 //! How a model of what is left is extended.
 ghost use Rattle.std.specs.Prelude.{◌≡◌};
-ghost use Rattle.varisat_theory.specs.promises.Literals.{value};
-ghost use Rattle.varisat_rules.specs.promises.Stacks.{assignment_of, is_satisfied, amended, extended};
+ghost use Rattle.varisat_rules.specs.promises.Stacks.{amended, extended};
 
 use std::alloc::Allocator;
 use varisat_database::clauses::ClauseList;
+use varisat_formula::values::is_satisfied;
 use varisat_literals::Lit;
-
-/// Whether the literal is true. A variable out of range is false.
-#[tactic(auto, unfolding(varisat_theory::specs::promises::Literals::value))]
-fn is_true(values: &[bool], lit: Lit) -> bool
-    ensures { result ≡ value (assignment_of values.now) lit }
-{
-    let value = match values.get(lit.index()) {
-        Some(value) => *value,
-        None => false,
-    };
-    if lit.is_positive() { value } else { !value }
-}
-
-/// Whether a literal of the clause is true.
-fn is_satisfied(values: &[bool], clause: &[Lit]) -> bool
-    ensures { result ≡ is_satisfied values.now clause.now }
-{
-    for lit in clause {
-        if is_true(values, *lit) {
-            return true;
-        }
-    }
-    false
-}
 
 /// Makes the clause's first literal true unless the clause is satisfied.
 fn amend(values: &mut [bool], clause: &[Lit])

@@ -1,6 +1,6 @@
 //! What a clause makes of another one in a database.
 ghost use Rattle.std.specs.Prelude.{OnOk};
-ghost use Rattle.varisat_rules.specs.inside.States.{Becomes};
+ghost use Rattle.varisat_rules.specs.inside.States.{IsLaterState};
 ghost use Rattle.varisat_rules.specs.inside.Resolving.{Compares};
 
 use crate::resolve::{Relation, relation_of, without};
@@ -47,7 +47,7 @@ pub fn use_on<A: Allocator + Copy>(
     other: usize,
     scratch: &mut Vec<Lit, A>,
 ) -> Result<(), AllocError>
-    ensures { OnOk result (Becomes db.old db.new) }
+    ensures { OnOk result (IsLaterState db.old db.new) }
 {
     match compare(db, place, other) {
         Relation::Nothing => {}

@@ -1,8 +1,8 @@
 //! What clauses of one literal make of another one.
 ghost use Rattle.std.specs.Prelude.{◌≡◌, OnOk, IsTrue};
 ghost use Rattle.varisat_database.specs.Databases.{clause_at};
-ghost use Rattle.varisat_rules.specs.inside.States.{Becomes};
-ghost use Rattle.varisat_rules.specs.inside.Resolving.{IsFixed, LeavesOutFalse};
+ghost use Rattle.varisat_rules.specs.inside.States.{IsLaterState};
+ghost use Rattle.varisat_rules.specs.inside.Resolving.{IsLiveUnit, LeavesOutFalse};
 
 use crate::resolve::holds;
 use std::alloc::{AllocError, Allocator};
@@ -20,7 +20,7 @@ pub fn noted<A: Allocator + Copy>(units: &[u32], names: &ShortNames<A>, lit: Lit
 
 /// Whether a live clause has the literal alone, by the place that was noted.
 fn is_fixed<A: Allocator + Copy>(db: &Database<A>, units: &[u32], lit: Lit) -> bool
-    ensures { IsTrue result → IsFixed db.now lit }
+    ensures { IsTrue result → IsLiveUnit db.now lit }
 {
     let entry = noted(units, db.names(), lit);
     if entry == 0 {
@@ -62,7 +62,7 @@ pub fn shorten<A: Allocator + Copy>(
     units: &[u32],
     scratch: &mut Vec<Lit, A>,
 ) -> Result<(), AllocError>
-    ensures { OnOk result (Becomes db.old db.new) }
+    ensures { OnOk result (IsLaterState db.old db.new) }
 {
     if !db.is_live(place) {
         return Ok(());

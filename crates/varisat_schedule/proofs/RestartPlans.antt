@@ -154,7 +154,7 @@ pub restarts-at-points : (c : PlannedCall) (k : ℕ) → 0 < c.scale → IsPlan 
     IsDue (plan_after c.scale c.begins k) ↔ ((i : ℕ) × (c.begins.steps + k ≡ call_point (setting_of c) i))
 restarts-at-points c k h w l = (due-point c h w k l, point-due c h w k l)
 
-first-is : IsPlan first_plan
+pub first-is : IsPlan first_plan
 first-is = record { ahead = omega arith; small = omega arith; positive = omega arith; few = omega arith; fewer = omega arith }
 
 abbrev first_call : ℕ → PlannedCall

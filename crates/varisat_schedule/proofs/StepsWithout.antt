@@ -1,9 +1,10 @@
 -- Steps by a schedule where units leave the trail in between.
 use Rattle.std.proofs.Common.{◌≡◌, ℕ, zero, suc, pred, ◌+◌, ◌-◌, ◌^◌, ◌<◌, ◌≤◌, Bool, true, List, ◌∷◌, ◌++◌, length, replicate, sym, ap, ◌∙◌, subst, arith, append_assoc, pow_pos}
-use Rattle.std.proofs.lemmas.List.{length-append, length-replicate, replicate-append-replicate}
+use Rattle.std.proofs.lemmas.List.{length-replicate, replicate-append-replicate}
 use Rattle.varisat_theory.specs.inside.Rank.{rank, with_units}
 use Rattle.varisat_theory.specs.promises.CallBounds.{AreFew, CallSetting, CallProgress, HasRestarted, BeforeRestart, AfterRestart}
 use Rattle.varisat_theory.proofs.bounds.Ranks.{rank_grows}
+use Rattle.varisat_theory.proofs.bounds.RestartPoints.{length_with_units}
 use Rattle.varisat_schedule.specs.Plans.{Plan, IsPlan, next_plan, PlannedCall, setting_of}
 use Rattle.varisat_schedule.specs.CallSteps.{steps_since, IsPlannedStep, HasComeTo, HasComeWithout}
 use Rattle.varisat_schedule.proofs.CallSteps.{begins, is-short, goes-on}
@@ -19,9 +20,6 @@ one-unit q before after s = record {
 pub step-with-units : (u : ℕ) (q : Plan) (before after : List Bool) → IsPlannedStep q before after → IsPlannedStep q (with_units u before) (with_units u after)
 step-with-units zero q before after s = s
 step-with-units (suc u) q before after s = one-unit q (with_units u before) (with_units u after) (step-with-units u q before after s)
-
-pub length-with-units : (u : ℕ) (trail : List Bool) → length (with_units u trail) ≡ u + length trail
-length-with-units u trail = let a = length-append (replicate u true) trail in let b = length-replicate u true in omega (arith, a, b)
 
 more-restarted : (c : CallSetting) (t top next : ℕ) → top ≤ next → HasRestarted c t top → HasRestarted c t next
 more-restarted c t top next h m =
@@ -58,7 +56,7 @@ pub goes-on-without : (c : PlannedCall) (q : Plan) (units : ℕ) (before after :
     IsPlannedStep q before after → units + length after ≤ c.variables → HasComeWithout c q units before → HasComeWithout c (next_plan c.scale q) units after
 goes-on-without c q units before after h l s b r = record {
   come = goes-on c q (with_units units before) (with_units units after) h l
-      (let a = length-with-units units before in let k = r.short in omega (arith, a, k)) (step-with-units units q before after s) r.come;
+      (let a = length_with_units units before in let k = r.short in omega (arith, a, k)) (step-with-units units q before after s) r.come;
   short = b;
 }
 
@@ -89,4 +87,4 @@ units-may-leave c q units left stay r = record {
 pub is-short-without : (c : PlannedCall) (q : Plan) (units : ℕ) (trail : List Bool) (n : ℕ) → 0 < c.scale → c.variables ≤ n →
     HasComeWithout c q units trail → AreFew n (suc (steps_since c.begins q))
 is-short-without c q units trail n h v r =
-    is-short c q (with_units units trail) n h (let a = length-with-units units trail in let k = r.short in omega (arith, a, k)) v r.come
+    is-short c q (with_units units trail) n h (let a = length_with_units units trail in let k = r.short in omega (arith, a, k)) v r.come

@@ -3,7 +3,7 @@ use Rattle.std.specs.Prelude.{◌≡◌, ◌≢◌, ℕ, ◌<◌, ◌≤◌, ◌
 use Rattle.varisat_theory.specs.promises.Membership.{◌∈◌, ◌⊆◌}
 use Rattle.varisat_theory.specs.promises.Literals.{Literal, Clause, Assignment, variable_of, SatisfiesAll, MakesTrue}
 use Rattle.varisat_theory.specs.promises.Searches.{Search, Fits}
-use Rattle.varisat_theory.specs.inside.Outcomes.{Outcome, Sat, UnsatUnder}
+use Rattle.varisat_theory.specs.inside.Outcomes.{SearchOutcome, Sat, UnsatUnder}
 use Rattle.varisat_prop.specs.Parts.{IsMadeTrue}
 use Rattle.varisat_prop.specs.View.{View, literal_at, decision_at, ViewFits}
 use Rattle.varisat_prop.specs.Changes.{decided_on}
@@ -55,7 +55,7 @@ assumed_state verdict.UnsatUnderAssumptions = verdict.Unknown
 
 -- Of the assumptions some may have been taken out, which are true wherever the clauses and the others are satisfied. An
 -- assignment that was found makes the others true, and a core is one of assumptions, and not empty.
-pub record KeepsAssumptions (s : Search) (v : Outcome) (x y : AssumptionParts) : Type 0 where
+pub record KeepsAssumptions (s : Search) (v : SearchOutcome) (x y : AssumptionParts) : Type 0 where
   pub user : y.user ≡ x.user
   pub user_core : y.user_core ≡ x.user_core
   pub part : y.working ⊆ x.working

@@ -5,7 +5,7 @@ use Rattle.varisat_theory.specs.promises.Membership.{◌∈◌, SameSet, IsDisti
 use Rattle.varisat_theory.specs.promises.Literals.{Literal, Clause, opposite, IsUnit}
 use Rattle.varisat_theory.specs.promises.Derivations.{Line, Delete}
 use Rattle.varisat_theory.specs.promises.Searches.{Search, IsTautology}
-use Rattle.varisat_theory.specs.inside.Outcomes.{Outcome, Unknown, Unsat, Loads}
+use Rattle.varisat_theory.specs.inside.Outcomes.{SearchOutcome, Unknown, Unsat, Loads}
 use Rattle.varisat_prop.specs.declared.prop.graph.Reason.TheVariants as reason
 use Rattle.varisat_clause.specs.Headers.{no_header}
 use Rattle.varisat_clause.specs.Stored.{StoredClause, AppendsClause}
@@ -25,7 +25,7 @@ abbrev pub loaded_at : ℕ → Clause → StoredClause
 loaded_at p c = record { place = p; header = record no_header { len = length c }; literals = c }
 
 -- What the verdict after loading says of the clauses: under Unsat they conflict. Of assumptions loading says nothing.
-abbrev pub loaded_outcome : SatState → Outcome
+abbrev pub loaded_outcome : SatState → SearchOutcome
 loaded_outcome verdict.Unknown = Unknown
 loaded_outcome verdict.Sat = Unknown
 loaded_outcome verdict.Unsat = Unsat
@@ -93,7 +93,7 @@ AreLoadLines ordered s c lines =
 
 -- The clause is loaded by the lines that are due, and `are` holds for them.
 pub record LoadsClause (ordered : Clause → Type 0) (are : List Line → Type 0) (s t : Search) (c : Clause)
-    (v : Outcome) : Type 0 where
+    (v : SearchOutcome) : Type 0 where
   pub lines : List Line
   pub due : AreLoadLines ordered s c lines
   pub loads : Loads s t c v lines

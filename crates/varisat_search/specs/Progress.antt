@@ -2,7 +2,7 @@
 use Rattle.std.specs.Prelude.{◌≡◌, ℕ, ◌<◌, ◌≤◌, ◌⊎◌, List, [], ◌∷◌, length}
 use Rattle.varisat_theory.specs.promises.Literals.{Clause}
 use Rattle.varisat_theory.specs.promises.Derivations.{Line, Add}
-use Rattle.varisat_theory.specs.inside.Outcomes.{Outcome, Proves, Steps}
+use Rattle.varisat_theory.specs.inside.Outcomes.{SearchOutcome, Proves, Steps}
 use Rattle.varisat_theory.specs.inside.Rank.{rank}
 use Rattle.varisat_prop.specs.View.{kinds}
 use Rattle.varisat_search.specs.declared.context.Context.{Context}
@@ -14,7 +14,7 @@ use Rattle.varisat_search.specs.Seen.{search_of, outcome_of}
 use Rattle.varisat_search.specs.Steps.{Remembers}
 
 -- what the context's verdict says, with the model or the core that was found
-abbrev pub outcome_at : {A : Type 0} → Context A → Outcome
+abbrev pub outcome_at : {A : Type 0} → Context A → SearchOutcome
 outcome_at x = outcome_of (view x) x.assumptions.failed_core x.solver_state.sat_state
 
 -- the lines lead from the search to the next one

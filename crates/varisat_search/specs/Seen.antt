@@ -6,7 +6,7 @@ use Rattle.varisat_theory.specs.promises.Literals.{Literal, Clause}
 use Rattle.varisat_prop.specs.declared.prop.graph.Reason.TheVariants as reason
 use Rattle.varisat_prop.specs.View.{View, pairs_from, node_of, level_of, is_clause}
 use Rattle.varisat_theory.specs.promises.Searches.{KeptClause, Search}
-use Rattle.varisat_theory.specs.inside.Outcomes.{Outcome, Unknown, Sat, Unsat, UnsatUnder}
+use Rattle.varisat_theory.specs.inside.Outcomes.{SearchOutcome, Unknown, Sat, Unsat, UnsatUnder}
 use Rattle.varisat_analysis.specs.HeaderChanges.{kept_clause}
 use Rattle.varisat_search.specs.declared.state.SatState.{SatState}
 use Rattle.varisat_search.specs.declared.state.SatState.TheVariants as verdict
@@ -42,7 +42,7 @@ abbrev pub IsProved : View → Literal → Type 0
 IsProved s l = (l ∈ s.trail) × (level_of s l ≡ 0) × ((node_of s l).reason ≡ reason.Unit)
 
 -- the verdict with what was found: the values, or the core
-abbrev pub outcome_of : View → List Literal → SatState → Outcome
+abbrev pub outcome_of : View → List Literal → SatState → SearchOutcome
 outcome_of s core verdict.Unknown = Unknown
 outcome_of s core verdict.Sat = Sat (assignment_of s)
 outcome_of s core verdict.Unsat = Unsat

@@ -9,15 +9,17 @@ use Rattle.varisat_theory.specs.promises.Membership.{◌∈◌, SameSet}
 use Rattle.varisat_theory.specs.promises.Literals.{Literal, Clause, Assignment, opposite, Satisfies, SatisfiesAll}
 use Rattle.varisat_theory.proofs.clauses.Members.{∈-append_right, ∈-append_cases}
 use Rattle.varisat_theory.proofs.clauses.Values.{true_or_opposite}
-use Rattle.varisat_rules.specs.promises.Stacks.{assignment_of, extended}
-use Rattle.varisat_database.specs.Databases.{State, no_clauses, given, removed, clause_at, IsLive, deletion}
+use Rattle.varisat_formula.specs.promises.Values.{assignment_of}
+use Rattle.varisat_rules.specs.promises.Stacks.{extended}
+use Rattle.varisat_database.specs.Databases.{DatabaseState, no_clauses, given, removed, clause_at, IsLive, deletion}
 use Rattle.varisat_rules.specs.inside.States.{live_clauses, flagged, Models}
 use Rattle.varisat_simplify.specs.inside.Loading.{IsLoaded}
 use Rattle.varisat_theory.specs.promises.Searches.{IsTautology}
-use Rattle.varisat_rules.proofs.StateLemmas.{live_below, live_pushed, pushed_keeps, pushed_live, pushed_even, pushed_new, removed_even, removed_keeps, removed_live, satisfies_more, satisfies_same}
+use Rattle.varisat_theory.proofs.clauses.Assigned.{same_set_satisfied}
+use Rattle.varisat_rules.proofs.StateLemmas.{live_below, live_pushed, pushed_keeps, pushed_live, pushed_even, pushed_new, removed_even, removed_keeps, removed_live, satisfies_same}
 
 -- The clauses are loaded, but for the rest.
-pub record Loads (P rest : List Clause) (n : ℕ) (frozen : List Bool) (s : State) : Type 0 where
+pub record Loads (P rest : List Clause) (n : ℕ) (frozen : List Bool) (s : DatabaseState) : Type 0 where
   pub front : List Clause
   pub whole : front ++ rest ≡ P
   pub even : length s.live ≡ length s.clauses
@@ -31,8 +33,8 @@ pub record Loads (P rest : List Clause) (n : ℕ) (frozen : List Bool) (s : Stat
   pub count : s.var_count ≡ n
   pub flags : s.frozen ≡ frozen
 
-pub loads_first : (P rest : List Clause) (n : ℕ) (frozen : List Bool) (s : State) → s ≡ no_clauses n frozen → rest ≡ P → Loads P rest n frozen s
-loads_first P rest n frozen s e q = subst (λ (t : State). Loads P rest n frozen t) (sym e) (record {
+pub loads_first : (P rest : List Clause) (n : ℕ) (frozen : List Bool) (s : DatabaseState) → s ≡ no_clauses n frozen → rest ≡ P → Loads P rest n frozen s
+loads_first P rest n frozen s e q = subst (λ (t : DatabaseState). Loads P rest n frozen t) (sym e) (record {
   front = [];
   whole = q;
   even = refl;
@@ -69,12 +71,12 @@ same_next P L rest tail c e q s r = same_clauses-through ((L ++ e ∷ []) ++ tai
     (subst (λ (l : List Clause). SameClauses (L ++ l) P) q r)
 
 -- a tautology was loaded, and is gone
-pub loads_skip : (P rest tail : List Clause) (n : ℕ) (frozen : List Bool) (s t u : State) (c d : Clause) (i : ℕ) → rest ≡ c ∷ tail → IsTautology c → d ≡ c →
+pub loads_skip : (P rest tail : List Clause) (n : ℕ) (frozen : List Bool) (s t u : DatabaseState) (c d : Clause) (i : ℕ) → rest ≡ c ∷ tail → IsTautology c → d ≡ c →
     i ≡ length s.clauses → t ≡ given s d → u ≡ removed t i → Loads P rest n frozen s → Loads P tail n frozen u
 loads_skip P rest tail n frozen s t u c d i e x k q et eu r =
     let v : u ≡ removed (given s c) (length s.clauses) =
-    eu ∙ ap (λ j. removed t j) q ∙ ap (λ (y : State). removed y (length s.clauses)) (et ∙ ap (λ (y : Clause). given s y) k) in
-    subst (λ (y : State). Loads P tail n frozen y) (sym v) (record {
+    eu ∙ ap (λ j. removed t j) q ∙ ap (λ (y : DatabaseState). removed y (length s.clauses)) (et ∙ ap (λ (y : Clause). given s y) k) in
+    subst (λ (y : DatabaseState). Loads P tail n frozen y) (sym v) (record {
       front = r.front ++ c ∷ [];
       whole = moved P r.front rest tail c r.whole e;
       even = removed_even (given s c) (length s.clauses) (pushed_even s c r.even);
@@ -122,20 +124,20 @@ loads_skip P rest tail n frozen s t u c d i e x k q et eu r =
         (leads_delete P s.lines (live_clauses s ++ rest) c (live_clauses s ++ tail)
         (live_clauses s, c, tail, ap (λ (l : List Clause). live_clauses s ++ l) e, same_set-self c, refl) r.leads)))
 
-pub loads_give : (P rest tail : List Clause) (n : ℕ) (frozen : List Bool) (s t : State) (c e d : Clause) → rest ≡ c ∷ tail → SameSet c e → d ≡ e → t ≡ given s d →
+pub loads_give : (P rest tail : List Clause) (n : ℕ) (frozen : List Bool) (s t : DatabaseState) (c e d : Clause) → rest ≡ c ∷ tail → SameSet c e → d ≡ e → t ≡ given s d →
     Loads P rest n frozen s → Loads P tail n frozen t
-loads_give P rest tail n frozen s t c e d q same eq qt r = subst (λ (u : State). Loads P tail n frozen u) (sym (qt ∙ ap (λ (x : Clause). given s x) eq)) (record {
+loads_give P rest tail n frozen s t c e d q same eq qt r = subst (λ (u : DatabaseState). Loads P tail n frozen u) (sym (qt ∙ ap (λ (x : Clause). given s x) eq)) (record {
   front = r.front ++ c ∷ [];
   whole = moved P r.front rest tail c r.whole q;
   even = pushed_even s e r.even;
   keeps = λ a h k live. ⊎_elim
       (λ g. satisfies_same a (clause_at (given s e) k) (clause_at s k) g.1 (r.keeps a h k g.0))
-      (λ g. satisfies_same a (clause_at (given s e) k) e g.1 (satisfies_more a c e same.0 (h c (in_whole P r.front rest tail c r.whole q))))
+      (λ g. satisfies_same a (clause_at (given s e) k) e g.1 (same_set_satisfied a c e same.0 (h c (in_whole P r.front rest tail c r.whole q))))
       (pushed_live s e k r.even live);
   backs = λ a m x h. ⊎_elim
       (r.backs a (λ j live. let g = pushed_keeps s e j r.even live in satisfies_same a (clause_at s j) (clause_at (given s e) j) (sym g.1) (m j g.0)) x)
       (λ p. ⊎_elim
-      (λ y. satisfies_same a x c y (satisfies_more a e c same.1
+      (λ y. satisfies_same a x c y (same_set_satisfied a e c same.1
       (let g = pushed_new s e r.even in satisfies_same a e (clause_at (given s e) (length s.clauses)) (sym g.1) (m (length s.clauses) g.0))))
       (λ z. absurd z) p)
       (∈-append_cases x r.front (c ∷ []) h);
@@ -151,7 +153,7 @@ loads_give P rest tail n frozen s t c e d q same eq qt r = subst (λ (u : State)
 })
 
 -- nothing is left to load
-pub loads_end : (P rest : List Clause) (n : ℕ) (frozen : List Bool) (s : State) → rest ≡ [] → Loads P rest n frozen s → IsLoaded P n frozen s
+pub loads_end : (P rest : List Clause) (n : ℕ) (frozen : List Bool) (s : DatabaseState) → rest ≡ [] → Loads P rest n frozen s → IsLoaded P n frozen s
 loads_end P rest n frozen s e r = record {
   reduces = record {
     even = r.even;

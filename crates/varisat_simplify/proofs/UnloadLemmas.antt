@@ -6,18 +6,20 @@ use Rattle.varisat_theory.specs.promises.Literals.{Clause}
 use Rattle.varisat_theory.specs.promises.Derivations.{Line}
 use Rattle.varisat_theory.specs.promises.Held.{SameClauses}
 use Rattle.varisat_theory.proofs.clauses.Held.{same_clauses_find, same_clauses-back}
+use Rattle.varisat_theory.proofs.clauses.Assigned.{same_set_satisfied}
 use Rattle.varisat_formula.specs.promises.Formulas.{Formula, AllBelow, AreBelow, with_one_more}
 use Rattle.varisat_rules.specs.promises.Leading.{LeadsTo}
-use Rattle.varisat_rules.specs.promises.Stacks.{assignment_of, KeepsFrozen}
-use Rattle.varisat_database.specs.Databases.{State, clause_at}
-use Rattle.varisat_rules.specs.inside.States.{flagged, Reduces, Becomes}
+use Rattle.varisat_formula.specs.promises.Values.{assignment_of}
+use Rattle.varisat_rules.specs.promises.Stacks.{KeepsFrozen}
+use Rattle.varisat_database.specs.Databases.{DatabaseState, clause_at}
+use Rattle.varisat_rules.specs.inside.States.{flagged, DerivesFrom, IsLaterState}
 use Rattle.varisat_simplify.specs.promises.Simplified.{Lists, Finishes, IsReduced, IsMadeOf, DerivesBehind, RefutesBehind}
-use Rattle.varisat_rules.proofs.StateLemmas.{clause_held, satisfies_more, satisfies_same}
+use Rattle.varisat_rules.proofs.StateLemmas.{clause_held, satisfies_same}
 use Rattle.varisat_rules.proofs.ExtendLemmas.{keeps_frozen}
 use Rattle.varisat_rules.proofs.LeadingLemmas.{flagged_from, named_at, derives_behind, refutes_behind}
 
 -- the formula has the live clauses before the place, and no others
-pub record Listing (s : State) (f : Formula) (i : ℕ) : Type 0 where
+pub record Listing (s : DatabaseState) (f : Formula) (i : ℕ) : Type 0 where
   pub even : length s.live ≡ length s.clauses
   pub count : s.var_count ≤ f.var_count
   pub same : f.clauses ≡ flagged (take i s.live) (take i s.clauses)
@@ -25,7 +27,7 @@ pub record Listing (s : State) (f : Formula) (i : ℕ) : Type 0 where
 pub in_range : (i n m : ℕ) → i < n → n ≡ m → i < m
 in_range i n m h e = omega (arith, h, e)
 
-pub listing_first : (s : State) (f : Formula) → length s.live ≡ length s.clauses → s.var_count ≤ f.var_count → f.clauses ≡ [] → Listing s f 0
+pub listing_first : (s : DatabaseState) (f : Formula) → length s.live ≡ length s.clauses → s.var_count ≤ f.var_count → f.clauses ≡ [] → Listing s f 0
 listing_first s f v h e = record { even = v; count = h; same = e ∙ sym (none s.live s.clauses) }
   where
     none : (bs : List Bool) (cs : List Clause) → flagged (take 0 bs) (take 0 cs) ≡ []
@@ -50,14 +52,14 @@ flagged_next bs cs i b v e h = rw add-one (go bs cs i v e h)
     go (true ∷ bs) (c ∷ cs) (suc i) v e h = ap (λ (l : List Clause). c ∷ l) (go bs cs i (omega (arith, v)) e (omega (arith, h)))
     go (false ∷ bs) (c ∷ cs) (suc i) v e h = go bs cs i (omega (arith, v)) e (omega (arith, h))
 
-pub listing_pass : (s : State) (f g : Formula) (i : ℕ) (b : Bool) → i < length s.clauses → g ≡ f → b ≡ get_or s.live i false → b ≡ false → Listing s f i → Listing s g (i + 1)
+pub listing_pass : (s : DatabaseState) (f g : Formula) (i : ℕ) (b : Bool) → i < length s.clauses → g ≡ f → b ≡ get_or s.live i false → b ≡ false → Listing s f i → Listing s g (i + 1)
 listing_pass s f g i b room e q n r = subst (λ (h : Formula). Listing s h (i + 1)) (sym e) (record {
   even = r.even;
   count = r.count;
   same = r.same ∙ sym (append-nil (flagged (take i s.live) (take i s.clauses))) ∙ sym (flagged_next s.live s.clauses i false r.even (sym q ∙ n) room);
 })
 
-pub listing_add : (s : State) (f g : Formula) (i : ℕ) (b : Bool) (c : Clause) → i < length s.clauses → g ≡ with_one_more f c → c ≡ clause_at s i → b ≡ get_or s.live i false → b ≡ true →
+pub listing_add : (s : DatabaseState) (f g : Formula) (i : ℕ) (b : Bool) (c : Clause) → i < length s.clauses → g ≡ with_one_more f c → c ≡ clause_at s i → b ≡ get_or s.live i false → b ≡ true →
     Listing s f i → Listing s g (i + 1)
 listing_add s f g i b c room e w q t r = subst (λ (h : Formula). Listing s h (i + 1)) (sym e) (record {
   even = r.even;
@@ -66,7 +68,7 @@ listing_add s f g i b c room e w q t r = subst (λ (h : Formula). Listing s h (i
       ∙ sym (flagged_next s.live s.clauses i true r.even (sym q ∙ t) room);
 })
 
-pub listing_end : (s : State) (f : Formula) (i : ℕ) → i ≡ length s.clauses → Listing s f i → Lists s f
+pub listing_end : (s : DatabaseState) (f : Formula) (i : ℕ) → i ≡ length s.clauses → Listing s f i → Lists s f
 listing_end s f i e r = record {
   count = r.count;
   same = r.same ∙ ap (λ (bs : List Bool). flagged bs (take i s.clauses)) (take_all i s.live (let v = r.even in omega (arith, e, v)))
@@ -74,7 +76,7 @@ listing_end s f i e r = record {
 }
 
 -- what the live clauses of a state make that began with those of a formula
-pub made : (f g : Formula) (s t : State) → Reduces f.clauses s → ((n : ℕ) → AreBelow n f.clauses → s.var_count ≤ n) → Becomes s t → Lists t g → IsMadeOf f g t.stack t.lines
+pub made : (f g : Formula) (s t : DatabaseState) → DerivesFrom f.clauses s → ((n : ℕ) → AreBelow n f.clauses → s.var_count ≤ n) → IsLaterState s t → Lists t g → IsMadeOf f g t.stack t.lines
 made f g s t o c b e =
     let r = b.reduces f.clauses o in
     record {
@@ -93,9 +95,9 @@ made f g s t o c b e =
 -- a formula of the same clauses
 pub made_same : (f g : Formula) → SameClauses g.clauses f.clauses → IsMadeOf f g [] []
 made_same f g e = record {
-  keeps = λ a h c m. let d = same_clauses_find g.clauses f.clauses e c m in satisfies_more a d.0 c d.2.0 (h d.0 d.1);
+  keeps = λ a h c m. let d = same_clauses_find g.clauses f.clauses e c m in same_set_satisfied a d.0 c d.2.0 (h d.0 d.1);
   extends = λ vs b h c m.
-      let d = same_clauses_find f.clauses g.clauses (same_clauses-back g.clauses f.clauses e) c m in satisfies_more (assignment_of vs) d.0 c d.2.0 (h d.0 d.1);
+      let d = same_clauses_find f.clauses g.clauses (same_clauses-back g.clauses f.clauses e) c m in same_set_satisfied (assignment_of vs) d.0 c d.2.0 (h d.0 d.1);
   leads = record { present = f.clauses; steps = refl; same = e };
   named = λ c l m h. let d = same_clauses_find g.clauses f.clauses e c m in (d.0, d.1, d.2.1 l h);
   spoken = tt;
@@ -107,7 +109,7 @@ take_first [] (y ∷ ys) = refl
 take_first (x ∷ xs) ys = ap (λ (l : List _). x ∷ l) (take_first xs ys)
 
 -- what is handed out is made of what was loaded
-pub finished : (f g : Formula) (n count : ℕ) (frozen : List Bool) (t : State) (stack : List Clause) (lines : List Line) → ((m : ℕ) → AreBelow m f.clauses → n ≤ m) →
+pub finished : (f g : Formula) (n count : ℕ) (frozen : List Bool) (t : DatabaseState) (stack : List Clause) (lines : List Line) → ((m : ℕ) → AreBelow m f.clauses → n ≤ m) →
     IsReduced f.clauses n frozen count t → Finishes t count g stack lines → IsMadeOf f g stack lines
 finished f g n count frozen t stack lines least r (inl h) =
     subst (λ (st : List Clause). IsMadeOf f g st lines) (sym h.1) (subst (λ (ls : List Line). IsMadeOf f g t.stack ls) (sym h.2)
@@ -121,18 +123,18 @@ finished f g n count frozen t stack lines least r (inr h) =
         ∙ take_first r.loaded.clauses r.becomes.more.0
 
 -- no extension changes a frozen variable
-pub stays_frozen : (P : List Clause) (s t : State) (frozen : List Bool) → Reduces P s → s.frozen ≡ frozen → Becomes s t → KeepsFrozen frozen t.stack
+pub stays_frozen : (P : List Clause) (s t : DatabaseState) (frozen : List Bool) → DerivesFrom P s → s.frozen ≡ frozen → IsLaterState s t → KeepsFrozen frozen t.stack
 stays_frozen P s t frozen o e b = subst (λ (f : List Bool). KeepsFrozen f t.stack) (b.frozen ∙ e) (keeps_frozen t.frozen t.stack (b.reduces P o).thawed)
 
 -- none that what is handed out makes
-pub finished_frozen : (P : List Clause) (g : Formula) (n count : ℕ) (frozen : List Bool) (t : State) (stack : List Clause) (lines : List Line) →
+pub finished_frozen : (P : List Clause) (g : Formula) (n count : ℕ) (frozen : List Bool) (t : DatabaseState) (stack : List Clause) (lines : List Line) →
     IsReduced P n frozen count t → Finishes t count g stack lines → KeepsFrozen frozen stack
 finished_frozen P g n count frozen t stack lines r (inl h) =
     subst (λ (st : List Clause). KeepsFrozen frozen st) (sym h.1) (stays_frozen P r.loaded t frozen r.reduces r.flags r.becomes)
 finished_frozen P g n count frozen t stack lines r (inr h) = subst (λ (st : List Clause). KeepsFrozen frozen st) (sym h.1) (λ vs v e. refl)
 
 -- the clauses that were loaded are among those of the state
-pub reduced_room : (P : List Clause) (n count : ℕ) (frozen : List Bool) (t : State) → IsReduced P n frozen count t → count ≤ length t.clauses
+pub reduced_room : (P : List Clause) (n count : ℕ) (frozen : List Bool) (t : DatabaseState) → IsReduced P n frozen count t → count ≤ length t.clauses
 reduced_room P n count frozen t r =
     let e = ap length r.becomes.more.1 ∙ length-append r.loaded.clauses r.becomes.more.0 in let w = r.whole in omega (arith, e, w)
 

@@ -1,6 +1,6 @@
 //! Which variables are resolved away.
 ghost use Rattle.std.specs.Prelude.{OnOk};
-ghost use Rattle.varisat_rules.specs.inside.States.{Becomes};
+ghost use Rattle.varisat_rules.specs.inside.States.{IsLaterState};
 
 use std::alloc::{AllocError, Allocator};
 use varisat_database::database::Database;
@@ -87,7 +87,7 @@ fn eliminate_by<A: Allocator + Copy>(
     most: &mut u64,
     scratch: &mut Scratch<A>,
 ) -> Result<bool, AllocError>
-    ensures { OnOk result (Becomes db.old db.new) }
+    ensures { OnOk result (IsLaterState db.old db.new) }
 {
     if !may_go(db, lit) {
         return Ok(false);
@@ -121,7 +121,7 @@ pub fn eliminate<A: Allocator + Copy>(
     most: &mut u64,
     scratch: &mut Scratch<A>,
 ) -> Result<bool, AllocError>
-    ensures { OnOk result (Becomes db.old db.new) }
+    ensures { OnOk result (IsLaterState db.old db.new) }
 {
     let positive = var.positive();
     let negative = var.negative();

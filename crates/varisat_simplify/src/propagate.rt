@@ -1,6 +1,6 @@
 //! Unit propagation before clauses are listed by their literals: passes over all of them.
 ghost use Rattle.std.specs.Prelude.{OnOk};
-ghost use Rattle.varisat_rules.specs.inside.States.{Becomes};
+ghost use Rattle.varisat_rules.specs.inside.States.{IsLaterState};
 
 use std::alloc::{AllocError, Allocator};
 use varisat_database::database::{Database, filled};
@@ -66,7 +66,7 @@ fn use_noted<A: Allocator + Copy>(
     units: &[u32],
     scratch: &mut Vec<Lit, A>,
 ) -> Result<(), AllocError>
-    ensures { OnOk result (Becomes db.old db.new) }
+    ensures { OnOk result (IsLaterState db.old db.new) }
 {
     match satisfied_by(units, db.names(), db.clause(place)) {
         Some(unit) => use_on(db, unit, place, scratch),
@@ -81,7 +81,7 @@ fn use_or_note<A: Allocator + Copy>(
     units: &mut [u32],
     scratch: &mut Vec<Lit, A>,
 ) -> Result<bool, AllocError>
-    ensures { OnOk result (Becomes db.old db.new) }
+    ensures { OnOk result (IsLaterState db.old db.new) }
 {
     if !db.is_live(place) {
         return Ok(false);
@@ -103,7 +103,7 @@ fn pass<A: Allocator + Copy>(
     units: &mut [u32],
     scratch: &mut Vec<Lit, A>,
 ) -> Result<bool, AllocError>
-    ensures { OnOk result (Becomes db.old db.new) }
+    ensures { OnOk result (IsLaterState db.old db.new) }
 {
     let mut place: usize = 0;
     let mut is_noted = false;
@@ -135,7 +135,7 @@ pub fn propagate<A: Allocator + Copy>(
     alloc: A,
     scratch: &mut Vec<Lit, A>,
 ) -> Result<(), AllocError>
-    ensures { OnOk result (Becomes db.old db.new) }
+    ensures { OnOk result (IsLaterState db.old db.new) }
 {
     let count = db.names().len().saturating_mul(2);
     let mut units = filled(alloc, count, 0u32)?;

@@ -3,7 +3,7 @@ ghost use Rattle.std.specs.Prelude.{◌≡◌, ℕ, ◌/◌, ◌<◌, ◌≤◌,
 ghost use Rattle.varisat_formula.specs.declared.formula.cnf.FormulaError.TheVariants.{Memory};
 ghost use Rattle.varisat_formula.specs.promises.Formulas.{AllBelow, AreBelow};
 ghost use Rattle.varisat_database.specs.Databases.{no_clauses};
-ghost use Rattle.varisat_rules.specs.inside.States.{Becomes};
+ghost use Rattle.varisat_rules.specs.inside.States.{IsLaterState};
 ghost use Rattle.varisat_simplify.specs.inside.Loading.{IsLoaded};
 ghost use Rattle.varisat_rules.specs.promises.Stacks.{extended, KeepsFrozen};
 ghost use Rattle.varisat_simplify.specs.promises.Simplified.{Lists, Finishes, IsReduced, IsMadeOf};
@@ -156,7 +156,7 @@ fn eliminate_all<A: Allocator + Copy>(
     resolvents: &mut u64,
     scratch: &mut Scratch<A>,
 ) -> Result<usize, AllocError>
-    ensures { OnOk result (Becomes db.old db.new) }
+    ensures { OnOk result (IsLaterState db.old db.new) }
 {
     let mut place = first;
     for key in order {
@@ -175,7 +175,7 @@ fn run<A: Allocator + Copy>(
     order: &mut Vec<u64, A>,
     scratch: &mut Scratch<A>,
 ) -> Result<(), AllocError>
-    ensures { OnOk result (Becomes db.old db.new) }
+    ensures { OnOk result (IsLaterState db.old db.new) }
 {
     let mut comparisons = size.saturating_add(MOST_COMPARISONS);
     let mut resolvents = size.saturating_mul(4).saturating_add(MOST_RESOLVENTS);

@@ -1,6 +1,6 @@
 //! Backward subsumption: what a clause makes of the others.
 ghost use Rattle.std.specs.Prelude.{OnOk};
-ghost use Rattle.varisat_rules.specs.inside.States.{Becomes};
+ghost use Rattle.varisat_rules.specs.inside.States.{IsLaterState};
 
 use std::alloc::{AllocError, Allocator};
 use varisat_database::database::Database;
@@ -46,7 +46,7 @@ fn use_along<A: Allocator + Copy>(
     budget: &mut u64,
     scratch: &mut Vec<Lit, A>,
 ) -> Result<(), AllocError>
-    ensures { OnOk result (Becomes db.old db.new) }
+    ensures { OnOk result (IsLaterState db.old db.new) }
 {
     db.tidy(lit);
     let count = place_count(db, lit);
@@ -93,7 +93,7 @@ fn subsume_with<A: Allocator + Copy>(
     budget: &mut u64,
     scratch: &mut Vec<Lit, A>,
 ) -> Result<(), AllocError>
-    ensures { OnOk result (Becomes db.old db.new) }
+    ensures { OnOk result (IsLaterState db.old db.new) }
 {
     let Some(lit) = way_of(db, place, *budget) else {
         return Ok(());
@@ -110,7 +110,7 @@ pub fn subsume_from<A: Allocator + Copy>(
     budget: &mut u64,
     scratch: &mut Vec<Lit, A>,
 ) -> Result<usize, AllocError>
-    ensures { OnOk result (Becomes db.old db.new) }
+    ensures { OnOk result (IsLaterState db.old db.new) }
 {
     let mut place = first;
     for _ in 0..u64::MAX {

@@ -1,88 +1,27 @@
 -- A model of what a formula was made into is extended to one of the formula.
-use Rattle.std.proofs.Common.{◌≡◌, ℕ, zero, suc, ◌+◌, ◌*◌, ◌/◌, ◌%◌, ◌^◌, ◌<◌, ◌≤◌, max, List, [], ◌∷◌, map, Bool, true, false, not, nat_eq, if◌then◌else◌, refl, sym, ap, ◌∙◌, subst, ◌⊎◌, inl, inr, ⊎_elim, length, set, get_or, replicate, arith, Some, None}
+use Rattle.std.proofs.Common.{◌≡◌, ℕ, suc, ◌+◌, ◌*◌, ◌/◌, ◌%◌, ◌^◌, ◌<◌, ◌≤◌, max, List, [], ◌∷◌, map, Bool, true, false, not, refl, sym, ap, ◌∙◌, subst, ◌⊎◌, inl, inr, ⊎_elim, length, get_or, arith, Some, None}
 use Rattle.std.proofs.Math.Pow.{pow_mono}
 use Rattle.varisat_theory.specs.promises.Membership.{◌∈◌, IsDistinct}
-use Rattle.varisat_theory.specs.promises.Literals.{Literal, Clause, Assignment, variable_of, literal_of, opposite, value, SatisfiesAll, MakesTrue}
+use Rattle.varisat_theory.specs.promises.Literals.{Literal, Clause, Assignment, variable_of, literal_of, value, SatisfiesAll, MakesTrue}
 use Rattle.varisat_theory.proofs.bounds.Count.{length-distinct}
-use Rattle.varisat_theory.proofs.clauses.Values.{parity, not_both}
+use Rattle.varisat_theory.proofs.clauses.Values.{not_both, same_true, variable-literal}
 use Rattle.varisat_formula.specs.promises.Formulas.{Formula, variables_of, AreBelow}
 use Rattle.varisat_formula.proofs.FormulaBuffers.{below_variables}
-use Rattle.varisat_rules.specs.promises.Stacks.{assignment_of, is_satisfied, with_true, amended, extended}
+use Rattle.varisat_formula.proofs.ValueLemmas.{length-model, model-true}
+use Rattle.varisat_formula.specs.promises.Values.{assignment_of, literals_from, model_values}
+use Rattle.varisat_rules.specs.promises.Stacks.{extended}
 use Rattle.varisat_simplify.specs.promises.Simplified.{IsMadeOf}
-use Rattle.varisat_rules.proofs.ExtendLemmas.{stays_true}
-use Rattle.varisat_rules.proofs.ExtendLemmas as extending
+use Rattle.varisat_rules.proofs.ExtendLemmas.{extended_length}
 use Rattle.varisat_solver.specs.promises.States.{join_counted}
 use Rattle.varisat_solver.specs.promises.Models.{IsRising}
 use Rattle.varisat.specs.promises.Decided.{IsUpToHighest, IsModel, named_variables, Conclusion, Decided, Unknown, IsConclusion}
 use Rattle.varisat_solver.proofs.calls.Counted.{join-more, join-has, join-only, join-once}
-use Rattle.varisat_solve.specs.inside.Extending.{named_count, made_true, literals_from, model_of_all, conclusion_of_all}
+use Rattle.varisat_solve.specs.inside.Extending.{named_count, model_of_all, conclusion_of_all}
 
--- 1. Lists of values.
-length-set : (xs : List Bool) (i : ℕ) (x : Bool) → length (set xs i x) ≡ length xs
-length-set [] i x = refl
-length-set (y ∷ xs) zero x = refl
-length-set (y ∷ xs) (suc i) x = ap suc (length-set xs i x)
+pub length-all : (stack : List Clause) (model : List Literal) (n : ℕ) → length (extended stack (model_values n model)) ≡ n
+length-all stack model n = extended_length stack (model_values n model) ∙ length-model n model
 
-length-if : (b : Bool) (xs ys : List Bool) (n : ℕ) → length xs ≡ n → length ys ≡ n → length (if b then xs else ys) ≡ n
-length-if true xs ys n e f = e
-length-if false xs ys n e f = f
-
-length-true : (l : Literal) (vs : List Bool) → length (with_true l vs) ≡ length vs
-length-true l vs = length-set vs (l / 2) (nat_eq (l % 2) 0)
-
-length-amended : (c : Clause) (vs : List Bool) → length (amended c vs) ≡ length vs
-length-amended [] vs = refl
-length-amended (l ∷ c) vs = length-if (is_satisfied vs (l ∷ c)) vs (with_true l vs) (length vs) refl (length-true l vs)
-
-pub length-extended : (stack : List Clause) (vs : List Bool) → length (extended stack vs) ≡ length vs
-length-extended [] vs = refl
-length-extended (c ∷ stack) vs = length-amended c (extended stack vs) ∙ length-extended stack vs
-
-length-made : (ls : List Literal) (vs : List Bool) → length (made_true ls vs) ≡ length vs
-length-made [] vs = refl
-length-made (l ∷ ls) vs = length-made ls (with_true l vs) ∙ length-true l vs
-
-length-false : (n : ℕ) → length (replicate n false) ≡ n
-length-false zero = refl
-length-false (suc n) = ap suc (length-false n)
-
-pub length-all : (stack : List Clause) (model : List Literal) (n : ℕ) → length (extended stack (made_true model (replicate n false))) ≡ n
-length-all stack model n =
-    length-extended stack (made_true model (replicate n false)) ∙ length-made model (replicate n false) ∙ length-false n
-
--- 2. Literals that are made true.
-made-all : (a : Assignment) (ls : List Literal) (vs : List Bool) → MakesTrue a ls → ((l : Literal) → l ∈ ls → l / 2 < length vs) → (l : Literal) →
-    (l ∈ ls) ⊎ ((value (assignment_of vs) l ≡ true) × (value a l ≡ true)) → value (assignment_of (made_true ls vs)) l ≡ true
-made-all a [] vs t b l (inl h) = absurd h
-made-all a [] vs t b l (inr (v, x)) = v
-made-all a (m ∷ ls) vs t b l h =
-    made-all a ls (with_true m vs) (λ k i. t k (inr i)) (λ k i. subst (λ n. k / 2 < n) (sym (length-true m vs)) (b k (inr i))) l
-    (⊎_elim
-    (λ i. ⊎_elim
-    (λ e. inr (
-      subst (λ x. value (assignment_of (with_true m vs)) x ≡ true) (sym e) (extending.made_true vs m (b m (inl refl))),
-      subst (λ x. value a x ≡ true) (sym e) (t m (inl refl)),
-    ))
-    (λ k. inl k) i)
-    (λ (v, x). inr (stays_true vs m l (b m (inl refl)) (λ q. not_both a m (t m (inl refl)) (subst (λ y. value a y ≡ true) q x)) v, x))
-    h)
-
-same_or_opposite : (m l : ℕ) → m / 2 ≡ l / 2 → (m ≡ l) ⊎ (m ≡ opposite l)
-unfolding opposite
-same_or_opposite m l e =
-    ⊎_elim
-    (λ p. ⊎_elim (λ q. inl (omega (arith, p, q, e))) (λ q. inr (omega (arith, p, q, e))) (parity l))
-    (λ p. ⊎_elim (λ q. inr (omega (arith, p, q, e))) (λ q. inl (omega (arith, p, q, e))) (parity l))
-    (parity m)
-
-same-true : (a : Assignment) (k l : Literal) → k / 2 ≡ l / 2 → value a k ≡ true → value a l ≡ true → k ≡ l
-same-true a k l e s t = ⊎_elim (λ q. q) (λ q. absurd (not_both a l t (subst (λ x. value a x ≡ true) q s))) (same_or_opposite k l e)
-
--- 3. The literals that are true by values.
-variable-of : (v : ℕ) (b : Bool) → variable_of (literal_of v b) ≡ v
-variable-of v true = omega arith
-variable-of v false = omega arith
-
+-- 1. The literals that are true by values.
 value-of : (a : Assignment) (v : ℕ) (b : Bool) → a v ≡ b → value a (literal_of v b) ≡ true
 unfolding value
 value-of a v true e = let h : (2 * v) % 2 ≡ 0 = omega arith in let k : (2 * v) / 2 ≡ v = omega arith in rw h (rw k e)
@@ -91,33 +30,33 @@ value-of a v false e = let h : (2 * v + 1) % 2 ≡ 1 = omega arith in let k : (2
 rising-from : (low v : ℕ) (bs : List Bool) → low ≤ v → IsRising low (literals_from v bs)
 rising-from low v [] h = tt
 rising-from low v (b ∷ bs) h = (
-  subst (λ x. low ≤ x) (sym (variable-of v b)) h,
-  subst (λ x. IsRising (suc x) (literals_from (suc v) bs)) (sym (variable-of v b)) (rising-from (suc v) (suc v) bs (omega arith)),
+  subst (λ x. low ≤ x) (sym (variable-literal v b)) h,
+  subst (λ x. IsRising (suc x) (literals_from (v + 1) bs)) (sym (variable-literal v b)) (rising-from (suc v) (v + 1) bs (omega arith)),
 )
 
 listed-from : (v : ℕ) (bs : List Bool) (u : ℕ) → v ≤ u → u < v + length bs → (l : Literal) × (l ∈ literals_from v bs) × (variable_of l ≡ u)
 listed-from v [] u h k = absurd (omega (arith, h, k))
 listed-from v (b ∷ bs) u h k =
     ⊎_elim
-    (λ (e : v ≡ u). (literal_of v b, inl refl, variable-of v b ∙ e))
-    (λ (n : suc v ≤ u). let (l, i, e) = listed-from (suc v) bs u n (omega (arith, k)) in (l, inr i, e))
+    (λ (e : v ≡ u). (literal_of v b, inl refl, variable-literal v b ∙ e))
+    (λ (n : v + 1 ≤ u). let (l, i, e) = listed-from (v + 1) bs u n (omega (arith, k)) in (l, inr i, e))
     (split v u h)
   where
-    split : (v u : ℕ) → v ≤ u → (v ≡ u) ⊎ (suc v ≤ u)
+    split : (v u : ℕ) → v ≤ u → (v ≡ u) ⊎ (v + 1 ≤ u)
     split v u h = grind arith
 
 within-from : (v : ℕ) (bs : List Bool) (l : Literal) → l ∈ literals_from v bs → variable_of l < v + length bs
 within-from v [] l h = absurd h
-within-from v (b ∷ bs) l (inl e) = let q = ap variable_of e ∙ variable-of v b in omega (arith, q)
-within-from v (b ∷ bs) l (inr h) = let q = within-from (suc v) bs l h in omega (arith, q)
+within-from v (b ∷ bs) l (inl e) = let q = ap variable_of e ∙ variable-literal v b in omega (arith, q)
+within-from v (b ∷ bs) l (inr h) = let q = within-from (v + 1) bs l h in omega (arith, q)
 
 true-from : (a : Assignment) (v : ℕ) (bs : List Bool) → ((k : ℕ) → a (v + k) ≡ get_or bs k false) → MakesTrue a (literals_from v bs)
 true-from a v [] h l i = absurd i
 true-from a v (b ∷ bs) h l (inl e) =
     subst (λ x. value a x ≡ true) (sym e) (value-of a v b (let q : v ≡ v + 0 = omega arith in ap a q ∙ h 0))
-true-from a v (b ∷ bs) h l (inr i) = true-from a (suc v) bs (λ k. let q : suc v + k ≡ v + suc k = omega arith in ap a q ∙ h (suc k)) l i
+true-from a v (b ∷ bs) h l (inr i) = true-from a (v + 1) bs (λ k. let q : (v + 1) + k ≡ v + suc k = omega arith in ap a q ∙ h (suc k)) l i
 
--- 4. The variables up to the highest.
+-- 2. The variables up to the highest.
 over-max : (u m n : ℕ) → u < max m n → (u < m) ⊎ (u < n)
 over-max u m n h = grind arith
 
@@ -146,24 +85,24 @@ are-below : (n : ℕ) (P : List Clause) → named_count P ≤ n → AreBelow n P
 are-below n [] h = tt
 are-below n (c ∷ P) h = (below_variables n c (omega (arith, h)), are-below n P (omega (arith, h)))
 
--- 5. The model.
+-- 3. The model.
 pub model-of-all : (f g : Formula) (stack : List Clause) (lines : _) (model : List Literal) → IsMadeOf f g stack lines → IsModel g.clauses model →
     IsModel f.clauses (model_of_all stack model (named_count f.clauses))
 model-of-all f g stack lines model made is =
     let n = named_count f.clauses in
-    let vs = made_true model (replicate n false) in
-    let size : length vs ≡ n = length-made model (replicate n false) ∙ length-false n in
-    let full : length (extended stack vs) ≡ n = length-extended stack vs ∙ size in
+    let vs = model_values n model in
+    let size = length-model n model in
+    let full = length-all stack model n in
     let (a, agrees, satisfies) = is.satisfied in
     let low : (l : Literal) → l ∈ model → l / 2 < n =
     λ l h. let (c, m, i, j, e) = is.up_to_highest l h in let (d, k, o) = made.named c m i j in
     let q = named-below f.clauses d m k o in omega (arith, e, q) in
     let all : SatisfiesAll (assignment_of vs) g.clauses = λ c i. let (l, j, t) = satisfies c i in
-    let (k, h, e) = is.all_listed (variable_of l) (c, l, i, j, omega arith) in (
+    let (k, h, e) = is.all_listed (variable_of l) (c, l, i, j, omega arith) in
+    let listed : l ∈ model = subst (λ x. x ∈ model) (same_true a k l e (agrees k h) t) h in (
       l,
       j,
-      made-all a model (replicate n false) agrees (λ m x. subst (λ y. m / 2 < y) (sym (length-false n)) (low m x)) l
-          (inl (subst (λ x. x ∈ model) (same-true a k l e (agrees k h) t) h)),
+      model-true n model l (λ m x o. not_both a m (agrees m x) (subst (λ y. value a y ≡ true) o t)) listed (low l listed),
     ) in
     record {
       rising = rising-from 0 0 (extended stack vs) (omega arith);
@@ -177,7 +116,7 @@ model-of-all f g stack lines model made is =
       );
     }
 
--- 6. How many variables are named.
+-- 4. How many variables are named.
 mapped : (i : ℕ) (c : Clause) → i ∈ map variable_of c → (l : Literal) × (l ∈ c) × (i ≡ variable_of l)
 mapped i [] h = absurd h
 mapped i (l ∷ c) (inl e) = (l, inl refl, e)
@@ -220,7 +159,7 @@ fewer-named f g stack lines made =
     (λ (c, l, k, j, e). let (d, m, o) = made.named c l k j in subst (λ x. x ∈ named_variables [] f.clauses) (sym e) (named-has [] f.clauses d l m o))
     (named-only [] g.clauses i h))
 
--- 7. The conclusion.
+-- 5. The conclusion.
 pub concludes-all : (max_steps : ℕ) (f g : Formula) (stack : List Clause) (lines : _) (c : Conclusion) → IsMadeOf f g stack lines →
     IsConclusion max_steps g.clauses c → IsConclusion max_steps f.clauses (conclusion_of_all stack (named_count f.clauses) c)
 concludes-all max_steps f g stack lines (Decided None) made h = λ (a, s). h (a, made.keeps a s)

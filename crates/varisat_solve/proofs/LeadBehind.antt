@@ -32,7 +32,9 @@ use Rattle.varisat_simplify.specs.promises.Simplified.{IsMadeOf}
 use Rattle.varisat_rules.proofs.LeadingLemmas.{derives_behind, refutes_behind}
 use Rattle.varisat.specs.promises.Decided.{Conclusion, Decided}
 use Rattle.varisat.specs.promises.Proven.{IsProven}
+use Rattle.varisat.proofs.WrittenProofs.{plain-logged}
 use Rattle.varisat_solve.specs.promises.Solving.{AreLow}
+use Rattle.varisat_steps.proofs.Traced.{lines-lead}
 
 -- 1. The clauses of a formula and lines, as entries.
 abbrev pub own : List Clause → List Line → List Entry
@@ -60,11 +62,6 @@ own-behind : (P : List Clause) (ls : List Line) → assumed_behind [] (own P ls)
 own-behind [] [] = refl
 own-behind [] (l ∷ ls) = own-behind [] ls
 own-behind (c ∷ P) ls = own-behind P ls
-
-lines-lead : (P : List Clause) (ls : List Line) (Q : List Clause) → Derives P ls Q → Leads P (written ls) Q
-lines-lead P [] Q d = d
-lines-lead P (Add c ∷ ls) Q (f, d) = (P ++ c ∷ [], (f, refl), lines-lead (P ++ c ∷ []) ls Q d)
-lines-lead P (Delete c ∷ ls) Q (R, o, d) = (R, o, lines-lead R ls Q d)
 
 own-leads : (A P : List Clause) (ls : List Line) (Q : List Clause) → Derives (A ++ P) ls Q → Leads A (own P ls) Q
 own-leads A [] ls Q d = lines-lead A ls Q (subst (λ X. Derives X ls Q) (append-nil A) d)
@@ -94,15 +91,6 @@ plain-low (Add c ∷ ls) s line l (inl e) i = s.0 l (subst (λ (x : ProofLine). 
 plain-low (Delete c ∷ ls) s line l (inl e) i = s.0 l (subst (λ (x : ProofLine). l ∈ x.clause) e i)
 plain-low (Add c ∷ ls) s line l (inr h) i = plain-low ls s.1 line l h i
 plain-low (Delete c ∷ ls) s line l (inr h) i = plain-low ls s.1 line l h i
-
-logged-plain : (es : List Entry) (line : ProofLine) → line ∈ plain_lines (lines_of es) → line ∈ logged_lines (Text true) es
-logged-plain [] line h = absurd h
-logged-plain (Accepts c ∷ es) line h = inr (logged-plain es line h)
-logged-plain (Writes l ∷ es) line (inl e) = inl e
-logged-plain (Writes l ∷ es) line (inr h) = inr (logged-plain es line h)
-logged-plain (Assumes a ∷ es) line h = inr (logged-plain es line h)
-logged-plain (Fails core ∷ es) line h = inr (logged-plain es line h)
-logged-plain (Retires v ∷ es) line h = logged-plain es line h
 
 own-range : (P : List Clause) (ls : List Line) → AreLow P → AreInRange (plain_lines ls) → AreInRange (logged_lines (Text true) (own P ls))
 own-range [] ls p r line l h i = r line l (subst (λ xs. line ∈ xs) (lines-bytes (Text true) ls) h) i
@@ -217,7 +205,7 @@ proven-behind format f g stack lines c d old led back plain low made none (bytes
       faults = p.faults ∙ faults;
       plain = λ n. ap (lines_written (encoding_of format)) (own-bytes format f.clauses all n ∙ ap plain_lines (sym (own-lines f.clauses all)));
       in_range = own-range f.clauses all low (subst AreInRange (sym (map-append plain_line lines (lines_of p.logged)))
-          (λ line l h i. ⊎_elim (λ k. lead-low line l k i) (λ k. p.in_range line l (logged-plain p.logged line k) i)
+          (λ line l h i. ⊎_elim (λ k. lead-low line l k i) (λ k. p.in_range line l (plain-logged p.logged line k) i)
           (∈-append_cases line (plain_lines lines) (plain_lines (lines_of p.logged)) h)));
       derives = subst (IsDerivation f.clauses) (sym (own-lines f.clauses all)) (derives_behind f.clauses lines g.clauses (lines_of p.logged) made.leads p.derives);
       refutes = λ n. subst (Refutes f.clauses) (sym (own-lines f.clauses all)) (refutes_behind f.clauses lines g.clauses (lines_of p.logged) made.leads (p.refutes (none n)));

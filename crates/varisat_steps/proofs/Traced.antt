@@ -4,7 +4,7 @@ use Rattle.std.proofs.lemmas.List.{append-nil}
 use Rattle.varisat_theory.specs.promises.Literals.{Clause}
 use Rattle.varisat_theory.specs.promises.Derivations.{Line, Add, Delete, Derives}
 use Rattle.varisat_theory.specs.promises.Searches.{Search, Fits}
-use Rattle.varisat_theory.specs.inside.Outcomes.{Outcome, Proves}
+use Rattle.varisat_theory.specs.inside.Outcomes.{SearchOutcome, Proves}
 use Rattle.varisat_theory.proofs.journals.StepCounts.{by_derives}
 use Rattle.varisat_theory.proofs.clauses.Lines.{derives_cut}
 use Rattle.varisat_theory.specs.promises.Journals.{Entry, Writes, Leads, written}
@@ -30,14 +30,14 @@ lines-more takes takes_more x y z first second h k =
     subst (λ es. takes x es z) (sym (entries-append first second)) (takes_more x y z (written first) (written second) h k)
 
 -- a step without a core
-pub step-lines : {Q : Type 0} (takes : Q → List Entry → Q → Type 0) (x y : Q) (lines : List Line) (v : Outcome) → verdict_entries v ≡ [] →
+pub step-lines : {Q : Type 0} (takes : Q → List Entry → Q → Type 0) (x y : Q) (lines : List Line) (v : SearchOutcome) → verdict_entries v ≡ [] →
     TakesLines takes x lines y → TakesStep takes x lines v y
 step-lines takes x y lines v e h = subst (λ es. takes x es y) (sym (ap (λ es. written lines ++ es) e ∙ append-nil (written lines))) h
 
 -- lines, and then those of a step
 pub step-more : {Q : Type 0} (takes : Q → List Entry → Q → Type 0)
     (takes_more : (x y z : Q) (first second : List Entry) → takes x first y → takes y second z → takes x (first ++ second) z) (x y z : Q)
-    (first second : List Line) (v : Outcome) → TakesLines takes x first y → TakesStep takes y second v z → TakesStep takes x (first ++ second) v z
+    (first second : List Line) (v : SearchOutcome) → TakesLines takes x first y → TakesStep takes y second v z → TakesStep takes x (first ++ second) v z
 step-more takes takes_more x y z first second v h k =
     subst (λ es. takes x es z)
     (sym (ap (λ es. es ++ verdict_entries v) (entries-append first second) ∙ append_assoc (written first) (written second) (verdict_entries v)))

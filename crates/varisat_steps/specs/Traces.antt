@@ -3,7 +3,7 @@ use Rattle.std.specs.Prelude.{◌≡◌, ℕ, Bool, true, List, [], ◌∷◌, �
 use Rattle.varisat_theory.specs.promises.Literals.{Literal, Clause}
 use Rattle.varisat_theory.specs.promises.Propagation.{Conflicts}
 use Rattle.varisat_theory.specs.promises.Derivations.{Line, Add, Delete, Derives}
-use Rattle.varisat_theory.specs.inside.Outcomes.{Outcome, Unknown, Sat, Unsat, UnsatUnder}
+use Rattle.varisat_theory.specs.inside.Outcomes.{SearchOutcome, Unknown, Sat, Unsat, UnsatUnder}
 use Rattle.varisat_theory.specs.promises.Searches.{Search, Fits}
 use Rattle.varisat_theory.specs.inside.StepLaws.{unit_lines}
 use Rattle.varisat_theory.specs.promises.Journals.{Entry, Writes, Fails, Retires, written}
@@ -21,7 +21,7 @@ entries_of (DeleteVar v) = Retires v ∷ []
 entries_of (FailedAssumptions core) = Fails core.now ∷ []
 
 -- the entry of a verdict: a core
-abbrev pub verdict_entries : Outcome → List Entry
+abbrev pub verdict_entries : SearchOutcome → List Entry
 verdict_entries Unknown = []
 verdict_entries (Sat found) = []
 verdict_entries Unsat = []
@@ -32,7 +32,7 @@ abbrev pub TakesLines : {Q : Type 0} → (Q → List Entry → Q → Type 0) →
 TakesLines takes x lines y = takes x (written lines) y
 
 -- It took the lines of a step, and then the core that the step ended with, where it ended with one.
-abbrev pub TakesStep : {Q : Type 0} → (Q → List Entry → Q → Type 0) → Q → List Line → Outcome → Q → Type 0
+abbrev pub TakesStep : {Q : Type 0} → (Q → List Entry → Q → Type 0) → Q → List Line → SearchOutcome → Q → Type 0
 TakesStep takes x lines v y = takes x (written lines ++ verdict_entries v) y
 
 -- how many faults at the target an error stands for

@@ -1,6 +1,6 @@
 -- What a user sees of the heap.
-use Rattle.std.proofs.Common.{◌≡◌, ◌⊎◌, ℕ, ◌<◌, ◌≤◌, List, length, get_or, set, Bool, true, false, refl, sym, ap, ◌∙◌, inl, inr, arith}
-use Rattle.std.proofs.lemmas.Bool.{ltb-true, lt-ltb, cases_lt}
+use Rattle.std.proofs.Common.{◌≡◌, ℕ, ◌<◌, ◌≤◌, List, length, get_or, set, Bool, true, false, refl, sym, ap, ◌∙◌, inl, inr, arith}
+use Rattle.std.proofs.lemmas.Bool.{ltb-true, lt-ltb, cases_lt, cases_Bool, false_from_ne_true}
 use Rattle.std.proofs.lemmas.List.{get_or_past, set-get_or, get_or-map, length-map}
 use Rattle.std.proofs.lemmas.Grind.{get_or_default_zero}
 use Rattle.std.specs.Prelude.{nat_lt}
@@ -23,16 +23,8 @@ available_below n position v e =
           absurd (cc)
     ]
 
-not_true : (b : Bool) → (b ≡ true → ⊥) → b ≡ false
-not_true true h = absurd (h refl)
-not_true false h = refl
-
 pub none_available : (n : ℕ) (position : List ℕ) → n ≡ 0 → (v : ℕ) → get_or (availability n position) v false ≡ false
-none_available n position e v = not_true (get_or (availability n position) v false) (λ q. (let h = available_below n position v q in omega (arith, h.1)))
-
-either_is : (b : Bool) → (b ≡ true) ⊎ (b ≡ false)
-either_is true = inl refl
-either_is false = inr refl
+none_available n position e v = false_from_ne_true (get_or (availability n position) v false) (λ q. (let h = available_below n position v q in omega (arith, h.1)))
 
 -- where none stands in the heap, those who are available are idle
 pub all_idle : (activity : List ℕ) (position : List ℕ) (available blocks : List Bool) (n cursor v : ℕ) →
@@ -61,7 +53,7 @@ root_is_greatest activity heap position available blocks n cursor v i d h a some
       known = omega (arith, h.known);
       available = a.inside v (get_or-map (λ p. nat_lt p n) position v 0 false (omega (arith, l.count)) ∙ rw pv (lt-ltb 0 n some));
       greatest = λ w q.
-          elim (either_is (get_or (availability n position) w false)) [
+          elim (cases_Bool (get_or (availability n position) w false)) [
             | inl t ↦
                 let b = available_below n position w t in
                 let s : get_or heap (get_or position w 0) 0 ≡ w = l.stands w (omega (arith, l.count, b.0)) in

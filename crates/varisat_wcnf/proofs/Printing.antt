@@ -5,8 +5,9 @@ use Rattle.std.proofs.Math.Seq.{take-append-add}
 use Rattle.std.proofs.lemmas.List.{take_all}
 use Rattle.varisat_theory.specs.promises.Literals.{IsSatisfiable}
 use Rattle.varisat_formula.specs.promises.Streams.{Taken}
-use Rattle.varisat_maxsat.specs.promises.Problems.{Problem, IsAnswer, Found, Improve, last_found}
-use Rattle.varisat_wcnf.specs.inside.Printed.{value_digits, verdict_status, solution_text, cost_line, cost_lines, Prints, Answers, Solved, Unsatisfiable, Unknown}
+use Rattle.varisat_formula.proofs.TargetParts.{begin_part}
+use Rattle.varisat_maxsat.specs.promises.Problems.{Problem, IsOptimumOrSolution, Found, Improve, last_found}
+use Rattle.varisat_wcnf.specs.inside.Printed.{value_digits, solution_status, solution_text, cost_line, cost_lines, PrintsText, PrintsAnswer, Solved, Unsatisfiable, Unknown}
 use Rattle.varisat_wcnf.specs.inside.Costs.{PrintsCosts}
 
 digits-more : (vs : List Bool) (i : ℕ) (d : Bool) → i < length vs →
@@ -23,16 +24,10 @@ digits-put text before after vs i b d h e p f =
     ∙ ap (λ x. text ++ (value_digits (take i vs) ++ x ∷ [])) f
     ∙ ap (λ ds. text ++ ds) (sym (digits-more vs i d h)) ∙ ap (λ n. text ++ value_digits (take n vs)) up
 
--- a beginning of a text is one of a longer text
-begins-longer : (n : ℕ) (text rest : List ℕ) → (m : ℕ) × (take n text ≡ take m (text ++ rest))
-begins-longer zero text rest = (0, refl)
-begins-longer (suc n) [] rest = (0, refl)
-begins-longer (suc n) (b ∷ bs) rest = let (m, e) = begins-longer n bs rest in (suc m, ap (λ cs. b ∷ cs) e)
-
 -- a text in two parts: a beginning of the first one, or the first one and a beginning of the second one
 pub begun-first : (first second : List ℕ) (old new : Taken) → ((n : ℕ) × (new.bytes ≡ old.bytes ++ take n first)) →
     (n : ℕ) × (new.bytes ≡ old.bytes ++ take n (first ++ second))
-begun-first first second old new (n, b) = let (m, e) = begins-longer n first second in (m, b ∙ ap (λ x. old.bytes ++ x) e)
+begun-first first second old new (n, b) = let (m, e) = begin_part n first second in (m, b ∙ ap (λ x. old.bytes ++ x) e)
 
 pub begun-second : (first second : List ℕ) (old mid new : Taken) → mid.bytes ≡ old.bytes ++ first → ((n : ℕ) × (new.bytes ≡ mid.bytes ++ take n second)) →
     (n : ℕ) × (new.bytes ≡ old.bytes ++ take n (first ++ second))
@@ -77,11 +72,11 @@ pub prints-no-more : {E : Type 0} (fault : Option E) (f : Found) (fs : List Foun
     PrintsCosts fault fs old new → PrintsCosts fault (f ∷ fs) old new
 prints-no-more None f fs old new some h = absurd cc
 prints-no-more (Some e) f fs old new some (n, b) =
-    let (m, l) = begins-longer n (cost_lines fs) (cost_line f.cost) in (m, b ∙ ap (λ x. old.bytes ++ x) l)
+    let (m, l) = begin_part n (cost_lines fs) (cost_line f.cost) in (m, b ∙ ap (λ x. old.bytes ++ x) l)
 
 -- a text behind another one
-pub prints-behind : (before text : List ℕ) (status : ℕ) (old mid new : Taken) (r : ℕ) → mid.bytes ≡ old.bytes ++ before → Prints text status mid new r →
-    Prints (before ++ text) status old new r
+pub prints-behind : (before text : List ℕ) (status : ℕ) (old mid new : Taken) (r : ℕ) → mid.bytes ≡ old.bytes ++ before → PrintsText text status mid new r →
+    PrintsText (before ++ text) status old new r
 prints-behind before text status old mid new r e (inl (b, q)) = inl (b ∙ ap (λ x. x ++ text) e ∙ append_assoc old.bytes before text, q)
 prints-behind before text status old mid new r e (inr (n, b, q)) = inr (
   length before + n,
@@ -94,28 +89,28 @@ found-last [] f e = absurd cc
 found-last (g ∷ gs) f e = let h : g ≡ f = cc in (gs, ap (λ x. x ∷ gs) h)
 
 pub solved : (p : Problem) (is_optimum : Bool) (k : ℕ) (values : List Bool) (found : List Found) (old mid new : Taken) (r : ℕ) → Improve p found →
-    last_found found ≡ Some (record { cost = k; values = values }) → IsAnswer is_optimum p k values → mid.bytes ≡ old.bytes ++ cost_lines found →
-    Prints (solution_text is_optimum values) (verdict_status is_optimum) mid new r → Answers p old new r
+    last_found found ≡ Some (record { cost = k; values = values }) → IsOptimumOrSolution is_optimum p k values → mid.bytes ≡ old.bytes ++ cost_lines found →
+    PrintsText (solution_text is_optimum values) (solution_status is_optimum) mid new r → PrintsAnswer p old new r
 solved p is_optimum k values found old mid new r i l a e h =
     let (gs, s) = found-last found (record { cost = k; values = values }) l in
     Solved is_optimum (record { cost = k; values = values }) gs (subst (Improve p) s i) a
-    (prints-behind (cost_lines (record { cost = k; values = values } ∷ gs)) (solution_text is_optimum values) (verdict_status is_optimum) old mid new r
+    (prints-behind (cost_lines (record { cost = k; values = values } ∷ gs)) (solution_text is_optimum values) (solution_status is_optimum) old mid new r
     (subst (λ fs. mid.bytes ≡ old.bytes ++ cost_lines fs) s e) h)
 
 pub unsatisfied : (p : Problem) (found : List Found) (old mid new : Taken) (r : ℕ) → (IsSatisfiable p.hard → ⊥) → found ≡ [] →
-    mid.bytes ≡ old.bytes ++ cost_lines found → Prints (codes "s UNSATISFIABLE\n") 20 mid new r → Answers p old new r
+    mid.bytes ≡ old.bytes ++ cost_lines found → PrintsText (codes "s UNSATISFIABLE\n") 20 mid new r → PrintsAnswer p old new r
 unsatisfied p found old mid new r n s e h =
     Unsatisfiable n (prints-behind [] (codes "s UNSATISFIABLE\n") 20 old mid new r (subst (λ fs. mid.bytes ≡ old.bytes ++ cost_lines fs) s e) h)
 
 pub unknown : (p : Problem) (found : List Found) (old mid new : Taken) (r : ℕ) → Improve p found → mid.bytes ≡ old.bytes ++ cost_lines found →
-    Prints (codes "s UNKNOWN\n") 0 mid new r → Answers p old new r
+    PrintsText (codes "s UNKNOWN\n") 0 mid new r → PrintsAnswer p old new r
 unknown p found old mid new r i e h = Unknown found i (prints-behind (cost_lines found) (codes "s UNKNOWN\n") 0 old mid new r e h)
 
 -- printing failed
 pub broken-off : (p : Problem) (found : List Found) (old new : Taken) (r : ℕ) → Improve p found →
-    ((n : ℕ) × (new.bytes ≡ old.bytes ++ take n (cost_lines found))) → r ≡ 2 → Answers p old new r
+    ((n : ℕ) × (new.bytes ≡ old.bytes ++ take n (cost_lines found))) → r ≡ 2 → PrintsAnswer p old new r
 broken-off p found old new r i (n, b) q =
-    let (m, l) = begins-longer n (cost_lines found) (codes "s UNKNOWN\n") in Unknown found i (inr (m, b ∙ ap (λ x. old.bytes ++ x) l, q))
+    let (m, l) = begin_part n (cost_lines found) (codes "s UNKNOWN\n") in Unknown found i (inr (m, b ∙ ap (λ x. old.bytes ++ x) l, q))
 
 -- two facts of an answer
 pub both-said : {X E : Type 0} (r : Result (Option X) E) (A B : Type 0) (P Q : X → Type 0) → IfOk r (λ o. MatchOption o A P) → IfOk r (λ o. MatchOption o B Q) →

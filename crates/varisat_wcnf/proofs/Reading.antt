@@ -15,7 +15,7 @@ use Rattle.varisat_formula.specs.inside.Machine.{after_digit, digits_from, says,
 use Rattle.varisat_formula.proofs.TokenBytes.{number_agrees, meaning_agrees, capped}
 use Rattle.varisat_wcnf.specs.declared.wcnf.WcnfFault.{WcnfFault}
 use Rattle.varisat_wcnf.specs.declared.wcnf.WcnfError.{WcnfError}
-use Rattle.varisat_wcnf.specs.inside.Texts.{Reading, words, below_limit, clause_from, after_line, at_line, after_lines}
+use Rattle.varisat_wcnf.specs.inside.Texts.{WcnfReading, words, below_limit, clause_from, after_line, at_line, after_lines}
 
 -- a text is cut at the first picked byte
 pub cut_at : (p : ℕ → Bool) (text : List ℕ) (i : ℕ) → i < length text → HoldsAt (λ b. p b ≡ true) text i → AllWithin (λ b. p b ≡ false) text 0 i →
@@ -171,12 +171,12 @@ fault-stays : (e : WcnfError) (n : ℕ) (ls : List (List ℕ)) → after_lines (
 fault-stays e n [] = refl
 fault-stays e n (l ∷ ls) = refl
 
-pub line-read : (s t : Reading) (n : ℕ) (line : List ℕ) (ls ms : List (List ℕ)) (all : Result Reading WcnfError) → after_lines (Ok s) (n + 1) ls ≡ all →
+pub line-read : (s t : WcnfReading) (n : ℕ) (line : List ℕ) (ls ms : List (List ℕ)) (all : Result WcnfReading WcnfError) → after_lines (Ok s) (n + 1) ls ≡ all →
     ls ≡ line ∷ ms → after_line s (words line) ≡ Ok t → after_lines (Ok t) (n + 1 + 1) ms ≡ all
 line-read s t n line ls ms all i e f =
     sym (ap (λ x. after_lines (at_line (n + 1) x) (n + 1 + 1) ms) f) ∙ ap (λ x. after_lines (Ok s) (n + 1) x) (sym e) ∙ i
 
-pub line-fault : (s : Reading) (f : WcnfFault) (n : ℕ) (line : List ℕ) (ls ms : List (List ℕ)) (all : Result Reading WcnfError) →
+pub line-fault : (s : WcnfReading) (f : WcnfFault) (n : ℕ) (line : List ℕ) (ls ms : List (List ℕ)) (all : Result WcnfReading WcnfError) →
     after_lines (Ok s) (n + 1) ls ≡ all → ls ≡ line ∷ ms → after_line s (words line) ≡ Err f → all ≡ Err (record { line = n + 1; fault = f })
 line-fault s f n line ls ms all i e g =
     sym i ∙ ap (λ x. after_lines (Ok s) (n + 1) x) e ∙ ap (λ x. after_lines (at_line (n + 1) x) (n + 1 + 1) ms) g

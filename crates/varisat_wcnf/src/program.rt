@@ -1,7 +1,7 @@
 //! What the program prints, and its status.
 ghost use Rattle.std.specs.Prelude.{◌≡◌, ◌-◌, ◌^◌, ◌<◌, ◌++◌, OnOk, IfOk, codes, if◌then◌else◌};
-ghost use Rattle.varisat_maxsat.specs.promises.Problems.{IsAnswer};
-ghost use Rattle.varisat_wcnf.specs.inside.Printed.{value_digits, solution_text, verdict_line, verdict_status, Prints, Answers, AnswersText};
+ghost use Rattle.varisat_maxsat.specs.promises.Problems.{IsOptimumOrSolution};
+ghost use Rattle.varisat_wcnf.specs.inside.Printed.{value_digits, solution_text, verdict_line, solution_status, PrintsText, PrintsAnswer, AnswersText};
 
 use crate::costs::optimize_printing;
 use crate::wcnf::parse;
@@ -55,7 +55,7 @@ fn solve_problem<A: Allocator + Copy, T: ProofTarget, E: Write>(
     err: &mut E,
 ) -> u8
     requires { (T.taken out.old).faults < 2 ^ 64 - 1 }
-    ensures { Answers problem.now (T.taken out.old) (T.taken out.new) result }
+    ensures { PrintsAnswer problem.now (T.taken out.old) (T.taken out.new) result }
 {
     match optimize_printing(alloc, problem, steps, out) {
         Ok(Ok(Some(solution))) => print_solution(alloc, &solution, out, err),
@@ -77,8 +77,8 @@ fn print_solution<A: Allocator + Copy, T: ProofTarget, E: Write>(
     err: &mut E,
 ) -> u8
     requires { (T.taken out.old).faults < 2 ^ 64 - 1 }
-    ensures { Prints (solution_text solution.now.is_optimum solution.now.values.items)
-        (verdict_status solution.now.is_optimum) (T.taken out.old) (T.taken out.new) result }
+    ensures { PrintsText (solution_text solution.now.is_optimum solution.now.values.items)
+        (solution_status solution.now.is_optimum) (T.taken out.old) (T.taken out.new) result }
 {
     match written(alloc, solution.is_optimum, &solution.values) {
         Ok(text) => print_answer(&text, status_of(solution.is_optimum), out, err),
@@ -115,7 +115,7 @@ fn verdict_of(is_optimum: bool) -> &'static [u8]
 
 /// The status of a solution.
 fn status_of(is_optimum: bool) -> u8
-    ensures { result ≡ verdict_status is_optimum }
+    ensures { result ≡ solution_status is_optimum }
 {
     if is_optimum {
         STATUS_OPTIMUM
@@ -144,7 +144,7 @@ fn digit_of(value: bool) -> u8
 /// Prints a text, and returns its status, or that of a fault where the target fails.
 fn print_answer<T: ProofTarget, E: Write>(text: &[u8], status: u8, out: &mut T, err: &mut E) -> u8
     requires { (T.taken out.old).faults < 2 ^ 64 - 1 }
-    ensures { Prints text.now status (T.taken out.old) (T.taken out.new) result }
+    ensures { PrintsText text.now status (T.taken out.old) (T.taken out.new) result }
 {
     match print_text(out, text) {
         Ok(()) => status,

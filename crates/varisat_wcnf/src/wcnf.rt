@@ -3,7 +3,7 @@ ghost use Rattle.std.specs.Prelude.{◌≡◌, ◌≤◌, ◌<◌, ◌^◌, ◌�
 ghost use Rattle.std.specs.List.{slice_split};
 ghost use Rattle.varisat_formula.specs.promises.Dimacs.{is_line_feed, is_blank, meaning, number};
 ghost use Rattle.varisat_maxsat.specs.promises.Problems.{Problem as Asked, with_hard, with_soft};
-ghost use Rattle.varisat_wcnf.specs.inside.Texts.{Reading, words, below_limit, clause_of, heading_by, top_of, heading_of, after_heading, after_clause, after_weight, after_line, is_hard, wcnf};
+ghost use Rattle.varisat_wcnf.specs.inside.Texts.{WcnfReading, words, below_limit, clause_of, heading_by, top_of, heading_of, after_heading, after_clause, after_weight, after_line, is_hard, wcnf};
 ghost use Rattle.varisat_wcnf.specs.declared.wcnf.WcnfFault.TheVariants.{OutOfMemory, End};
 
 use std::alloc::Allocator;
@@ -62,7 +62,7 @@ struct Reader<A: Allocator + Copy> {
 impl<A: Allocator + Copy> Model for Reader<A> {
     ghost use Rattle.varisat_wcnf.specs.inside.Texts as texts;
 
-    ghost Value = { texts.Reading };
+    ghost Value = { texts.WcnfReading };
 
     ghost view = { λ r. record { problem = r.problem; top = r.top } };
 }
@@ -332,7 +332,7 @@ fn is_hard(top: Option<u64>, weight: u64) -> bool
 
 /// The problem of a text.
 pub fn parse<A: Allocator + Copy>(text: &[u8], alloc: A) -> Result<Problem<A>, WcnfError>
-    ensures ok { IfOk result (λ p. (r : Reading) × (wcnf text.now ≡ Ok r) × (p ≡ r.problem)) }
+    ensures ok { IfOk result (λ p. (r : WcnfReading) × (wcnf text.now ≡ Ok r) × (p ≡ r.problem)) }
     ensures err { IfErr result (λ e. (e.fault ≡ OutOfMemory) ⊎ (wcnf text.now ≡ Err e)) }
 {
     let mut reader = Reader {

@@ -4,7 +4,7 @@ use Rattle.std.specs.List.{All, join_with_byte, slice_split}
 use Rattle.std.specs.declared.alloc.AllocError.{AllocError}
 use Rattle.varisat_theory.specs.promises.Literals.{Literal}
 use Rattle.varisat_literals.specs.promises.Numbers.{variable_text, literal_text}
-use Rattle.varisat_formula.specs.promises.Streams.{Taken}
+use Rattle.varisat_formula.specs.promises.Streams.{Taken, no_bytes}
 use Rattle.varisat_lines.specs.declared.format.ProofFormat.TheVariants.{Drat, BinaryDrat, Marked}
 use Rattle.varisat_names.specs.declared.config.ConfigField.{ConfigField}
 use Rattle.varisat_names.specs.declared.config.SolverConfigUpdate.{SolverConfigUpdate}
@@ -102,10 +102,6 @@ MeansUpdate text update =
 -- no two commands are spelled alike
 abbrev pub MeansOneCommand : Type 0
 MeansOneCommand = (text : List ℕ) (a b : Command) → MeansCommand text a → MeansCommand text b → a ≡ b
-
--- a target in memory to which nothing was written
-abbrev pub no_bytes : Taken
-no_bytes = record { bytes = []; faults = 0 }
 
 -- the command asks for the call: a proof is written to memory
 abbrev pub AsksFor : {S A : Type 0} → Call Taken S A → Command → Type 0

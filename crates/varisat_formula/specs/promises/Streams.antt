@@ -1,5 +1,5 @@
 -- How sources stand and what reading does to them, and what targets took.
-use Rattle.std.specs.Prelude.{◌≡◌, ℕ, zero, suc, ◌+◌, ◌-◌, ◌^◌, ◌≤◌, ◌⊎◌, min, max, List, ◌++◌, length, take, drop, nat_lt, Bool, true, false, if◌then◌else◌, Option, Some, Result, Ok, Err, MatchResult}
+use Rattle.std.specs.Prelude.{◌≡◌, ℕ, zero, suc, ◌+◌, ◌-◌, ◌^◌, ◌≤◌, ◌⊎◌, min, max, List, [], ◌++◌, length, take, drop, nat_lt, Bool, true, false, if◌then◌else◌, Option, Some, Result, Ok, Err, MatchResult}
 use Rattle.std.specs.Io.KnownBytes.{Consumes, IsAtEnd}
 
 -- the bytes that were given; those that are left, where they are known; how many pieces may still come; how many faults there
@@ -40,6 +40,10 @@ pub record HasEnded (t : Input) : Type 0 where
 pub record Taken : Type 0 where
   pub bytes : List ℕ
   pub faults : ℕ
+
+-- a target to which nothing was written
+abbrev pub no_bytes : Taken
+no_bytes = record { bytes = []; faults = 0 }
 
 -- the bytes that were taken; how many faults there were; what the writer behind the target holds, where that is known
 pub record Output : Type 0 where

@@ -2,7 +2,8 @@
 use Rattle.std.specs.Prelude.{◌≡◌, ℕ, ◌+◌, ◌*◌, ◌<◌, ◌≤◌, ◌↔◌, Bool, true, if◌then◌else◌, List, [], ◌∷◌, take, length, slice_index_or}
 use Rattle.varisat_theory.specs.promises.Membership.{◌∈◌}
 use Rattle.varisat_theory.specs.promises.Literals.{Literal, Clause, Assignment, variable_of, opposite, value, Satisfies, SatisfiesAll}
-use Rattle.varisat_maxsat.specs.promises.Problems.{Soft, cost, assignment_of}
+use Rattle.varisat_formula.specs.promises.Values.{assignment_of}
+use Rattle.varisat_maxsat.specs.promises.Problems.{Soft, cost}
 use Rattle.varisat_maxsat.specs.declared.charge.Charge.{Charge}
 use Rattle.varisat_maxsat.specs.declared.counter.Counter.{Counter}
 
@@ -25,23 +26,23 @@ abbrev pub AgreeBelow : ℕ → Assignment → Assignment → Type 0
 AgreeBelow n a b = (v : ℕ) → v < n → b v ≡ a v
 
 -- the literals' variables are below the count
-abbrev pub AreBelow : ℕ → List Literal → Type 0
-AreBelow n ls = (l : Literal) → l ∈ ls → variable_of l < n
+abbrev pub LiteralsAreBelow : ℕ → List Literal → Type 0
+LiteralsAreBelow n ls = (l : Literal) → l ∈ ls → variable_of l < n
 
 abbrev pub ChargesAreBelow : ℕ → List Charge → Type 0
 ChargesAreBelow n cs = (c : Charge) → c ∈ cs → variable_of c.literal < n
 
 abbrev pub ClausesAreBelow : ℕ → List Clause → Type 0
-ClausesAreBelow n P = (c : Clause) → c ∈ P → AreBelow n c
+ClausesAreBelow n P = (c : Clause) → c ∈ P → LiteralsAreBelow n c
 
 abbrev pub SoftAreBelow : ℕ → List Soft → Type 0
-SoftAreBelow n S = (s : Soft) → s ∈ S → AreBelow n s.clause
+SoftAreBelow n S = (s : Soft) → s ∈ S → LiteralsAreBelow n s.clause
 
 -- The weight was taken from the charges. What is left of them stands behind those that are kept, and their literals are pending.
 pub record TakesWeight (w : ℕ) (charges kept after : List Charge) (pending : List Literal) : Type 0 where
   pub same : (a : Assignment) → charged a kept + charged a charges ≡ charged a after + weighed a w pending
   pub below : (n : ℕ) → ChargesAreBelow n charges → ChargesAreBelow n kept → ChargesAreBelow n after
-  pub pending_below : (n : ℕ) → ChargesAreBelow n charges → AreBelow n pending
+  pub pending_below : (n : ℕ) → ChargesAreBelow n charges → LiteralsAreBelow n pending
   pub all : (c : Charge) → c ∈ charges → c.literal ∈ pending
 
 -- A charge was put behind others, or its weight is 0.
@@ -61,7 +62,7 @@ pub record Exchanges (charges : List Charge) (amount : ℕ) (after : List Charge
   pub below : (n : ℕ) → ChargesAreBelow n charges → ChargesAreBelow n after
 
 -- Of the charges some are left, and the others were given up.
-pub record IsParted (charges left given_up : List Charge) : Type 0 where
+pub record AreParted (charges left given_up : List Charge) : Type 0 where
   pub same : (a : Assignment) → charged a charges ≡ charged a left + charged a given_up
   pub left_below : (n : ℕ) → ChargesAreBelow n charges → ChargesAreBelow n left
   pub given_up_below : (n : ℕ) → ChargesAreBelow n charges → ChargesAreBelow n given_up
@@ -83,7 +84,7 @@ pub record Reduces (H : List Clause) (S : List Soft) (n m : ℕ) (P : List Claus
   pub soft_below : SoftAreBelow n S
   pub clauses_below : ClausesAreBelow m P
   pub charges_below : ChargesAreBelow m charges
-  pub pending_below : AreBelow m pending
+  pub pending_below : LiteralsAreBelow m pending
   pub lower : (a : Assignment) → SatisfiesAll a H →
       (b : Assignment) × AgreeBelow n a b × SatisfiesAll b P
       × (bound + charged b charges + weighed b w pending ≤ cost a S)

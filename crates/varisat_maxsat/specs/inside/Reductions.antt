@@ -4,7 +4,7 @@ use Rattle.varisat_theory.specs.promises.Literals.{Literal, Clause, Assignment, 
 use Rattle.varisat_client.specs.promises.Pasts.{Past, IsFoundModel, count}
 use Rattle.varisat_client.specs.inside.Clients.{Client, RepresentsPast}
 use Rattle.varisat_maxsat.specs.promises.Problems.{Problem, cost, Found, Improve, last_found}
-use Rattle.varisat_maxsat.specs.inside.Charges.{ClausesAreBelow, Exchanges, IsParted, Reduces, ReducesBelow, AreAssumed, IsPending}
+use Rattle.varisat_maxsat.specs.inside.Charges.{ClausesAreBelow, Exchanges, AreParted, Reduces, ReducesBelow, AreAssumed, IsPending}
 use Rattle.varisat_maxsat.specs.declared.charge.Charge.{Charge}
 use Rattle.varisat_maxsat.specs.declared.counter.Counter.{Counter}
 
@@ -61,12 +61,12 @@ pub record FindsLightly (charges after : List Charge) (P : List Clause) (h : Cli
 -- A search goes on for such a model.
 pub record SearchesOn (charges left given_up : List Charge) (P : List Clause) (h : Client) : Type 0 where
   pub ready : IsReadyWith P h
-  pub parted : IsParted charges left given_up
+  pub parted : AreParted charges left given_up
 
 -- more charges were given up
 abbrev pub KeepsParted : List Charge → List Charge → List Charge → List Charge → Type 0
 KeepsParted left given_up later more =
-    (charges : List Charge) → IsParted charges left given_up → IsParted charges later more
+    (charges : List Charge) → AreParted charges left given_up → AreParted charges later more
 
 -- The charges of a core were given up, or nothing satisfies the clauses.
 abbrev pub GivesUp : Bool → List Charge → List Charge → List Charge → List Charge → List Clause → Type 0
@@ -119,8 +119,8 @@ pub record ReducesToBelow (p : Problem) (r : Reduction) : Type 0 where
   pub reduces : ReducesBelow p.hard p.soft p.variables r.named past.clauses r.charges r.counters r.bound r.ceiling
 
 -- each problem that was brought down so still is
-abbrev pub Keeps : Reduction → Reduction → Type 0
-Keeps r s = (p : Problem) → ReducesToBelow p r → ReducesToBelow p s
+abbrev pub KeepsReductions : Reduction → Reduction → Type 0
+KeepsReductions r s = (p : Problem) → ReducesToBelow p r → ReducesToBelow p s
 
 -- A model was found of clauses to which the hard ones were brought down.
 pub record FindsSolution (p : Problem) (r : Reduction) : Type 0 where
@@ -135,9 +135,9 @@ pub record FindsSolution (p : Problem) (r : Reduction) : Type 0 where
   pub upper : (a : Assignment) → SatisfiesAll a past.clauses → SatisfiesAll a p.hard
 
 -- The hard clauses are satisfied by a model that was found, or no assignment satisfies them.
-abbrev pub IsDecided : Bool → Problem → Reduction → Type 0
-IsDecided true p r = ReducesTo p r × FindsSolution p r
-IsDecided false p r = IsSatisfiable p.hard → ⊥
+abbrev pub DecidesHard : Bool → Problem → Reduction → Type 0
+DecidesHard true p r = ReducesTo p r × FindsSolution p r
+DecidesHard false p r = IsSatisfiable p.hard → ⊥
 
 -- A model was found that may cost less, or none costs less than the ceiling.
 abbrev pub IsImproved : Bool → Problem → Reduction → Type 0

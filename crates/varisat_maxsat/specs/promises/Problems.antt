@@ -1,7 +1,7 @@
 -- What is asked of a solver, and what its answer says.
-use Rattle.std.specs.Prelude.{◌≡◌, ℕ, ◌+◌, ◌≤◌, ◌<◌, Option, Some, None, Bool, true, false, if◌then◌else◌, List, [], ◌∷◌, ◌++◌, length, slice_index_or}
-use Rattle.std.specs.List.{list_any}
-use Rattle.varisat_theory.specs.promises.Literals.{Clause, Assignment, value, SatisfiesAll}
+use Rattle.std.specs.Prelude.{◌≡◌, ℕ, ◌+◌, ◌≤◌, ◌<◌, Option, Some, None, Bool, true, false, if◌then◌else◌, List, [], ◌∷◌, ◌++◌, length}
+use Rattle.varisat_theory.specs.promises.Literals.{Clause, Assignment, SatisfiesAll}
+use Rattle.varisat_formula.specs.promises.Values.{assignment_of, is_satisfied}
 
 -- A soft clause, and what an assignment costs that does not satisfy it.
 pub record Soft : Type 0 where
@@ -35,18 +35,10 @@ with_hard c p = record p { hard = p.hard ++ c ∷ [] }
 abbrev pub with_soft : ℕ → Clause → Problem → Problem
 with_soft w c p = record p { soft = p.soft ++ record { weight = w; clause = c } ∷ [] }
 
--- whether a literal of the clause is true
-abbrev pub is_satisfied : Assignment → Clause → Bool
-is_satisfied a c = list_any (value a) c
-
 -- the sum of the weights of the clauses that the assignment does not satisfy
 abbrev pub cost : Assignment → List Soft → ℕ
 cost a [] = 0
 cost a (s ∷ ss) = (if is_satisfied a s.clause then 0 else s.weight) + cost a ss
-
--- the assignment that a list of values writes
-abbrev pub assignment_of : List Bool → Assignment
-assignment_of values v = slice_index_or values v false
 
 -- The values satisfy the hard clauses at this cost.
 pub record IsSolution (p : Problem) (c : ℕ) (values : List Bool) : Type 0 where
@@ -60,9 +52,9 @@ pub record IsOptimum (p : Problem) (c : ℕ) (values : List Bool) : Type 0 where
   pub least : (a : Assignment) → SatisfiesAll a p.hard → c ≤ cost a p.soft
 
 -- an optimum, or where it is not known to be one a solution
-abbrev pub IsAnswer : Bool → Problem → ℕ → List Bool → Type 0
-IsAnswer true = IsOptimum
-IsAnswer false = IsSolution
+abbrev pub IsOptimumOrSolution : Bool → Problem → ℕ → List Bool → Type 0
+IsOptimumOrSolution true = IsOptimum
+IsOptimumOrSolution false = IsSolution
 
 -- A solution that was handed on: what it costs, and values.
 pub record Found : Type 0 where

@@ -25,11 +25,11 @@ abbrev pub below : ℕ → List ℕ
 below zero = []
 below (suc n) = n ∷ below n
 
-length-below : (n : ℕ) → length (below n) ≡ n
+pub length-below : (n : ℕ) → length (below n) ≡ n
 length-below zero = refl
 length-below (suc n) = ap suc (length-below n)
 
-in-below : (n x : ℕ) → x < n → x ∈ below n
+pub in-below : (n x : ℕ) → x < n → x ∈ below n
 in-below zero x h = absurd (omega arith)
 in-below (suc n) x h = ⊎_elim (λ e. inl e) (λ k. inr (in-below n x k)) (split n x h)
   where

@@ -1,17 +1,13 @@
 -- The kept clauses of two literals, each once.
 use Rattle.std.proofs.Common.{◌≡◌, ◌≢◌, ℕ, zero, suc, ◌+◌, ◌<◌, ◌≤◌, Bool, true, false, nat_lt, List, [], ◌∷◌, ◌++◌, length, get_or, inl, inr, ⊎_elim, refl, sym, ap, ◌∙◌, subst, arith}
 use Rattle.std.specs.Prelude.{cond, replicate}
-use Rattle.std.proofs.lemmas.Bool.{cases_lt}
+use Rattle.std.proofs.lemmas.Bool.{cases_lt, lt-ltb}
 use Rattle.varisat_theory.specs.promises.Membership.{◌∈◌, SameSet}
 use Rattle.varisat_theory.specs.promises.Literals.{Literal, Clause, opposite, variable_of}
 use Rattle.varisat_theory.proofs.clauses.Members.{∈-append_left, ∈-append_right, ∈-append_cases}
-use Rattle.varisat_theory.proofs.clauses.Values.{opposite_twice}
+use Rattle.varisat_theory.proofs.clauses.Values.{opposite_twice, variable-opposite}
 use Rattle.varisat_clause.specs.Stored.{literals_of}
 use Rattle.varisat_prop.specs.View.{View, pairs_with, pairs_from, kept, implied_by, WellFormed}
-use Rattle.varisat_prop.proofs.trails.LiteralValues.{variable-opposite}
-
-pub is-less : (a b : ℕ) → a < b → nat_lt a b ≡ true
-is-less a b h = grind arith
 
 pub is-not-less : (a b : ℕ) → (a < b → ⊥) → nat_lt a b ≡ false
 is-not-less a b h = grind arith
@@ -31,7 +27,7 @@ pair-with x (m ∷ ms) c h = go (nat_lt x m) h (pair-with x ms c)
 pub pair-there : (x : Literal) (ms : List Literal) (m : Literal) → x < m → m ∈ ms → (x ∷ m ∷ []) ∈ pairs_with x ms
 pair-there x [] m l h = absurd h
 pair-there x (n ∷ ms) m l (inl e) = subst (λ b. (x ∷ m ∷ []) ∈ cond b ((x ∷ n ∷ []) ∷ pairs_with x ms) (pairs_with x ms))
-    (sym (is-less x n (subst (λ y. x < y) e l))) (inl (ap (λ y. x ∷ y ∷ []) e))
+    (sym (lt-ltb x n (subst (λ y. x < y) e l))) (inl (ap (λ y. x ∷ y ∷ []) e))
 pair-there x (n ∷ ms) m l (inr h) = go (nat_lt x n) (pair-there x ms m l h)
   where
     go : (b : Bool) → (x ∷ m ∷ []) ∈ pairs_with x ms → (x ∷ m ∷ []) ∈ cond b ((x ∷ n ∷ []) ∷ pairs_with x ms) (pairs_with x ms)

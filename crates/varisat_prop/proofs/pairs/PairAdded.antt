@@ -2,7 +2,7 @@
 use Rattle.std.proofs.Common.{◌≡◌, ◌≢◌, ℕ, zero, suc, ◌+◌, ◌<◌, ◌≤◌, Bool, true, false, nat_lt, List, [], ◌∷◌, ◌++◌, length, get_or, ◌⊎◌, inl, inr, ⊎_elim, refl, sym, ap, ◌∙◌, subst, arith, get_or-set_same, get_or-set_other, length-set, length-append}
 use Rattle.std.specs.Prelude.{cond}
 use Rattle.std.proofs.lemmas.List.{get_or_append_left, append_assoc}
-use Rattle.std.proofs.lemmas.Bool.{cases_lt}
+use Rattle.std.proofs.lemmas.Bool.{cases_lt, lt-ltb}
 use Rattle.varisat_theory.specs.promises.Membership.{◌∈◌, SameSet, IsDistinct}
 use Rattle.varisat_theory.specs.promises.Literals.{Literal, Clause, opposite, variable_of}
 use Rattle.varisat_theory.proofs.clauses.Members.{equal_or_not, ∈-append_left, ∈-append_right, ∈-append_cases}
@@ -14,7 +14,7 @@ use Rattle.varisat_prop.specs.View.{View, pairs_with, pairs_from, kept, clause_a
 use Rattle.varisat_prop.specs.Changes.{enqueued}
 use Rattle.varisat_prop.specs.Pairs.{with_implied, with_pair, Inserts, AddsPair}
 use Rattle.varisat_prop.specs.Watches.{Watches, IsCovered, IsImpliedTo, IsPropagated}
-use Rattle.varisat_prop.proofs.pairs.KeptPairs.{is-less, is-not-less, turned}
+use Rattle.varisat_prop.proofs.pairs.KeptPairs.{is-not-less, turned}
 use Rattle.varisat_prop.proofs.trails.TrailExtend.{get_or-last}
 use Rattle.varisat_prop.proofs.watching.WatchKept.{propagated-enqueued}
 use Rattle.varisat_prop.proofs.views.WellFormedChanges.{MayBeKept, well-kept}
@@ -48,7 +48,7 @@ module _ (B : List (List Literal)) (x m : Literal) (inside : x < length B) where
 
 -- 2. The clauses of two literals after it: one is inserted, or none.
 with-last : (x : Literal) (ms : List Literal) (m : Literal) → x < m → pairs_with x (ms ++ m ∷ []) ≡ pairs_with x ms ++ (x ∷ m ∷ []) ∷ []
-with-last x [] m l = rw (is-less x m l) refl
+with-last x [] m l = rw (lt-ltb x m l) refl
 with-last x (n ∷ ms) m l = go (nat_lt x n) (with-last x ms m l)
   where
     go : (b : Bool) → pairs_with x (ms ++ m ∷ []) ≡ pairs_with x ms ++ (x ∷ m ∷ []) ∷ [] →

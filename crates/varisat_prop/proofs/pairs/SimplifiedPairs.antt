@@ -11,7 +11,7 @@ use Rattle.varisat_prop.specs.Pairs.{with_pair}
 use Rattle.varisat_prop.specs.Simplified.{is_unassigned, are_unassigned, unassigned_implied, unassigned_from, without_assigned}
 use Rattle.varisat_prop.proofs.pairs.KeptPairs.{implied-range}
 use Rattle.varisat_prop.proofs.pairs.PairAdded.{adds-pair, back-more, other-more}
-use Rattle.varisat_prop.proofs.trails.LiteralValues.{variable-opposite}
+use Rattle.varisat_theory.proofs.clauses.Values.{variable-opposite}
 
 -- 1. Which elements a filter leaves.
 pub filter-∈ : {X : Type 0} (p : X → Bool) (xs : List X) (x : X) → x ∈ xs → p x ≡ true → x ∈ filter p xs

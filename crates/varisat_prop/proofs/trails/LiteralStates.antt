@@ -6,9 +6,9 @@ use Rattle.std.specs.Option.{option_map}
 use Rattle.varisat_theory.proofs.clauses.Padded.{padded}
 use Rattle.varisat_theory.specs.promises.Literals.{Literal, variable_of, opposite}
 use Rattle.varisat_theory.proofs.clauses.Members.{equal_or_not}
-use Rattle.varisat_theory.proofs.clauses.Values.{parity}
+use Rattle.varisat_theory.proofs.clauses.Values.{parity, variable-opposite}
 use Rattle.varisat_literals.specs.promises.Numbers.{polarity_of}
-use Rattle.varisat_prop.proofs.trails.LiteralValues.{variable-opposite, polarity-opposite}
+use Rattle.varisat_prop.proofs.trails.LiteralValues.{polarity-opposite}
 use Rattle.varisat_prop.specs.Parts.{IsMadeTrue, value_in, literal_value, negated, AreValuesOf}
 use Rattle.varisat_prop.specs.declared.prop.lit_value.LitValue.{LitValue}
 use Rattle.varisat_prop.specs.declared.prop.lit_value.LitValue.TheVariants as lit_value

@@ -1,41 +1,25 @@
 -- Literals, and the values of their variables.
-use Rattle.std.proofs.Common.{◌≡◌, ℕ, zero, suc, ◌%◌, ◌<◌, Bool, true, false, not, Option, Some, None, List, [], ◌∷◌, ◌⊎◌, inl, inr, ⊎_elim, length, get_or, set, refl, sym, ap, ◌∙◌, arith, get_or-set_same, get_or-set_other}
-use Rattle.varisat_theory.specs.promises.Literals.{Literal, variable_of, opposite}
+use Rattle.std.proofs.Common.{◌≡◌, ℕ, zero, suc, ◌+◌, ◌*◌, ◌%◌, ◌<◌, Bool, true, false, not, Option, Some, None, List, [], ◌∷◌, ◌⊎◌, inl, inr, ⊎_elim, length, get_or, set, refl, sym, ap, ◌∙◌, arith, get_or-set_same, get_or-set_other, eq-eqb, ne_eqb}
+use Rattle.varisat_theory.specs.promises.Literals.{Literal, variable_of, literal_of, opposite}
 use Rattle.varisat_theory.proofs.clauses.Members.{equal_or_not}
-use Rattle.varisat_theory.proofs.clauses.Values.{parity}
+use Rattle.varisat_theory.proofs.clauses.Values.{even_odd, odd_even, parity, same_or_opposite, variable-opposite}
 use Rattle.varisat_literals.specs.promises.Numbers.{polarity_of}
 use Rattle.varisat_prop.specs.Parts.{IsMadeTrue}
-
-pub same-variable : (l m : Literal) → variable_of l ≡ variable_of m → (l ≡ m) ⊎ (l ≡ opposite m)
-unfolding opposite
-same-variable l m e = ⊎_elim inl (λ n. inr (omega (arith, e, n))) (equal_or_not l m)
-
-pub variable-opposite : (l : Literal) → variable_of (opposite l) ≡ variable_of l
-unfolding opposite
-variable-opposite l = omega arith
-
-pub own-opposite : (l : Literal) → opposite l ≡ l → ⊥
-unfolding opposite
-own-opposite l e = omega arith
-
-even-odd : (l : ℕ) → l % 2 ≡ 0 → opposite l % 2 ≡ 1
-unfolding opposite
-even-odd l h = omega arith
-
-odd-even : (l : ℕ) → l % 2 ≡ 1 → opposite l % 2 ≡ 0
-unfolding opposite
-odd-even l h = omega arith
 
 pub polarity-opposite : (l : Literal) → polarity_of (opposite l) ≡ not (polarity_of l)
 polarity-opposite l =
     ⊎_elim
-    (λ h. rw (even-odd l h, h) refl)
-    (λ h. rw (odd-even l h, h) refl)
+    (λ h. rw (even_odd l h, h) refl)
+    (λ h. rw (odd_even l h, h) refl)
     (parity l)
+
+pub polarity-literal : (v : ℕ) (b : Bool) → polarity_of (literal_of v b) ≡ b
+polarity-literal v true = eq-eqb ((2 * v) % 2) 0 (omega arith)
+polarity-literal v false = ne_eqb ((2 * v + 1) % 2) 0 (λ e. absurd (omega (arith, e)))
 
 -- a variable and a polarity give the literal
 pub same-literal : (l m : Literal) → variable_of l ≡ variable_of m → polarity_of l ≡ polarity_of m → l ≡ m
-same-literal l m e f = ⊎_elim (λ g. g) (λ g. absurd (differ (polarity_of m) (sym f ∙ ap polarity_of g ∙ polarity-opposite m))) (same-variable l m e)
+same-literal l m e f = ⊎_elim (λ g. g) (λ g. absurd (differ (polarity_of m) (sym f ∙ ap polarity_of g ∙ polarity-opposite m))) (same_or_opposite l m e)
   where
     differ : (b : Bool) → b ≡ not b → ⊥
     differ true e = cc

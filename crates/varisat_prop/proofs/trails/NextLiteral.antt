@@ -15,7 +15,7 @@ use Rattle.varisat_prop.specs.Parts.{TrailParts}
 use Rattle.varisat_prop.specs.View.{View, IsTrueIn, implied_by, literal_at, WellFormed}
 use Rattle.varisat_prop.specs.Looks.{Propagates}
 use Rattle.varisat_prop.specs.Watches.{Watches, watches_of, with_watches, WatchesHoldTo, IsImpliedTo, IsWatched}
-use Rattle.varisat_prop.specs.QueueSteps.{SearchParts, view_of_parts, KeepsParts, IsNext, GoesOnWith, EndsPropagation, WatchesHoldNext, IsNextPropagated}
+use Rattle.varisat_prop.specs.QueueSteps.{SearchParts, view_of_parts, KeepsUnseen, IsNext, GoesOnWith, EndsPropagation, WatchesHoldNext, IsNextPropagated}
 use Rattle.varisat_prop.proofs.trails.LiteralValues.{made-inside}
 use Rattle.varisat_prop.proofs.trails.TrailValues.{trail-short}
 use Rattle.varisat_prop.proofs.views.ViewGrowth.{grows-longer, literal-stays}
@@ -60,7 +60,7 @@ module _ {W : Watches} {s : View} {l : Literal} (n : IsNext W s l) where
 
 -- clauses of two literals were propagated
 module _ {W : Watches} {p q : SearchParts} {l : Literal} (n : IsNext W (view_of_parts p) l) (g : Propagates (view_of_parts p) (view_of_parts q))
-    (k : KeepsParts p q) (same : live_clauses q.store ≡ live_clauses p.store) where
+    (k : KeepsUnseen p q) (same : live_clauses q.store ≡ live_clauses p.store) where
   pub pairs-go : GoesOnWith p q W
   pairs-go = record {
     propagates = g;
@@ -146,7 +146,7 @@ next-after {p = p} {q = q} g n = record {
   watched = g.watched;
 }
 
-pub goes-to : {V : Watches} {p q : SearchParts} {l : Literal} → KeepsParts p q → Propagates (view_of_parts p) (view_of_parts q) →
+pub goes-to : {V : Watches} {p q : SearchParts} {l : Literal} → KeepsUnseen p q → Propagates (view_of_parts p) (view_of_parts q) →
     IsNext V (view_of_parts q) l → GoesOnWith p q V
 goes-to k g n = record { propagates = g; keeps = k; watched = n.watched }
 

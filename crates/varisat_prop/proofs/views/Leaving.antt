@@ -2,6 +2,7 @@
 use Rattle.std.proofs.Common.{◌≡◌, ℕ, zero, suc, ◌≤◌, Bool, true, false, not, List, [], ◌∷◌, length, get_or, set, take, refl, sym, ap, ◌∙◌, arith}
 use Rattle.std.proofs.lemmas.List.Filters.{length-filter_both}
 use Rattle.std.specs.Prelude.{if◌then◌else◌}
+use Rattle.std.proofs.lemmas.Bool.{not-true}
 use Rattle.varisat_theory.specs.promises.Membership.{◌∈◌}
 use Rattle.varisat_theory.specs.promises.Literals.{Literal, variable_of}
 use Rattle.varisat_prop.specs.Parts.{TrailParts}
@@ -17,10 +18,6 @@ pub trail-left : (t : TrailParts) (gone : List Bool) (ls : List Literal) (q : �
 trail-left t gone ls q e a =
     ap (λ (x : ℕ). record { literals = ls; queue_head = x; decisions = t.decisions }) a
     ∙ ap (λ (x : List Literal). record { literals = x; queue_head = length x; decisions = t.decisions }) e
-
-not-true : (b : Bool) → not b ≡ true → b ≡ false
-not-true true e = absurd (let f : false ≡ true = e in cc)
-not-true false e = refl
 
 -- a literal that stays was there, and its variable doesn't leave
 pub staying-was : (gone : List Bool) (ls : List Literal) (l : Literal) → l ∈ staying gone ls → (l ∈ ls) × (leaves gone (variable_of l) ≡ false)

@@ -4,14 +4,14 @@ use Rattle.varisat_theory.specs.promises.Membership.{◌∈◌, IsDistinct}
 use Rattle.varisat_theory.specs.promises.Literals.{Literal, Clause, opposite, variable_of}
 use Rattle.varisat_theory.proofs.clauses.Members.{∈-append_cases}
 use Rattle.varisat_theory.proofs.clauses.Places.{∈-get_or}
-use Rattle.varisat_theory.proofs.clauses.Values.{opposite_twice}
+use Rattle.varisat_theory.proofs.clauses.Values.{opposite_twice, variable-opposite}
 use Rattle.varisat_clause.specs.Stored.{StoredClause, literals_of, IsClauseRef, AreRising}
 use Rattle.varisat_prop.specs.declared.prop.graph.Reason.TheVariants as reason
 use Rattle.varisat_prop.specs.View.{View, pairs_from, kept, clause_at, literal_at, node_at, IsReason, WellFormed, PropagatedBeforeDecisions}
 use Rattle.varisat_prop.specs.Watches.{Watches, watches_of, literal_in, WatchesHoldTo, IsImpliedTo, IsPropagated}
 use Rattle.varisat_prop.specs.Simplified.{is_unassigned, are_unassigned}
 use Rattle.varisat_prop.proofs.pairs.KeptPairs.{pair-in, implied-kept}
-use Rattle.varisat_prop.proofs.trails.LiteralValues.{variable-opposite, none-made}
+use Rattle.varisat_prop.proofs.trails.LiteralValues.{none-made}
 use Rattle.varisat_prop.proofs.pairs.SimplifiedPairs.{UnassignedPairs, unassigned-none, all-unassigned}
 use Rattle.varisat_prop.proofs.views.WellFormedChanges.{MayBeKept, kept-here, well-kept}
 

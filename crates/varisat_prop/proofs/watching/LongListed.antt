@@ -17,7 +17,7 @@ use Rattle.varisat_clause.specs.Stored.{IsClauseRef}
 use Rattle.varisat_clause.proofs.StoredClauses.{reordered-at, reordered-place, reordered-place-back}
 use Rattle.varisat_prop.specs.Watches.{Watches, watches_of, with_watches, literal_in, IsWatchedBy, IsKnownWatch, NameOnce, HasWatch, IsSatisfied, WatchesHoldTo, IsWatched}
 use Rattle.varisat_prop.specs.Visits.{IsVisited, IsVisit}
-use Rattle.varisat_prop.specs.QueueSteps.{SearchParts, view_of_parts, KeepsParts, IsNext, GoesOnWith, IsWatchOf, IsVisitedAs, with_lists}
+use Rattle.varisat_prop.specs.QueueSteps.{SearchParts, view_of_parts, KeepsUnseen, IsNext, GoesOnWith, IsWatchOf, IsVisitedAs, with_lists}
 use Rattle.varisat_prop.specs.Changes.{IsConflicting}
 use Rattle.varisat_prop.proofs.trails.PropagateQueue.{kept-all}
 use Rattle.varisat_prop.proofs.watching.WatchesOnce.{once-dropped, once-apart, once-moved, once-gets}
@@ -285,7 +285,7 @@ pub record Visiting (p q : SearchParts) (W V : Watches) (l : Literal) (xs : List
   pub order : a ≤ r
   pub within : r ≤ length xs
   pub lists : length V.lists ≡ length W.lists
-  pub keeps : KeepsParts p q
+  pub keeps : KeepsUnseen p q
 
 pub visiting-start : (p : SearchParts) (W : Watches) (l : Literal) (xs : List Watch) → l < length W.lists →
     IsNext (with_watches W l xs) (view_of_parts p) l → Visiting p p W W l xs 0 0

@@ -25,7 +25,7 @@ use Rattle.varisat_prop.specs.declared.prop.long.Visit.{Visit}
 use Rattle.varisat_prop.specs.declared.prop.long.Visit.TheVariants as visit
 use Rattle.varisat_prop.specs.Watches.{Watches, watches_of, with_watches, literal_in, IsWatchedBy, HasWatch, IsSatisfied, IsRearranged}
 use Rattle.varisat_prop.specs.Visits.{IsPair, IsFound, AddsWatches, IsVisited, IsVisit}
-use Rattle.varisat_prop.specs.QueueSteps.{SearchParts, view_of_parts, KeepsParts, IsWatchOf, IsReorderedAt, IsVisitedAs, with_lists}
+use Rattle.varisat_prop.specs.QueueSteps.{SearchParts, view_of_parts, KeepsUnseen, IsWatchOf, IsReorderedAt, IsVisitedAs, with_lists}
 use Rattle.varisat_clause.specs.Stored.{StoredClause, IsClauseRef, literals_at}
 use Rattle.varisat_clause.specs.Stores.{Store}
 use Rattle.varisat_clause.specs.Collected.{live_clauses}
@@ -402,7 +402,7 @@ module _ (p : SearchParts) {W : Watches} {l : Literal} {w : Watch} (g : IsWatchO
           (h, omega (arith, h, k), implied-free s W i (b r) l g.well g.place g.is_true x (turn r))
 
       pub code-implied : (t : SearchParts) → view_of_parts t ≡ enqueued (view_of_parts (record p { store = store })) x (reason.Long i) →
-          KeepsParts p t → IsVisitedAs (with_lists p W) (with_lists t W) l i (visit.Keep x)
+          KeepsUnseen p t → IsVisitedAs (with_lists p W) (with_lists t W) l i (visit.Keep x)
       code-implied t e k =
           let f = found-implied s W i (b r) l g.well g.place g.is_true x (turn r) in
           let h = subst (λ v. IsVisited s v W W l i × IsVisit v l i (visit.Keep x))

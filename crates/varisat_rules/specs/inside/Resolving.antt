@@ -6,7 +6,7 @@ use Rattle.varisat_rules.specs.declared.resolve.Sign.{Sign}
 use Rattle.varisat_rules.specs.declared.resolve.Sign.TheVariants.{Absent, Same, Opposite}
 use Rattle.varisat_rules.specs.declared.resolve.Relation.{Relation}
 use Rattle.varisat_rules.specs.declared.resolve.Relation.TheVariants.{Nothing, Subsumes, Strengthens}
-use Rattle.varisat_database.specs.Databases.{State, clause_at, IsLive}
+use Rattle.varisat_database.specs.Databases.{DatabaseState, clause_at, IsLive}
 
 -- the literal occurs so in the clause
 abbrev pub OccursAs : Clause → Literal → Sign → Type 0
@@ -21,7 +21,7 @@ Relates c d Subsumes = c ⊆ d
 Relates c d (Strengthens l) = (l ∈ c) × ((m : Literal) → m ∈ c → (m ≡ l) ⊎ ((m ∈ d) × (m ≡ opposite l → ⊥)))
 
 -- the same of two places, which are not one
-abbrev pub Compares : State → ℕ → ℕ → Relation → Type 0
+abbrev pub Compares : DatabaseState → ℕ → ℕ → Relation → Type 0
 Compares s j i Nothing = Unit {0}
 Compares s j i Subsumes = IsLive s j × (j ≡ i → ⊥) × (clause_at s j ⊆ clause_at s i)
 Compares s j i (Strengthens l) =
@@ -41,13 +41,13 @@ pub record Resolves (c d : Clause) (l : Literal) (e : Clause) : Type 0 where
   pub right : (m : Literal) → m ∈ d → (m ≡ opposite l) ⊎ (m ∈ e)
 
 -- a live clause has the literal alone
-abbrev pub IsFixed : State → Literal → Type 0
-IsFixed s l = (j : ℕ) × IsLive s j × (clause_at s j ≡ l ∷ [])
+abbrev pub IsLiveUnit : DatabaseState → Literal → Type 0
+IsLiveUnit s l = (j : ℕ) × IsLive s j × (clause_at s j ≡ l ∷ [])
 
 -- the clause without literals whose opposites are fixed
-pub record LeavesOutFalse (s : State) (c e : Clause) : Type 0 where
+pub record LeavesOutFalse (s : DatabaseState) (c e : Clause) : Type 0 where
   pub part : (m : Literal) → m ∈ e → m ∈ c
-  pub whole : (m : Literal) → m ∈ c → (m ∈ e) ⊎ IsFixed s (opposite m)
+  pub whole : (m : Literal) → m ∈ c → (m ∈ e) ⊎ IsLiveUnit s (opposite m)
 
 -- the clauses have another literal and its opposite
 abbrev pub Clashes : Clause → Clause → Literal → Type 0

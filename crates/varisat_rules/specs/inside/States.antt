@@ -3,12 +3,13 @@ use Rattle.std.specs.Prelude.{◌≡◌, ℕ, ◌/◌, ◌<◌, ◌≤◌, Bool,
 use Rattle.varisat_theory.specs.promises.Membership.{◌∈◌}
 use Rattle.varisat_theory.specs.promises.Literals.{Literal, Clause, Assignment, opposite, value, Satisfies, SatisfiesAll}
 use Rattle.varisat_theory.specs.promises.Derivations.{SpeakOf}
-use Rattle.varisat_rules.specs.promises.Stacks.{assignment_of, extended, avoids}
-use Rattle.varisat_database.specs.Databases.{State, clause_at, IsLive}
+use Rattle.varisat_formula.specs.promises.Values.{assignment_of}
+use Rattle.varisat_rules.specs.promises.Stacks.{extended, avoids}
+use Rattle.varisat_database.specs.Databases.{DatabaseState, clause_at, IsLive}
 use Rattle.varisat_rules.specs.promises.Leading.{LeadsTo, IsNamedBy, AreNamedBy}
 
 -- the literal's variable may be resolved away
-abbrev pub IsThawed : State → Literal → Type 0
+abbrev pub IsThawed : DatabaseState → Literal → Type 0
 IsThawed s l = slice_index_or s.frozen (l / 2) false ≡ false
 
 -- the clauses that are flagged, in order
@@ -19,15 +20,15 @@ flagged (true ∷ bs) (c ∷ cs) = c ∷ flagged bs cs
 flagged (false ∷ bs) (c ∷ cs) = flagged bs cs
 
 -- the live clauses
-abbrev pub live_clauses : State → List Clause
+abbrev pub live_clauses : DatabaseState → List Clause
 live_clauses s = flagged s.live s.clauses
 
 -- each live clause has a true literal
-abbrev pub Models : Assignment → State → Type 0
+abbrev pub Models : Assignment → DatabaseState → Type 0
 Models a s = (k : ℕ) → IsLive s k → Satisfies a (clause_at s k)
 
 -- What the state says of the clauses P that it was made of.
-pub record Reduces (P : List Clause) (s : State) : Type 0 where
+pub record DerivesFrom (P : List Clause) (s : DatabaseState) : Type 0 where
   -- each clause is live or not
   pub even : length s.live ≡ length s.clauses
   -- what satisfies them satisfies what is live
@@ -44,14 +45,14 @@ pub record Reduces (P : List Clause) (s : State) : Type 0 where
   pub thawed : (c : Clause) → c ∈ s.stack → avoids s.frozen c ≡ true
 
 -- What a state becomes says what it said, and has its clauses first.
-pub record Becomes (s t : State) : Type 0 where
+pub record IsLaterState (s t : DatabaseState) : Type 0 where
   pub more : (rest : List Clause) × (t.clauses ≡ s.clauses ++ rest)
   pub count : t.var_count ≡ s.var_count
   pub frozen : t.frozen ≡ s.frozen
-  pub reduces : (P : List Clause) → Reduces P s → Reduces P t
+  pub reduces : (P : List Clause) → DerivesFrom P s → DerivesFrom P t
 
 -- the assignment satisfies the live clauses without the literal and its opposite
-abbrev pub ModelsRest : Literal → Assignment → State → Type 0
+abbrev pub ModelsRest : Literal → Assignment → DatabaseState → Type 0
 ModelsRest l a s =
     (k : ℕ) → IsLive s k → (l ∈ clause_at s k → ⊥) → (opposite l ∈ clause_at s k → ⊥) → Satisfies a (clause_at s k)
 
@@ -60,7 +61,7 @@ abbrev pub SatisfiesBut : Literal → Assignment → Clause → Type 0
 SatisfiesBut l a c = (m : Literal) × (m ∈ c) × (m ≡ l → ⊥) × (value a m ≡ true)
 
 -- the places are those of the live clauses with the literal, none of which has the opposite too
-pub record Collects (s : State) (l : Literal) (places : List ℕ) : Type 0 where
+pub record Collects (s : DatabaseState) (l : Literal) (places : List ℕ) : Type 0 where
   pub even : length s.live ≡ length s.clauses
   pub all : (k : ℕ) → IsLive s k → l ∈ clause_at s k → k ∈ places
   pub live : (k : ℕ) → k ∈ places → IsLive s k
@@ -68,29 +69,29 @@ pub record Collects (s : State) (l : Literal) (places : List ℕ) : Type 0 where
   pub without : (k : ℕ) → k ∈ places → opposite l ∈ clause_at s k → ⊥
 
 -- what satisfies the rest satisfies one of the two clauses by another literal
-abbrev pub IsResolved : State → Literal → ℕ → ℕ → Type 0
-IsResolved s l i j =
+abbrev pub IsPairResolved : DatabaseState → Literal → ℕ → ℕ → Type 0
+IsPairResolved s l i j =
     (a : Assignment) → ModelsRest l a s → SatisfiesBut l a (clause_at s i) ⊎ SatisfiesBut (opposite l) a (clause_at s j)
 
 -- The clauses with the literal are resolved with those with its opposite: all pairs of the first x, and the first y of the next.
-pub record Adds (s t : State) (l : Literal) (w g : List ℕ) (x y : ℕ) : Type 0 where
-  pub becomes : Becomes s t
+pub record ResolvesPairs (s t : DatabaseState) (l : Literal) (w g : List ℕ) (x y : ℕ) : Type 0 where
+  pub becomes : IsLaterState s t
   pub ones : Collects t l w
   pub others : Collects t (opposite l) g
-  pub done : (i j : ℕ) → i ∈ take x w → j ∈ g → IsResolved t l i j
-  pub begun : (j : ℕ) → j ∈ take y g → IsResolved t l (slice_index_or w x 0) j
+  pub done : (i j : ℕ) → i ∈ take x w → j ∈ g → IsPairResolved t l i j
+  pub begun : (j : ℕ) → j ∈ take y g → IsPairResolved t l (slice_index_or w x 0) j
 
 -- The clauses with the literal are saved and removed, up to the one at index x.
-pub record Saves (s t : State) (l : Literal) (w g : List ℕ) (x : ℕ) : Type 0 where
-  pub becomes : Becomes s t
+pub record SavesClauses (s t : DatabaseState) (l : Literal) (w g : List ℕ) (x : ℕ) : Type 0 where
+  pub becomes : IsLaterState s t
   pub others : Collects t (opposite l) g
   pub ones : (k : ℕ) → IsLive t k → l ∈ clause_at t k → (y : ℕ) × (x ≤ y) × (y < length w) × (slice_index_or w y 0 ≡ k)
   pub each : (k : ℕ) → k ∈ w → l ∈ clause_at t k
   pub apart : (k : ℕ) → k ∈ w → opposite l ∈ clause_at t k → ⊥
-  pub pairs : (i j : ℕ) → i ∈ w → j ∈ g → IsResolved t l i j
+  pub pairs : (i j : ℕ) → i ∈ w → j ∈ g → IsPairResolved t l i j
 
 -- The literal was saved, and of the live clauses only such with it were removed.
-pub record Drops (s t : State) (m : Literal) : Type 0 where
+pub record Drops (s t : DatabaseState) (m : Literal) : Type 0 where
   pub count : t.var_count ≡ s.var_count
   pub frozen : t.frozen ≡ s.frozen
   pub same : t.clauses ≡ s.clauses
@@ -98,4 +99,4 @@ pub record Drops (s t : State) (m : Literal) : Type 0 where
   pub even : length t.live ≡ length s.live
   pub fewer : (k : ℕ) → IsLive t k → IsLive s k
   pub kept : (k : ℕ) → IsLive s k → (m ∈ clause_at s k → ⊥) → IsLive t k
-  pub tells : (P : List Clause) → Reduces P s → LeadsTo P t.lines (live_clauses t) × SpeakOf (IsNamedBy P) t.lines
+  pub tells : (P : List Clause) → DerivesFrom P s → LeadsTo P t.lines (live_clauses t) × SpeakOf (IsNamedBy P) t.lines

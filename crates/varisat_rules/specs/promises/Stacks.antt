@@ -1,24 +1,12 @@
 -- How a model of what is left of a formula is extended to one of all of it.
-use Rattle.std.specs.Prelude.{◌≡◌, ℕ, ◌/◌, ◌%◌, nat_eq, Bool, true, false, not, if◌then◌else◌, List, [], ◌∷◌, slice_index_or, slice_set}
-use Rattle.std.specs.List.{list_any}
-use Rattle.varisat_theory.specs.promises.Literals.{Literal, Clause, Assignment, value}
-
--- the assignment by values from variable 0 on, where all others are false
-abbrev pub assignment_of : List Bool → Assignment
-assignment_of vs v = slice_index_or vs v false
-
--- a literal of the clause is true
-abbrev pub is_satisfied : List Bool → Clause → Bool
-is_satisfied vs c = list_any (value (assignment_of vs)) c
-
--- the values where the literal is made true
-abbrev pub with_true : Literal → List Bool → List Bool
-with_true l vs = slice_set vs (l / 2) (nat_eq (l % 2) 0)
+use Rattle.std.specs.Prelude.{◌≡◌, ℕ, ◌/◌, Bool, true, false, not, if◌then◌else◌, List, [], ◌∷◌, slice_index_or}
+use Rattle.varisat_theory.specs.promises.Literals.{Clause}
+use Rattle.varisat_formula.specs.promises.Values.{assignment_of, is_satisfied, with_true}
 
 -- the clause's first literal is made true unless the clause is satisfied
 abbrev pub amended : Clause → List Bool → List Bool
 amended [] vs = vs
-amended (l ∷ c) vs = if is_satisfied vs (l ∷ c) then vs else with_true l vs
+amended (l ∷ c) vs = if is_satisfied (assignment_of vs) (l ∷ c) then vs else with_true l vs
 
 -- amended by each clause, from the last to the first
 abbrev pub extended : List Clause → List Bool → List Bool

@@ -2,7 +2,7 @@
 use Rattle.std.proofs.Common.{◌≡◌, Result, Err, MatchResult, List, [], length, ◌⊎◌, inl, inr, sym, ap, ◌∙◌, subst}
 use Rattle.varisat_theory.specs.promises.Membership.{◌∈◌}
 use Rattle.varisat_theory.specs.promises.Literals.{Literal, Assignment, MakesTrue}
-use Rattle.varisat_theory.specs.inside.Outcomes.{Outcome, Unknown, Sat, Unsat, UnsatUnder, Steps}
+use Rattle.varisat_theory.specs.inside.Outcomes.{SearchOutcome, Unknown, Sat, Unsat, UnsatUnder, Steps}
 use Rattle.varisat_theory.proofs.steps.StepEnds.{core_is_found}
 use Rattle.varisat_prop.specs.View.{View, WellFormed}
 use Rattle.varisat_search.specs.declared.state.SatState.{SatState}
@@ -15,13 +15,13 @@ use Rattle.varisat_search.proofs.assuming.AssumptionSteps.{keeps-taken, keeps-ot
 use Rattle.varisat_search.proofs.assuming.NextAssumption.{model-assumed}
 use Rattle.varisat_search.proofs.stepping.ViewSearch.{view_reads}
 
-abbrev found-in : Assignment → Outcome → Assignment
+abbrev found-in : Assignment → SearchOutcome → Assignment
 found-in d Unknown = d
 found-in d (Sat a) = a
 found-in d Unsat = d
 found-in d (UnsatUnder c) = d
 
-abbrev core-in : Outcome → List Literal
+abbrev core-in : SearchOutcome → List Literal
 core-in Unknown = []
 core-in (Sat a) = []
 core-in Unsat = []

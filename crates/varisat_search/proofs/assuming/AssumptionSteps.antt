@@ -4,7 +4,7 @@ use Rattle.varisat_theory.specs.promises.Membership.{◌∈◌, ◌⊆◌}
 use Rattle.varisat_theory.specs.promises.Literals.{Literal, Clause, Assignment, SatisfiesAll, MakesTrue}
 use Rattle.varisat_theory.specs.promises.Derivations.{Line}
 use Rattle.varisat_theory.specs.promises.Searches.{Search, Fits}
-use Rattle.varisat_theory.specs.inside.Outcomes.{Outcome, Unknown, Sat, UnsatUnder, Proves, Steps, MakesSteps}
+use Rattle.varisat_theory.specs.inside.Outcomes.{SearchOutcome, Unknown, Sat, UnsatUnder, Proves, Steps, MakesSteps}
 use Rattle.varisat_theory.proofs.clauses.Sound.{derives_sound}
 use Rattle.varisat_theory.proofs.journals.StepCounts.{by_derives}
 use Rattle.varisat_prop.specs.View.{View, WellFormed}
@@ -42,7 +42,7 @@ keeps-refl s x = record {
 }
 
 -- What a search keeps of assumptions, and then the one that it leads to.
-pub keeps-joined : (s t : Search) (v w : Outcome) (x y z : AssumptionParts) → StaysSatisfied s t → KeepsAssumptions s w x y →
+pub keeps-joined : (s t : Search) (v w : SearchOutcome) (x y z : AssumptionParts) → StaysSatisfied s t → KeepsAssumptions s w x y →
     KeepsAssumptions t v y z → KeepsAssumptions s v x z
 keeps-joined s t v w x y z l p q = record {
   user = q.user ∙ p.user;
@@ -54,17 +54,17 @@ keeps-joined s t v w x y z l p q = record {
 }
 
 -- Steps that went on keep the assumptions together with what comes after them.
-pub keeps-after-steps : (k : ℕ) (s t : Search) (lines : List Line) (v : Outcome) (x y z : AssumptionParts) → MakesSteps k s t Unknown lines →
+pub keeps-after-steps : (k : ℕ) (s t : Search) (lines : List Line) (v : SearchOutcome) (x y z : AssumptionParts) → MakesSteps k s t Unknown lines →
     KeepsAssumptions s Unknown x y → KeepsAssumptions t v y z → KeepsAssumptions s v x z
 keeps-after-steps k s t lines v x y z m = keeps-joined s t v Unknown x y z (steps-lead k s t lines m)
 
 -- a part of a step before, which leaves the assumptions
-pub keeps-after-part : (n : ℕ) (s t : Search) (lines : List Line) (v : Outcome) (x y : AssumptionParts) → Proves n s t lines →
+pub keeps-after-part : (n : ℕ) (s t : Search) (lines : List Line) (v : SearchOutcome) (x y : AssumptionParts) → Proves n s t lines →
     KeepsAssumptions t v x y → KeepsAssumptions s v x y
 keeps-after-part n s t lines v x y p = keeps-joined s t v Unknown x x y (part-leads n s t lines p) (keeps-refl s x)
 
 -- only the count of levels changes afterwards
-pub keeps-other-levels : (s : Search) (v : Outcome) (x y z : AssumptionParts) → z.working ≡ y.working → z.user ≡ y.user →
+pub keeps-other-levels : (s : Search) (v : SearchOutcome) (x y z : AssumptionParts) → z.working ≡ y.working → z.user ≡ y.user →
     z.user_core ≡ y.user_core → KeepsAssumptions s v x y → KeepsAssumptions s v x z
 keeps-other-levels s v x y z e u c p = record {
   user = u ∙ p.user;
@@ -76,7 +76,7 @@ keeps-other-levels s v x y z e u c p = record {
 }
 
 -- What was taken out of the view's assumptions is implied over the search that a proof sees.
-pub keeps-taken : (s : View) (v : Outcome) (x y : AssumptionParts) → WellFormed s → TakesOutImplied s x y →
+pub keeps-taken : (s : View) (v : SearchOutcome) (x y : AssumptionParts) → WellFormed s → TakesOutImplied s x y →
     ((found : Assignment) → v ≡ Sat found → MakesTrue found y.working) → ((c : List Literal) → v ≡ UnsatUnder c → (c ⊆ x.working) × (c ≢ [])) →
     KeepsAssumptions (search_of s) v x y
 keeps-taken s v x y w t m c = record {

@@ -31,7 +31,8 @@ use Rattle.varisat_search.specs.Seen.{search_of}
 use Rattle.varisat_prop.specs.View.{View, kept, IsTrueIn, literal_at, decision_at, node_of, node_at, level_of, WellFormed, PropagatedBeforeDecisions, ViewFits, kinds, is_implied, is_clause}
 use Rattle.varisat_prop.specs.Changes.{enqueued}
 use Rattle.varisat_literals.specs.promises.Numbers.{polarity_of}
-use Rattle.varisat_prop.proofs.trails.LiteralValues.{none-made, made-inside, made-clash, variable-opposite}
+use Rattle.varisat_theory.proofs.clauses.Values.{variable-opposite}
+use Rattle.varisat_prop.proofs.trails.LiteralValues.{none-made, made-inside, made-clash}
 use Rattle.varisat_prop.proofs.trails.TrailValues.{trail-true}
 use Rattle.varisat_prop.specs.Watches.{Watches, literal_in, IsPropagated}
 use Rattle.varisat_prop.proofs.watching.WatchKept.{propagated-enqueued, propagated-learned}

@@ -11,7 +11,8 @@ use Rattle.varisat_literals.specs.promises.Numbers.{polarity_of}
 use Rattle.varisat_prop.specs.declared.prop.graph.Reason.{Reason}
 use Rattle.varisat_prop.specs.declared.prop.graph.Reason.TheVariants as reason
 use Rattle.varisat_prop.specs.declared.prop.graph.Conflict.{Conflict}
-use Rattle.varisat_prop.proofs.trails.LiteralValues.{made-inside, variable-opposite}
+use Rattle.varisat_theory.proofs.clauses.Values.{variable-opposite}
+use Rattle.varisat_prop.proofs.trails.LiteralValues.{made-inside}
 use Rattle.varisat_prop.proofs.trails.TrailValues.{trail-true, fits-node}
 use Rattle.varisat_prop.proofs.watching.LongVisited.{listed}
 use Rattle.varisat_prop.specs.View.{View, kept, WellFormed, PropagatedBeforeDecisions}

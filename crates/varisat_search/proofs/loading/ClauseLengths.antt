@@ -5,7 +5,7 @@ use Rattle.varisat_theory.specs.promises.Membership.{◌∈◌, IsDistinct}
 use Rattle.varisat_theory.specs.promises.Literals.{Literal, Clause, variable_of, opposite}
 use Rattle.varisat_theory.specs.promises.Searches.{IsTautology}
 use Rattle.varisat_prop.proofs.pairs.DistinctPlaces.{distinct-below}
-use Rattle.varisat_prop.proofs.trails.LiteralValues.{same-variable}
+use Rattle.varisat_theory.proofs.clauses.Values.{same_or_opposite}
 
 of-variable : (c : Clause) (v : ℕ) → v ∈ map variable_of c → (l : Literal) × (l ∈ c) × (variable_of l ≡ v)
 of-variable [] v h = absurd h
@@ -18,7 +18,7 @@ variables-distinct [] d n = tt
 variables-distinct (x ∷ c) d n = (
   λ h.
       let (l, i, e) = of-variable c (variable_of x) h in
-      ⊎_elim (λ (q : l ≡ x). d.0 (subst (λ y. y ∈ c) q i)) (λ (q : l ≡ opposite x). n (x, inl refl, inr (subst (λ y. y ∈ c) q i))) (same-variable l x e),
+      ⊎_elim (λ (q : l ≡ x). d.0 (subst (λ y. y ∈ c) q i)) (λ (q : l ≡ opposite x). n (x, inl refl, inr (subst (λ y. y ∈ c) q i))) (same_or_opposite l x e),
   variables-distinct c d.1 (λ (l, i, j). n (l, inr i, inr j)),
 )
 

@@ -7,21 +7,23 @@ use Rattle.varisat_theory.specs.promises.Derivations.{Line, Delete}
 use Rattle.varisat_prop.specs.Pairs.{with_pair}
 use Rattle.varisat_prop.specs.View.{View, IsTrueIn, WellFormed, kept}
 use Rattle.varisat_prop.specs.Changes.{enqueued}
-use Rattle.varisat_prop.proofs.trails.LiteralValues.{own-opposite, made-clash, none-made, variable-opposite}
+use Rattle.varisat_theory.proofs.clauses.Values.{variable-opposite}
+use Rattle.varisat_prop.proofs.trails.LiteralValues.{made-clash, none-made}
 use Rattle.varisat_prop.proofs.trails.EnqueueAssignment.{enqueued-well}
 use Rattle.varisat_search.specs.declared.state.SatState.{SatState}
 use Rattle.varisat_search.specs.Steps.{IsCut, reopened_state, SavesAll}
 use Rattle.varisat_search.specs.Loading.{loaded_at, loaded_outcome, IsAdded, LoadsClause}
 use Rattle.varisat_search.specs.Seen.{search_of}
-use Rattle.varisat_search.proofs.loading.LoadView.{Restarted, no-decision, MayBeAdded, first-other, restarted, restarted-kept, restarted-propagated, added-well, undecided-settled}
+use Rattle.varisat_search.proofs.loading.LoadView.{Restarted, no-decision, MayBeAdded, first-other, restarted, restarted-kept, restarted-propagated, added-well}
 use Rattle.varisat_search.proofs.loading.PairSearch.{with_clause, pair-moves, long-moves}
 use Rattle.varisat_search.proofs.stepping.ViewSearch.{fixed_from, fixed_to, view_is_grounded}
 use Rattle.varisat_search.proofs.learning.LearnLines.{cut_moves, unit_moves}
 use Rattle.varisat_theory.specs.promises.Searches.{KeptClause, Search, IsTautology}
-use Rattle.varisat_theory.specs.inside.Outcomes.{Outcome, Unknown, Unsat, Proves, Loads, IsContradicted}
+use Rattle.varisat_theory.specs.inside.Outcomes.{SearchOutcome, Unknown, Unsat, Proves, Loads, IsContradicted}
 use Rattle.varisat_theory.proofs.clauses.Held.{same_set-self}
 use Rattle.varisat_theory.proofs.steps.StepParts.{no_part}
 use Rattle.varisat_theory.proofs.steps.StepLoads.{loaded_is_kept, loaded_is_unit, loaded_is_discharged, loaded_is_deleted, loaded_is_contradicted, part_load, load_part}
+use Rattle.varisat_theory.proofs.clauses.ConflictForms.{never_its_own}
 use Rattle.varisat_vsids.specs.Activities.{Activities}
 use Rattle.varisat_search.specs.Decisions.{AreDecidable, SameDecidable, HasActivities, CanDecide}
 use Rattle.varisat_search.proofs.loading.AddedClause.{kept-cases, pair-cases}
@@ -41,6 +43,7 @@ use Rattle.varisat_search.proofs.assuming.AssumptionLevels.{has-undecided}
 use Rattle.varisat_search.proofs.assuming.AssumptionContexts.{IsSameList, still-assumable, same-working, none-reached}
 use Rattle.varisat_search.proofs.loading.LoadedTrue.{permuted-set, loads-tautology, loads-unit, loads-open, loads-true}
 use Rattle.varisat_prop.specs.declared.prop.graph.Reason.TheVariants as reason
+use Rattle.varisat_prop.proofs.views.SimplifiedView.{settled-undecided}
 use Rattle.varisat_search.specs.declared.state.SatState.TheVariants as verdict
 
 -- The lines of `load_clause`.
@@ -73,14 +76,14 @@ module _ (s t : View) (c lits : Clause) (w : WellFormed s) (r : Restarted s t) (
   from-now : (x : Literal) → x ∈ (search_of t).fixed → IsTrueIn t x
   from-now x h = (fixed_from t r.well x h).0
 
-  before-lines : (z : View) (v : Outcome) (lines : List Line) → Loads (search_of t) (search_of z) c v lines → Loads (search_of s) (search_of z) c v lines
+  before-lines : (z : View) (v : SearchOutcome) (lines : List Line) → Loads (search_of t) (search_of z) c v lines → Loads (search_of s) (search_of z) c v lines
   before-lines z v lines q =
       part_load (search_of s) (search_of t) (search_of z) c v lines p
       (λ x h. now x (r.fixed_to x (fixed_from s w x h)))
       (λ x h. fixed_to s w x (r.fixed_from x (from-now x h)))
       q
 
-  before : (z : View) (v : Outcome) → Loads (search_of t) (search_of z) c v [] → Loads (search_of s) (search_of z) c v []
+  before : (z : View) (v : SearchOutcome) → Loads (search_of t) (search_of z) c v [] → Loads (search_of s) (search_of z) c v []
   before z v q = before-lines z v [] q
 
   open-verdict : (b : SatState) (z : View) → loaded_outcome b ≡ Unknown → Loads (search_of s) (search_of z) c Unknown [] → LoadsAlone s z c b
@@ -91,7 +94,7 @@ module _ (s t : View) (c lits : Clause) (w : WellFormed s) (r : Restarted s t) (
       open-verdict b t e (before t Unknown (loaded_is_discharged (search_of t) c (inl (x, same.0 x i, same.0 (opposite x) j)) (λ k.
       ⊎_elim
       (λ g. subst (λ y. x ∈ y) g (same.0 x i))
-      (λ (l, unit, f). own-opposite x (unit.1 (opposite x) (same.0 (opposite x) j) ∙ sym (unit.1 x (same.0 x i))))
+      (λ (l, unit, f). never_its_own x (unit.1 (opposite x) (same.0 (opposite x) j) ∙ sym (unit.1 x (same.0 x i))))
       k)))
 
   -- a clause with a true literal is not contradicted
@@ -298,7 +301,7 @@ module _ {A : Type 0} {x0 x1 : Context A} {c lits : Clause} (d : Loading x0 x1 c
       record {
         ready = record {
           well = r.well;
-          settled = undecided-settled (view x1) r.undecided;
+          settled = settled-undecided (view x1) r.undecided;
           propagated = loading-propagated;
           tracks = d.tracks;
           analysis = d.analysis ∙ d.ready.analysis ∙ sym r.count;
@@ -386,7 +389,7 @@ module _ {A : Type 0} {x0 x1 : Context A} {c lits : Clause} (d : Loading x0 x1 c
       record {
         ready = record {
           well = q.0;
-          settled = undecided-settled (view z) q.1;
+          settled = settled-undecided (view z) q.1;
           propagated = p;
           tracks = t;
           analysis = ap (λ (x : Context A). x.analyze_conflict.var_count) k ∙ d.analysis ∙ d.ready.analysis ∙ sym q.2;

@@ -161,9 +161,6 @@ module _ (s t : View) (lits : Clause) (r : Restarted s t) (a : MayBeAdded t lits
       (kept-well t (loaded_at p lits) k.1 r.well a.inside (omega (arith, n)) a.distinct) (let u = r.well.head in omega (arith, i, u)) in
       (v, r.undecided, r.count))
 
-pub undecided-settled : (z : View) → z.decisions ≡ [] → PropagatedBeforeDecisions z
-undecided-settled z e j h = let n = ap (λ (x : List ℕ). length x) e in absurd (omega (arith, h, n))
-
 -- no clauses, no variables and no lists
 pub first-propagated : (W : Watches) (s : View) → W ≡ no_watches → s.values ≡ [] → s.clauses ≡ [] → s.binary ≡ [] → s.decisions ≡ [] →
     s.queue_head ≡ 0 → IsPropagated W s

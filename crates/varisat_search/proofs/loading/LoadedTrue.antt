@@ -9,7 +9,7 @@ use Rattle.varisat_theory.specs.promises.Derivations.{Line, Delete}
 use Rattle.varisat_theory.specs.promises.Searches.{Search, IsTautology}
 use Rattle.varisat_theory.proofs.clauses.Held.{same_set-back}
 use Rattle.varisat_steps.specs.Traces.{CanTake, AdmitsWith}
-use Rattle.varisat_theory.specs.inside.Outcomes.{Outcome, Loads}
+use Rattle.varisat_theory.specs.inside.Outcomes.{SearchOutcome, Loads}
 use Rattle.varisat_clause.proofs.TierPlaces.{distinct-permutation, ∈-permutation}
 use Rattle.varisat_prop.specs.View.{View, IsTrueIn, WellFormed}
 use Rattle.varisat_search.specs.Loading.{IsDeletedAtOnce, LoadsClause}
@@ -34,11 +34,11 @@ permuted-delete H lits d m (held, after, h, (R, (front, e, back, whole, same, le
 module _ (ordered : Clause → Type 0) (are : List Line → Type 0) (s t : View) (c lits : Clause) (w : WellFormed s) (r : Restarted s t)
     (d : IsDistinct lits) (same : SameSet lits c) where
   -- a clause without a line
-  no-line : (z : View) (v : Outcome) → (IsDeletedAtOnce (search_of s) c → ⊥) → Loads (search_of s) (search_of z) c v [] → are [] →
+  no-line : (z : View) (v : SearchOutcome) → (IsDeletedAtOnce (search_of s) c → ⊥) → Loads (search_of s) (search_of z) c v [] → are [] →
       LoadsClause ordered are (search_of s) (search_of z) c v
   no-line z v n p a = record { lines = []; due = inr (n, refl); loads = p; written = a }
 
-  pub loads-tautology : (z : View) (v : Outcome) → IsTautology lits → Loads (search_of s) (search_of z) c v [] → are [] →
+  pub loads-tautology : (z : View) (v : SearchOutcome) → IsTautology lits → Loads (search_of s) (search_of z) c v [] → are [] →
       LoadsClause ordered are (search_of s) (search_of z) c v
   loads-tautology z v (x, i, j) p a = no-line z v (λ k. k.open_clause (x, same.0 x i, same.0 (opposite x) j)) p a
 
@@ -51,11 +51,11 @@ module _ (ordered : Clause → Type 0) (are : List Line → Type 0) (s t : View)
       go (k ∷ []) i n e = (k, (e.0 k (inl refl), λ m h. ⊎_elim (λ g. g) (λ g. absurd g) (e.1 m h)))
       go (k ∷ j ∷ ks) i n e = absurd (omega (arith, n))
 
-  pub loads-unit : (z : View) (v : Outcome) (l : Literal) → l ∈ lits → length lits < 2 → Loads (search_of s) (search_of z) c v [] → are [] →
+  pub loads-unit : (z : View) (v : SearchOutcome) (l : Literal) → l ∈ lits → length lits < 2 → Loads (search_of s) (search_of z) c v [] → are [] →
       LoadsClause ordered are (search_of s) (search_of z) c v
   loads-unit z v l i n p a = no-line z v (λ k. let (u, h) = short l i n in k.several u h) p a
 
-  pub loads-open : (z : View) (v : Outcome) → ((l : Literal) → l ∈ lits → IsTrueIn t l → ⊥) → Loads (search_of s) (search_of z) c v [] → are [] →
+  pub loads-open : (z : View) (v : SearchOutcome) → ((l : Literal) → l ∈ lits → IsTrueIn t l → ⊥) → Loads (search_of s) (search_of z) c v [] → are [] →
       LoadsClause ordered are (search_of s) (search_of z) c v
   loads-open z v n p a = no-line z v (λ k. n k.literal (same.1 k.literal k.inside) (r.fixed_to k.literal (fixed_from s w k.literal k.fixed))) p a
 
@@ -68,7 +68,7 @@ module _ (ordered : Clause → Type 0) (are : List Line → Type 0) (s t : View)
       go (k ∷ []) n d e = omega (arith, n)
       go (k ∷ j ∷ ks) n d e = d.0 (inl (h.1 k (e.0 k (inl refl)) ∙ sym (h.1 j (e.0 j (inr (inl refl))))))
 
-  pub loads-true : (z : View) (v : Outcome) (l : Literal) → l ∈ lits → IsTrueIn t l → (IsTautology lits → ⊥) → 2 ≤ length lits → (e : Clause) →
+  pub loads-true : (z : View) (v : SearchOutcome) (l : Literal) → l ∈ lits → IsTrueIn t l → (IsTautology lits → ⊥) → 2 ≤ length lits → (e : Clause) →
       IsPermutation lits e → ordered e → Loads (search_of s) (search_of z) c v (Delete e ∷ []) → are (Delete e ∷ []) →
       LoadsClause ordered are (search_of s) (search_of z) c v
   loads-true z v l i h open_clause n e m o p a = record {
@@ -88,7 +88,7 @@ module _ (ordered : Clause → Type 0) (are : List Line → Type 0) (s t : View)
   }
 
 -- a unit is loaded without a line
-pub unit-loads : (ordered : Clause → Type 0) (are : List Line → Type 0) (s t : Search) (l : Literal) (v : Outcome) →
+pub unit-loads : (ordered : Clause → Type 0) (are : List Line → Type 0) (s t : Search) (l : Literal) (v : SearchOutcome) →
     LoadsClause ordered are s t (l ∷ []) v → Loads s t (l ∷ []) v []
 unit-loads ordered are s t l v p =
     ⊎_elim

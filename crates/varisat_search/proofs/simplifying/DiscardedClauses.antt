@@ -2,6 +2,7 @@
 use Rattle.std.proofs.Common.{◌≡◌, ℕ, ◌<◌, ◌/◌, Bool, true, false, not, ◌&&◌, None, List, [], ◌∷◌, length, map, get_or, inl, inr, ⊎_elim, refl, sym, ap, ◌∙◌, subst}
 use Rattle.std.specs.Prelude.{is_some}
 use Rattle.std.specs.List.{filter}
+use Rattle.std.proofs.lemmas.Bool.{cases_Bool, eq-eqb}
 use Rattle.varisat_theory.specs.promises.Membership.{◌∈◌}
 use Rattle.varisat_theory.specs.promises.Literals.{Literal, variable_of}
 use Rattle.varisat_clause.specs.declared.header.Tier.TheVariants as tier
@@ -12,8 +13,8 @@ use Rattle.varisat_clause.specs.Databases.{is_live_in}
 use Rattle.varisat_clause.specs.Collected.{live_of, live_clauses}
 use Rattle.varisat_clause.specs.Reductions.{unmarked_places, all_deleted, ReducesLocals}
 use Rattle.varisat_clause.proofs.StoreSound.{are-rising}
-use Rattle.varisat_clause.proofs.StoredClauses.{is-same, stored-∈, stored-found, literals-∈, from-literals}
-use Rattle.varisat_clause.proofs.DatabaseTracks.{place-is, same-tier, true-or-false}
+use Rattle.varisat_clause.proofs.StoredClauses.{stored-∈, stored-found, literals-∈, from-literals}
+use Rattle.varisat_clause.proofs.DatabaseTracks.{place-is, same-tier}
 use Rattle.varisat_clause.proofs.LiveStore.{live-∈}
 use Rattle.varisat_prop.specs.declared.prop.graph.Reason.{Reason}
 use Rattle.varisat_prop.specs.declared.prop.graph.Reason.TheVariants as reason
@@ -42,7 +43,7 @@ module _ (s t : View) (w : WellFormed s) (d : Discards s t) where
       let x = stored_at s.clauses p in
       let i = stored-∈ s.clauses p a in
       let f = place-is s.clauses p a in
-      let stays : not (d.gone x) ≡ true = ⊎_elim (λ g. absurd (d.unused x i g k h (e ∙ ap reason.Long (sym f)))) (λ g. ap not g) (true-or-false (d.gone x)) in
+      let stays : not (d.gone x) ≡ true = ⊎_elim (λ g. absurd (d.unused x i g k h (e ∙ ap reason.Long (sym f)))) (λ g. ap not g) (cases_Bool (d.gone x)) in
       let j : x ∈ left = filter-∈ (λ k. not (d.gone k)) s.clauses x i stays in (
         headers-place left t.clauses p d.clauses (x, j, f),
         headers-at left t.clauses d.clauses p ∙ ap (λ (q : ℕ). literals_at left q) (sym f)
@@ -145,7 +146,7 @@ module _ (s : View) (old marked new : Store) (w : WellFormed s) (ok : IsSound ol
       let v : is_some (get_or s.values (variable_of (literal_in k.literals 0)) None) ≡ true =
       ap (λ (x : Literal). is_some (get_or s.values (variable_of x) None)) q ∙ ap (λ o. is_some o) (w.is_true i l) in
       let n : is_clause_at (node_of s (literal_in k.literals 0)).reason k.place ≡ true =
-      ap (λ (x : Literal). is_clause_at (node_of s x).reason k.place) q ∙ ap (λ x. is_clause_at x k.place) e ∙ is-same k.place k.place refl in
+      ap (λ (x : Literal). is_clause_at (node_of s x).reason k.place) q ∙ ap (λ x. is_clause_at x k.place) e ∙ eq-eqb k.place k.place refl in
       ap (λ b. b && is_clause_at (node_of s (literal_in k.literals 0)).reason k.place) v ∙ n
 
   pub reduces-discards : (t : View) → t.clauses ≡ live_clauses new → t ≡ record s { clauses = t.clauses } → Discards s t

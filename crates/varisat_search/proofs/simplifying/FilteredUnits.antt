@@ -3,6 +3,7 @@ use Rattle.std.proofs.Common.{◌≡◌, ℕ, ◌<◌, ◌≤◌, ◌⊎◌, inl
 use Rattle.std.specs.Prelude.{nat_le}
 use Rattle.std.specs.List.{filter}
 use Rattle.std.proofs.lemmas.List.{append-nil}
+use Rattle.std.proofs.lemmas.Bool.{cases_Bool, le-leb}
 use Rattle.varisat_theory.specs.promises.Membership.{◌∈◌, ◌⊆◌}
 use Rattle.varisat_theory.specs.promises.Literals.{Literal, Clause, opposite}
 use Rattle.varisat_theory.proofs.clauses.Places.{∈-get_or}
@@ -15,7 +16,7 @@ use Rattle.varisat_prop.specs.Parts.{IsMadeTrue}
 use Rattle.varisat_prop.specs.Simplified.{are_unassigned}
 use Rattle.varisat_prop.proofs.watching.WatchesHold.{two}
 use Rattle.varisat_search.specs.Simplifications.{has_true, unassigned, shortened_to, stays_long, becomes_pair, left_long, left_pairs, LeavesOpen, NotesWatches}
-use Rattle.varisat_search.proofs.simplifying.UnassignedLiterals.{some-true, true-there, true-false, at-least}
+use Rattle.varisat_search.proofs.simplifying.UnassignedLiterals.{some-true, true-there}
 
 -- 1. One clause.
 
@@ -29,7 +30,7 @@ module _ (values : List (Option Bool)) (d c : Clause) (is : d ≡ c) where
 
   pub unsatisfied-read : (HasTrue values d → ⊥) → has_true values c ≡ false
   unsatisfied-read n = ⊎_elim (λ e. let (l, i, h) = some-true values c e in absurd (n (l, subst (λ x. l ∈ x) (sym is) i, h))) (λ e. e)
-      (true-false (has_true values c))
+      (cases_Bool (has_true values c))
 
 -- a filter leaves no more elements
 pub filter-short : (p : ℕ → Bool) (xs : List ℕ) → length (filter p xs) ≤ length xs
@@ -83,7 +84,7 @@ module _ (values : List (Option Bool)) (k : StoredClause) (before : List Clause)
   pub leaves-long : (j : StoredClause) → has_true values k.literals ≡ false → 3 ≤ length (unassigned values k.literals) → k.header.deleted ≡ false →
       j ≡ shortened_to (unassigned values k.literals) k → LeavesOpen values k (left_if true j) before before
   leaves-long j e n live is =
-      let t = at-least 3 (length (unassigned values k.literals)) n in
+      let t = le-leb 3 (length (unassigned values k.literals)) n in
       let u = unassigned values k.literals in
       record {
         long = ap (λ (x : StoredClause). left_if true x ∷ []) is

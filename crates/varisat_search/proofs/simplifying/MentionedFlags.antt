@@ -10,7 +10,7 @@ use Rattle.varisat_clause.proofs.StoredClauses.{kept-at, from-literals, stored-f
 use Rattle.varisat_analysis.specs.Flags.{IsFlagged}
 use Rattle.varisat_prop.specs.View.{View, WellFormed, pairs_from}
 use Rattle.varisat_prop.proofs.pairs.KeptPairs.{pair-in, implied-kept}
-use Rattle.varisat_prop.proofs.trails.LiteralValues.{variable-opposite}
+use Rattle.varisat_theory.proofs.clauses.Values.{variable-opposite}
 use Rattle.varisat_search.specs.Forgotten.{IsMentioned, FlagsMentioned, FlagsAlso, FlagsImplying}
 
 -- one flag is set

@@ -7,12 +7,12 @@ use Rattle.varisat_clause.specs.Stored.{StoredClause, IsClauseRef, AreRising, li
 use Rattle.varisat_clause.specs.Stores.{Store, len_at, clause_in, FitsWords, IsSound}
 use Rattle.varisat_clause.specs.Databases.{size_of}
 use Rattle.varisat_clause.specs.Collected.{live_of, live_clauses, packed_at, packed}
-use Rattle.varisat_clause.proofs.StoredClauses.{is-same, is-other, stored-here, stored-later, place-later}
+use Rattle.varisat_clause.proofs.StoredClauses.{is-other, stored-here, stored-later, place-later}
 use Rattle.varisat_analysis.specs.HeaderChanges.{kept_clause}
 use Rattle.varisat_analysis.specs.Collections.{new_place, moved_reason, Repacks, repointed, repointed_each}
 use Rattle.std.specs.Prelude.{is_some}
+use Rattle.std.proofs.lemmas.Bool.{cases_Bool, eq-eqb}
 use Rattle.varisat_theory.specs.promises.Literals.{Literal, variable_of}
-use Rattle.varisat_clause.proofs.DatabaseTracks.{true-or-false}
 use Rattle.varisat_prop.specs.declared.prop.graph.Reason.{Reason}
 use Rattle.varisat_prop.specs.declared.prop.graph.ImplNode.{ImplNode}
 use Rattle.varisat_prop.specs.View.{View, pairs_from, no_node, clause_at, literal_at, node_at, IsReason, WellFormed, kinds}
@@ -61,7 +61,7 @@ packed-place q (k ∷ ks) p h = ⊎_elim here (later (packed-place (q + size_of 
     here : k.place ≡ p → IsClauseRef (packed q (k ∷ ks)) (new_place (k ∷ ks) (packed q (k ∷ ks)) p)
         × (literals_at (packed q (k ∷ ks)) (new_place (k ∷ ks) (packed q (k ∷ ks)) p) ≡ literals_at (k ∷ ks) p)
     here e =
-        let f : new_place (k ∷ ks) (packed q (k ∷ ks)) p ≡ q = ap (λ b. cond b q (new_place ks (packed (q + size_of k) ks) p)) (is-same k.place p e) in
+        let f : new_place (k ∷ ks) (packed q (k ∷ ks)) p ≡ q = ap (λ b. cond b q (new_place ks (packed (q + size_of k) ks) p)) (eq-eqb k.place p e) in
         subst (λ (x : ℕ). IsClauseRef (packed q (k ∷ ks)) x × (literals_at (packed q (k ∷ ks)) x ≡ literals_at (k ∷ ks) p)) (sym f) (
           (packed_at q k, inl refl, refl),
           ap (λ (x : StoredClause). x.literals) (stored-here (packed_at q k) (packed (q + size_of k) ks) q refl)
@@ -141,7 +141,7 @@ pub to-move : (ks js : List StoredClause) → AreRising ks → AreBelow ks js �
 to-move [] js r b = tt
 to-move (k ∷ ks) [] r b = absurd b
 to-move (k ∷ ks) (j ∷ js) r b =
-    (ap (λ o. cond o j.place (new_place ks js k.place)) (is-same k.place k.place refl), b.0, to-move-later k j ks js ks js r.0 (to-move ks js r.1 b.1))
+    (ap (λ o. cond o j.place (new_place ks js k.place)) (eq-eqb k.place k.place refl), b.0, to-move-later k j ks js ks js r.0 (to-move ks js r.1 b.1))
 
 module _ (s : View) (w : WellFormed s) (js : List StoredClause) where
   abbrev node_in : List ImplNode → ℕ → ImplNode
@@ -171,7 +171,7 @@ module _ (s : View) (w : WellFormed s) (js : List StoredClause) where
       ap (λ (x : Literal). is_some (get_or s.values (variable_of x) None)) f ∙ ap (λ o. is_some o) (w.is_true i h) in
       let n : is_clause_at (get_or ns (variable_of (literal_in k.literals 0)) no_node).reason k.place ≡ true =
       ap (λ (x : Literal). is_clause_at (get_or ns (variable_of x) no_node).reason k.place) f
-      ∙ ap (λ (x : ImplNode). is_clause_at x.reason k.place) e ∙ ap (λ x. is_clause_at x k.place) q ∙ is-same k.place k.place refl in
+      ∙ ap (λ (x : ImplNode). is_clause_at x.reason k.place) e ∙ ap (λ x. is_clause_at x k.place) q ∙ eq-eqb k.place k.place refl in
       ap (λ b. b && is_clause_at (get_or ns (variable_of (literal_in k.literals 0)) no_node).reason k.place) v ∙ n
 
   same-clause : (r : Reason) (p q : ℕ) → r ≡ reason.Long p → is_clause_at r q ≡ true → p ≡ q
@@ -256,7 +256,7 @@ module _ (s : View) (w : WellFormed s) (js : List StoredClause) where
         ⊎_elim
         (λ e. ⊎_elim (waiting-moves e i h) (λ x. inr (moved-stays e i x)) d)
         (λ e. ⊎_elim (λ x. inl (waiting-stays e i h x)) (λ x. inr (moved-too e i x)) d)
-        (true-or-false (is_reason s.values ns k))
+        (cases_Bool (is_reason s.values ns k))
 
   all-moved : (left bs : List StoredClause) (ns : List ImplNode) → ToMove s.clauses js left bs → AreRising left →
       ((k : StoredClause) → k ∈ left → k ∈ s.clauses) → length ns ≡ length s.values →

@@ -1,7 +1,7 @@
 -- How a search goes on as the root level is simplified, and the step after that.
 use Rattle.std.proofs.Common.{◌≡◌, ℕ, ◌<◌, ◌≤◌, Bool, Result, MatchResult, List, [], ◌++◌, length, refl, sym, ap, ◌∙◌, subst, append_assoc}
 use Rattle.varisat_theory.specs.promises.Derivations.{Line}
-use Rattle.varisat_theory.specs.inside.Outcomes.{Outcome, Proves, Steps}
+use Rattle.varisat_theory.specs.inside.Outcomes.{SearchOutcome, Proves, Steps}
 use Rattle.varisat_theory.specs.inside.Rank.{rank}
 use Rattle.varisat_theory.specs.inside.StepLaws.{unit_lines}
 use Rattle.varisat_theory.proofs.steps.StepParts.{no_part, parts_join}
@@ -162,13 +162,13 @@ settled-down s t d q h p = subst IsRootSimplified (sym p.rest) record { undecide
 
 -- What comes after the root level was simplified.
 module _ {A : Type 0} (x y : Context A) (P : List Line → Type 0) (a : GoesOnByLines P x y) where
-  pub steps-settled : (t : View) (v : Outcome) (lines : List Line) (Q R : List Line → Type 0) →
+  pub steps-settled : (t : View) (v : SearchOutcome) (lines : List Line) (Q R : List Line → Type 0) →
       ((first more : List Line) → P first → Q more → R (first ++ more)) → Steps (search_of (view y)) (search_of t) v lines → Q lines →
       (all : List Line) × Steps (search_of (view x)) (search_of t) v all × R all
   steps-settled t v lines Q R join p j = let (first, q, i) = a.proves in
       (first ++ lines, part_step (search_of (view x)) (search_of (view y)) (search_of t) v first lines q p, join first lines i j)
 
-  pub assumes-settled : (v : Outcome) (b : AssumptionParts) → y.assumptions ≡ x.assumptions →
+  pub assumes-settled : (v : SearchOutcome) (b : AssumptionParts) → y.assumptions ≡ x.assumptions →
       KeepsAssumptions (search_of (view y)) v y.assumptions b → KeepsAssumptions (search_of (view x)) v x.assumptions b
   assumes-settled v b e k =
       let (lines, q, i) = a.proves in

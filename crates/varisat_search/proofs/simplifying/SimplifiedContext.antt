@@ -24,16 +24,17 @@ use Rattle.varisat_search.specs.RootSimplified.{CanSimplify}
 use Rattle.varisat_search.specs.Steps.{IsPropagatedToEnd}
 use Rattle.varisat_search.specs.MendedLists.{AreMended, MendsLists}
 use Rattle.varisat_search.specs.Simplifications.{left_long, left_pairs, with_pairs, IsLeftOpen, IsPairIn, IsSimplified, pair_lines, clause_lines, has_true, unassigned, shortened_to, stays_long}
-use Rattle.varisat_search.proofs.simplifying.SimplifiedSearch.{is-false, IsAtUnits, stored-open, pairs-in, are-unassigned, still-well, still-free, C-count, simplify-proves, literal-kept, both, from-map}
+use Rattle.varisat_search.proofs.simplifying.SimplifiedSearch.{IsAtUnits, stored-open, pairs-in, are-unassigned, still-well, still-free, C-count, simplify-proves, literal-kept, from-map}
 use Rattle.varisat_search.proofs.stepping.ReadyAfter.{KeepsValues, keeps-values, exchanged-ready}
 use Rattle.std.specs.Prelude.{is_none, nat_le}
 use Rattle.std.specs.List.{filter}
+use Rattle.std.proofs.lemmas.Bool.{not-true, cases_Bool, and_parts, le-leb}
 use Rattle.varisat_theory.proofs.clauses.Values.{opposite_twice}
 use Rattle.varisat_theory.proofs.clauses.Places.{∈-get_or}
 use Rattle.varisat_clause.proofs.StoredClauses.{stored-∈, stored-found}
 use Rattle.varisat_prop.proofs.trails.LiteralValues.{made-none, none-made}
 use Rattle.varisat_prop.proofs.watching.WatchesHold.{two}
-use Rattle.varisat_search.proofs.simplifying.UnassignedLiterals.{some-true, none-true, true-false, left-all, at-least}
+use Rattle.varisat_search.proofs.simplifying.UnassignedLiterals.{some-true, none-true, left-all}
 
 -- The watch lists once clauses lost literals or went.
 
@@ -83,8 +84,8 @@ untouched-stays values c n e =
     let free : has_true values c ≡ false = ⊎_elim
     (λ t. let (l, i, h) = some-true values c t in absurd (none-made values l l (unassigned-none values l (all-unassigned values c e l i)) refl h))
     (λ t. t)
-    (true-false (has_true values c)) in
-    ap₂ (λ (a b : Bool). not a && b) free (ap (λ (d : Clause). nat_le 3 (length d)) full ∙ at-least 3 (length c) n)
+    (cases_Bool (has_true values c)) in
+    ap₂ (λ (a b : Bool). not a && b) free (ap (λ (d : Clause). nat_le 3 (length d)) full ∙ le-leb 3 (length c) n)
 
 -- the first two literals are left where none of them has a value
 front-left : (p : Literal → Bool) (c : Clause) → 2 ≤ length c → p (get_or c 0 0) ≡ true → p (get_or c 1 0) ≡ true → (j : ℕ) → j < 2 →
@@ -110,8 +111,8 @@ module _ (s : View) (w : WellFormed s) (settled : WatchesHoldTo s (length s.trai
       is_unassigned s.values (literal_in (clause_at s i) j) ≡ true
   first-free i j h b t =
       let l = literal_in (clause_at s i) j in
-      let free : has_true s.values (clause_at s i) ≡ false = is-false (has_true s.values (clause_at s i))
-      (both (not (has_true s.values (clause_at s i))) (nat_le 3 (length (unassigned s.values (clause_at s i)))) t).0 in
+      let free : has_true s.values (clause_at s i) ≡ false = not-true (has_true s.values (clause_at s i))
+      (and_parts (not (has_true s.values (clause_at s i))) (nat_le 3 (length (unassigned s.values (clause_at s i)))) t).0 in
       let n = long-clause i h in
       let none = made-none s.values l
       (none-true s.values (clause_at s i) free l (∈-get_or (clause_at s i) j 0 (omega (arith, b, n))))
@@ -149,7 +150,7 @@ module _ (s : View) (w : WellFormed s) (settled : WatchesHoldTo s (length s.trai
         (at, subst (λ d. v.blocking ∈ d) (sym same) b, (j, o, ap (λ d. literal_in d j) same ∙ q)))
         (λ e. from-mended x v
         (m.named x (subst (λ y. y ∈ lits) (ap opposite q ∙ opposite_twice x) (noted v.cref j p e o))) i)
-        (true-false (are_unassigned s.values c))
+        (cases_Bool (are_unassigned s.values c))
 
     pub watching-left : IsWatching V P
     watching-left = record {
@@ -183,7 +184,7 @@ at-units x c = record {
 module _ {A : Type 0} (x : Context A) (u : IsAtUnits (view x)) where
   -- what a filter of the store needs
   pub live-open : (k : StoredClause) → k ∈ stored_clauses x.clause_alloc → is_live k ≡ true → IsLeftOpen x.assignment.current k.literals
-  live-open k h e = stored-open (view x) u k (∈-live (stored_clauses x.clause_alloc) k h (is-false k.header.deleted e))
+  live-open k h e = stored-open (view x) u k (∈-live (stored_clauses x.clause_alloc) k h (not-true k.header.deleted e))
 
   pub joining : (B : List (List Literal)) (ps : List Clause) → B ≡ without_assigned x.assignment.current x.binary_clauses →
       ps ≡ [] ++ left_pairs x.assignment.current (live_clauses x.clause_alloc) → (c : Clause) → c ∈ ps → IsPairIn B c

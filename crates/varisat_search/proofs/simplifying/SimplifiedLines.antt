@@ -2,6 +2,7 @@
 use Rattle.std.proofs.Common.{◌≡◌, ◌≤◌, Bool, true, false, not, cond, Option, List, [], ◌∷◌, ◌++◌, length, map, inl, inr, ⊎_elim, refl, sym, ap, ◌∙◌, subst, append_assoc}
 use Rattle.std.specs.Prelude.{nat_le}
 use Rattle.std.specs.List.{filter}
+use Rattle.std.proofs.lemmas.Bool.{le-leb}
 use Rattle.varisat_theory.specs.promises.Membership.{◌∈◌, SameSet}
 use Rattle.varisat_theory.specs.promises.Literals.{Literal, Clause, opposite}
 use Rattle.varisat_theory.specs.promises.Derivations.{Add, Delete}
@@ -16,7 +17,7 @@ use Rattle.varisat_analysis.specs.HeaderChanges.{kept_clause}
 use Rattle.varisat_search.specs.Seen.{kept_pair}
 use Rattle.varisat_search.specs.Simplifications.{has_true, unassigned, shortened_to, lines_of_clause, lines_of_clauses}
 use Rattle.varisat_prop.specs.Simplified.{are_unassigned}
-use Rattle.varisat_search.proofs.simplifying.UnassignedLiterals.{some-true, left-part, left-or_false, left-all, at-least}
+use Rattle.varisat_search.proofs.simplifying.UnassignedLiterals.{some-true, left-part, left-or_false, left-all}
 
 -- no line changes nothing
 no-lines : (s : Search) (ks : List KeptClause) → s.kept ≡ ks → Proves 0 s (record s { kept = ks }) []
@@ -91,7 +92,7 @@ module _ (values : List (Option Bool)) where
   seen-same k n e =
       let f = left-all values k.literals e in
       ap (λ (c : Clause). cond (nat_le 3 (length c)) (kept_clause (shortened_to c k)) (kept_pair c)) f
-      ∙ ap (λ (b : Bool). cond b (kept_clause (shortened_to k.literals k)) (kept_pair k.literals)) (at-least 3 (length k.literals) n)
+      ∙ ap (λ (b : Bool). cond b (kept_clause (shortened_to k.literals k)) (kept_pair k.literals)) (le-leb 3 (length k.literals) n)
 
   -- 3. One clause, and all.
   one-left : (s : Search) (front back : List KeptClause) (k : StoredClause) → s.kept ≡ front ++ (kept_clause k ∷ back) → HasProved values s →

@@ -3,6 +3,7 @@ use Rattle.std.proofs.Common.{◌≡◌, ◌<◌, ◌≤◌, ◌*◌, Bool, true
 use Rattle.std.specs.Prelude.{nat_le}
 use Rattle.std.specs.List.{filter}
 use Rattle.std.proofs.lemmas.List.{append-nil}
+use Rattle.std.proofs.lemmas.Bool.{not-true, and_parts, leb-true}
 use Rattle.varisat_theory.specs.promises.Membership.{◌∈◌, IsDistinct}
 use Rattle.varisat_theory.specs.promises.Literals.{Literal, Clause, opposite, variable_of}
 use Rattle.varisat_theory.specs.promises.Propagation.{IsComplete}
@@ -29,19 +30,10 @@ use Rattle.varisat_search.specs.Simplifications.{has_true, unassigned, shortened
 use Rattle.varisat_analysis.proofs.DeletedPlaces.{filter-rising}
 use Rattle.varisat_search.proofs.loading.LoadView.{no-decision}
 use Rattle.varisat_search.proofs.stepping.ViewSearch.{fixed_to, proved_to}
-use Rattle.varisat_search.proofs.simplifying.UnassignedLiterals.{none-true, left-part, left-unassigned, filter-distinct, below, not-below}
+use Rattle.varisat_search.proofs.simplifying.UnassignedLiterals.{none-true, left-part, left-unassigned, filter-distinct, below}
 use Rattle.varisat_search.proofs.simplifying.FilteredUnits.{two-elements}
 use Rattle.varisat_search.proofs.simplifying.SimplifiedLines.{HasProved, left_each, pairs-go, each-left}
 use Rattle.varisat_search.proofs.simplifying.SimplifiedKept.{longer-pair, joined-count, pairs-same, mixed-prove}
-
-pub both : (a b : Bool) → (a && b) ≡ true → (a ≡ true) × (b ≡ true)
-both true true e = (refl, refl)
-both true false e = absurd (let z : false ≡ true = e in cc)
-both false b e = absurd (let z : false ≡ true = e in cc)
-
-pub is-false : (b : Bool) → not b ≡ true → b ≡ false
-is-false true e = absurd (let z : false ≡ true = e in cc)
-is-false false e = refl
 
 pub from-map : {X : Type 0} (f : StoredClause → X) (ks : List StoredClause) (x : X) → x ∈ map f ks → (k : StoredClause) × (k ∈ ks) × (x ≡ f k)
 from-map f [] x h = absurd h
@@ -64,21 +56,21 @@ module _ (values : List (Option Bool)) (ks : List StoredClause) where
       let (j, i, e) = from-literals (left_long values ks) c h in
       let (k, o, q) = from-map (λ k. shortened_to (unassigned values k.literals) k) (filter (λ k. stays_long values k.literals) ks) j i in
       let (a, b) = ∈-filter (λ k. stays_long values k.literals) ks k o in
-      let (x, y) = both (not (has_true values k.literals)) (nat_le 3 (length (unassigned values k.literals))) b in
-      (k, a, sym e ∙ ap (λ (z : StoredClause). z.literals) q, not-below 3 (length (unassigned values k.literals)) y)
+      let (x, y) = and_parts (not (has_true values k.literals)) (nat_le 3 (length (unassigned values k.literals))) b in
+      (k, a, sym e ∙ ap (λ (z : StoredClause). z.literals) q, leb-true 3 (length (unassigned values k.literals)) y)
 
   pair-origin : (c : Clause) → c ∈ left_pairs values ks → (k : StoredClause) × (k ∈ ks) × (c ≡ unassigned values k.literals)
       × (has_true values k.literals ≡ false) × (length (unassigned values k.literals) < 3)
   pair-origin c h =
       let (k, o, q) = from-map (λ k. unassigned values k.literals) (filter (λ k. becomes_pair values k.literals) ks) c h in
       let (a, b) = ∈-filter (λ k. becomes_pair values k.literals) ks k o in
-      let (x, y) = both (not (has_true values k.literals)) (not (nat_le 3 (length (unassigned values k.literals)))) b in (
+      let (x, y) = and_parts (not (has_true values k.literals)) (not (nat_le 3 (length (unassigned values k.literals)))) b in (
         k,
         a,
         q,
-        is-false (has_true values k.literals) x,
+        not-true (has_true values k.literals) x,
         below 3 (length (unassigned values k.literals))
-            (is-false (nat_le 3 (length (unassigned values k.literals))) y),
+            (not-true (nat_le 3 (length (unassigned values k.literals))) y),
       )
 
 -- pairs without a value join such

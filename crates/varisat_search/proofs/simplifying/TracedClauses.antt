@@ -14,10 +14,12 @@ use Rattle.varisat_clause.specs.Stores.{Store, stored_clauses}
 use Rattle.varisat_clause.specs.Collected.{live_of}
 use Rattle.varisat_clause.proofs.CollectedClauses.{clause-of-index, length-places}
 use Rattle.varisat_clause.proofs.StoredClauses.{literals-∈}
+use Rattle.varisat_clause.proofs.LiveStore.{∈-live}
 use Rattle.std.specs.List.{filter, list_all}
+use Rattle.std.proofs.lemmas.Bool.{cases_Bool}
+use Rattle.std.proofs.lemmas.List.{get_or_default}
 use Rattle.varisat_prop.specs.Simplified.{is_unassigned, are_unassigned}
 use Rattle.varisat_search.specs.Simplifications.{has_true, unassigned, is_gone_pair, lines_of_pairs, lines_of_clause, lines_of_clauses}
-use Rattle.varisat_search.proofs.variables.DecidableVariables.{true-or-false}
 use Rattle.varisat_search.proofs.simplifying.FilteredUnits.{filter-short}
 use Rattle.varisat_search.proofs.simplifying.UnassignedLiterals.{left-all}
 use Rattle.varisat_prop.specs.declared.prop.graph.Reason.TheVariants as reason
@@ -50,32 +52,16 @@ each-unit ns (l ∷ ls) = go (is_clause (get_or ns (variable_of l) no_node).reas
     go true e = ap (λ xs. Add (l ∷ []) ∷ xs) e
     go false e = e
 
--- The clauses of a store as they are read place by place.
-any-default : {X : Type 0} (xs : List X) (i : ℕ) (d e : X) → i < length xs → get_or xs i d ≡ get_or xs i e
-any-default [] i d e h = absurd (omega (arith, h))
-any-default (x ∷ xs) zero d e h = refl
-any-default (x ∷ xs) (suc i) d e h = any-default xs i d e (omega (arith, h))
-
 -- the clause at the place of an index is that of the index
 pub place-read : (s : Store) (i p : ℕ) → i < length s.places → p ≡ get_or s.places i 0 → (i < length (stored_clauses s))
     × (stored_at (stored_clauses s) p ≡ get_or (stored_clauses s) i (stored_at (stored_clauses s) p))
 place-read s i p h e =
     let n = length-places s.words s.places in
     let a : i < length (stored_clauses s) = omega (arith, n, h) in
-    (a, sym (clause-of-index s i p h e) ∙ any-default (stored_clauses s) i no_clause (stored_at (stored_clauses s) p) a)
-
-pub live-there : (ks : List StoredClause) (k : StoredClause) → k ∈ ks → k.header.deleted ≡ false → k ∈ live_of ks
-live-there [] k h e = absurd h
-live-there (j ∷ ks) k (inl q) e = subst (λ (xs : List StoredClause). k ∈ xs)
-    (sym (ap (λ b. cond b (live_of ks) (j ∷ live_of ks)) (sym (ap (λ (x : StoredClause). x.header.deleted) q) ∙ e))) (inl q)
-live-there (j ∷ ks) k (inr m) e = go j.header.deleted (live-there ks k m e)
-  where
-    go : (b : Bool) → k ∈ live_of ks → k ∈ cond b (live_of ks) (j ∷ live_of ks)
-    go true i = i
-    go false i = inr i
+    (a, sym (clause-of-index s i p h e) ∙ get_or_default (stored_clauses s) i no_clause (stored_at (stored_clauses s) p) a)
 
 pub live-literals-∈ : (ks : List StoredClause) (k : StoredClause) → k ∈ ks → k.header.deleted ≡ false → k.literals ∈ literals_of (live_of ks)
-live-literals-∈ ks k h e = literals-∈ (live_of ks) k (live-there ks k h e)
+live-literals-∈ ks k h e = literals-∈ (live_of ks) k (∈-live ks k h e)
 
 -- 1. One clause.
 
@@ -99,7 +85,7 @@ module _ (values : List (Option Bool)) (c : Clause) where
       ⊎_elim
       (λ t. let n = ap (λ (d : Clause). length d) (left-all values c t) in absurd (omega (arith, h, n)))
       (λ f. f)
-      (true-or-false (are_unassigned values c)) in
+      (cases_Bool (are_unassigned values c)) in
       ap (λ b. cond b (Delete c ∷ []) (cond (are_unassigned values c) [] (Add (unassigned values c) ∷ Delete c ∷ []))) e
       ∙ ap (λ b. cond b [] (Add (unassigned values c) ∷ Delete c ∷ [])) all
 

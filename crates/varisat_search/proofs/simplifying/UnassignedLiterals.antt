@@ -4,11 +4,13 @@ use Rattle.std.specs.Prelude.{is_none, nat_le}
 use Rattle.std.specs.Bool.{beq}
 use Rattle.std.specs.Option.{option_map}
 use Rattle.std.specs.List.{filter, list_any}
+use Rattle.std.proofs.lemmas.Bool.{cases_Bool}
 use Rattle.varisat_theory.specs.promises.Membership.{◌∈◌, ◌⊆◌, IsDistinct}
 use Rattle.varisat_theory.specs.promises.Literals.{Literal, Clause, opposite, variable_of}
 use Rattle.varisat_literals.specs.promises.Numbers.{polarity_of}
 use Rattle.varisat_prop.specs.Parts.{IsMadeTrue, value_in, is_true_value}
-use Rattle.varisat_prop.proofs.trails.LiteralValues.{variable-opposite, polarity-opposite}
+use Rattle.varisat_theory.proofs.clauses.Values.{variable-opposite}
+use Rattle.varisat_prop.proofs.trails.LiteralValues.{polarity-opposite}
 use Rattle.varisat_search.specs.Simplifications.{has_true, unassigned}
 use Rattle.varisat_prop.specs.Simplified.{is_unassigned, are_unassigned}
 use Rattle.varisat_prop.proofs.pairs.SimplifiedPairs.{filter-∈, ∈-filter, all-unassigned, each-unassigned, none-unassigned}
@@ -44,10 +46,6 @@ filter-distinct p (x ∷ xs) d = go (p x) (filter-distinct p xs d.1)
     go : (b : Bool) → IsDistinct (filter p xs) → IsDistinct (cond b (x ∷ filter p xs) (filter p xs))
     go true r = ((λ i. d.0 (∈-filter p xs x i).0), r)
     go false r = r
-
-pub true-false : (b : Bool) → (b ≡ true) ⊎ (b ≡ false)
-true-false true = inl refl
-true-false false = inr refl
 
 -- 2. The values of literals.
 
@@ -95,7 +93,7 @@ module _ (values : List (Option Bool)) where
   none-true c e l i h = let f = any-none (λ l. is_true_value (value_in values l)) c e l i in let z : true ≡ false = sym (true-made l h) ∙ f in cc
 
   pub true-there : (c : Clause) (l : Literal) → l ∈ c → IsMadeTrue values l → has_true values c ≡ true
-  true-there c l i h = ⊎_elim (λ e. e) (λ e. absurd (none-true c e l i h)) (true-false (has_true values c))
+  true-there c l i h = ⊎_elim (λ e. e) (λ e. absurd (none-true c e l i h)) (cases_Bool (has_true values c))
 
   pub left-part : (c : Clause) → unassigned values c ⊆ c
   left-part c l i = (∈-filter (is_unassigned values) c l i).0
@@ -109,7 +107,7 @@ module _ (values : List (Option Bool)) where
       ⊎_elim
       (λ n. inl (filter-∈ (is_unassigned values) c l i n))
       (λ a. ⊎_elim (λ h. absurd (none-true c e l i h)) inr (assigned-cases l a))
-      (true-false (is_unassigned values l))
+      (cases_Bool (is_unassigned values l))
 
   -- nothing goes where none has a value
   pub left-all : (c : Clause) → are_unassigned values c ≡ true → unassigned values c ≡ c
@@ -124,11 +122,5 @@ unassigned-read values lits c is n = each-unassigned values c (λ l i. go l i (g
     go l i None e = none-unassigned values l e
     go l i (Some b) e = absurd (n (l, subst (λ x. l ∈ x) (sym is) i, λ z. (let y : Some b ≡ None = sym e ∙ z in cc)))
 
-pub at-least : (n m : ℕ) → n ≤ m → nat_le n m ≡ true
-at-least n m h = grind arith
-
 pub below : (n m : ℕ) → nat_le n m ≡ false → m < n
 below n m e = grind (arith, e)
-
-pub not-below : (n m : ℕ) → nat_le n m ≡ true → n ≤ m
-not-below n m e = grind (arith, e)

@@ -5,13 +5,13 @@ use Rattle.std.proofs.lemmas.Bool.{cases_lt}
 use Rattle.varisat_theory.specs.promises.Literals.{Literal, variable_of, opposite, value}
 use Rattle.varisat_theory.specs.promises.Propagation.{IsComplete}
 use Rattle.varisat_theory.proofs.clauses.Saturated.{complete_shorter}
-use Rattle.varisat_theory.proofs.clauses.Values.{parity}
+use Rattle.varisat_theory.proofs.clauses.Values.{parity, variable-opposite}
 use Rattle.varisat_literals.specs.promises.Numbers.{polarity_of}
 use Rattle.varisat_prop.specs.Parts.{is_true_value}
 use Rattle.varisat_clause.specs.Stored.{AreReordered}
 use Rattle.varisat_prop.specs.View.{View, kept, IsTrueIn, decision_at, WellFormed, PropagatedBeforeDecisions, GrowsTrail}
 use Rattle.varisat_prop.specs.Changes.{decided_on}
-use Rattle.varisat_prop.proofs.trails.LiteralValues.{variable-opposite, polarity-opposite}
+use Rattle.varisat_prop.proofs.trails.LiteralValues.{polarity-opposite}
 use Rattle.varisat_prop.proofs.trails.TrailExtend.{get_or-last}
 use Rattle.varisat_search.specs.Steps.{assignment_of}
 use Rattle.varisat_analysis.proofs.WellFormedViews.{kept-reordered}

@@ -3,7 +3,7 @@ use Rattle.std.proofs.Common.{◌≡◌, ℕ, ◌<◌, ◌≤◌, List, [], leng
 use Rattle.std.proofs.lemmas.List.{length-map}
 use Rattle.varisat_theory.specs.inside.Rank.{rank}
 use Rattle.varisat_theory.specs.promises.Derivations.{Line}
-use Rattle.varisat_theory.specs.inside.Outcomes.{Outcome, Proves, Steps}
+use Rattle.varisat_theory.specs.inside.Outcomes.{SearchOutcome, Proves, Steps}
 use Rattle.varisat_theory.proofs.steps.StepAccounts.{part_step}
 use Rattle.varisat_prop.specs.View.{View, WellFormed, PropagatedBeforeDecisions, node_of, is_implied, kinds}
 use Rattle.varisat_prop.specs.Watches.{Watches, IsPropagated}
@@ -62,7 +62,7 @@ module _ {glue : ℕ} (q : Plan) (level : ℕ) (s t : View) (w : WellFormed s) (
   begun-propagated W p = restart-elim q level s t (IsPropagated W) r p (λ h c. cut-propagated s t level w h c W p)
 
   -- the lines of the step
-  pub begun-steps : (u : View) (o : Outcome) (lines : List Line) → Steps (search_of t) (search_of u) o lines → Steps (search_of s) (search_of u) o lines
+  pub begun-steps : (u : View) (o : SearchOutcome) (lines : List Line) → Steps (search_of t) (search_of u) o lines → Steps (search_of s) (search_of u) o lines
   begun-steps u o lines k = part_step (search_of s) (search_of t) (search_of u) o [] lines begun-view.proves k
 
   -- and the rank after it

@@ -11,7 +11,7 @@ use Rattle.varisat_search.specs.Seen.{search_of}
 use Rattle.varisat_search.proofs.stepping.PropagatedBeforeDecisions.{makes-true, one-true}
 use Rattle.varisat_search.proofs.stepping.ViewSearch.{fixed_from, seen_clauses}
 use Rattle.varisat_search.proofs.stepping.StepWithoutLines.{grows_prove}
-use Rattle.varisat_theory.specs.inside.Outcomes.{Outcome, Sat, Steps}
+use Rattle.varisat_theory.specs.inside.Outcomes.{SearchOutcome, Sat, Steps}
 use Rattle.varisat_theory.proofs.steps.SearchFits.{clause_in}
 use Rattle.varisat_theory.proofs.steps.StepEnds.{model_is_found}
 use Rattle.varisat_theory.proofs.steps.StepAccounts.{part_step}
@@ -46,7 +46,7 @@ model-steps s w q o =
     (λ l h. makes-true s l (trail-true s w l h))
 
 -- the search went on before
-pub steps-after : (s u t : View) (v : Outcome) (lines : List Line) → WellFormed s → WellFormed u → GrowsTrail s u →
+pub steps-after : (s u t : View) (v : SearchOutcome) (lines : List Line) → WellFormed s → WellFormed u → GrowsTrail s u →
     Steps (search_of u) (search_of t) v lines → Steps (search_of s) (search_of t) v lines
 steps-after s u t v lines w x g p = part_step (search_of s) (search_of u) (search_of t) v [] lines (grows_prove s u w x g) p
 

@@ -71,11 +71,3 @@ decided-longer t u l w e =
 pub not-err : {X E : Type 0} (r : Result X E) (A : X → Type 0) (B : E → Type 0) → ((e : E) → r ≡ Err e → ⊥) → MatchResult r A B → (x : X) × A x
 not-err (Ok x) A B n h = (x, h)
 not-err (Err e) A B n h = absurd (n e refl)
-
-pub variable-literal : (v : ℕ) (b : Bool) → variable_of (literal_of v b) ≡ v
-variable-literal v true = omega arith
-variable-literal v false = omega arith
-
-pub polarity-literal : (v : ℕ) (b : Bool) → polarity_of (literal_of v b) ≡ b
-polarity-literal v true = eq-eqb ((2 * v) % 2) 0 (omega arith)
-polarity-literal v false = ne_eqb ((2 * v + 1) % 2) 0 (λ e. absurd (omega (arith, e)))

@@ -1,5 +1,6 @@
 -- What is fixed and what is proved in a view, as `search_of` lists it.
 use Rattle.std.proofs.Common.{◌≡◌, ℕ, Bool, map, true, false, ◌&&◌, not, nat_eq, List, [], ◌∷◌, ◌++◌, inl, inr, ⊎_elim, sym, ap, ◌∙◌, subst, refl, arith}
+use Rattle.std.proofs.lemmas.Bool.{and_parts}
 use Rattle.varisat_clause.specs.declared.header.Tier.TheVariants as tier
 use Rattle.varisat_clause.specs.Tiers.{is_tier}
 use Rattle.varisat_clause.specs.Headers.{Header}
@@ -33,11 +34,6 @@ is_zero n e = grind arith
 zero_is : (n : ℕ) → n ≡ 0 → nat_eq n 0 ≡ true
 zero_is n e = grind arith
 
-both : (a b : Bool) → (a && b) ≡ true → (a ≡ true) × (b ≡ true)
-both true true e = (refl, refl)
-both true false e = absurd (let z : false ≡ true = e in cc)
-both false b e = absurd (let z : false ≡ true = e in cc)
-
 pub no_clause : (r : Reason) → not (is_clause r) ≡ true → r ≡ reason.Unit
 no_clause reason.Unit e = refl
 no_clause (reason.Binary ms) e = absurd (let z : false ≡ true = e in cc)
@@ -53,7 +49,7 @@ module _ (s : View) (w : WellFormed s) where
   pub proved_from : (l : Literal) → l ∈ (search_of s).proved → IsProved s l
   proved_from l h =
       let (i, e) = ∈-filter (is_proved s) s.trail l h in
-      let (a, b) = both (nat_eq (level_of s l) 0) (not (is_clause (node_of s l).reason)) e in
+      let (a, b) = and_parts (nat_eq (level_of s l) 0) (not (is_clause (node_of s l).reason)) e in
       (i, is_zero (level_of s l) a, no_clause (node_of s l).reason b)
 
   pub proved_to : (l : Literal) → IsProved s l → l ∈ (search_of s).proved

@@ -1,6 +1,6 @@
 -- Which variables stay decidable.
 use Rattle.std.proofs.Common.{◌≡◌, ◌≢◌, ℕ, ◌<◌, ◌≤◌, Bool, true, false, Option, Some, None, [], ◌∷◌, ◌⊎◌, length, get_or, set, inl, inr, ⊎_elim, refl, sym, ap, ◌∙◌, subst, arith, get_or-set_same, get_or-set_other, length-set}
-use Rattle.std.proofs.lemmas.Bool.{cases_lt}
+use Rattle.std.proofs.lemmas.Bool.{cases_lt, cases_Bool}
 use Rattle.varisat_theory.specs.promises.Membership.{◌∈◌}
 use Rattle.varisat_theory.specs.promises.Literals.{Literal, Clause, variable_of, opposite, literal_of}
 use Rattle.varisat_theory.proofs.clauses.Members.{equal_or_not}
@@ -18,16 +18,13 @@ use Rattle.varisat_vsids.specs.Activities.{Activities, is_available}
 use Rattle.varisat_search.specs.Steps.{IsCut}
 use Rattle.varisat_search.specs.Decisions.{HasActivities, IsDecidable, AreDecidable, CanDecide, SameDecidable, SameDecidableBut, MakesAvailable, IsNextDecision, TakesUnassigned}
 use Rattle.varisat_analysis.proofs.WellFormedViews.{kept-reordered, same-place}
-use Rattle.varisat_search.proofs.stepping.StepOutcome.{variable-literal, polarity-literal}
+use Rattle.varisat_theory.proofs.clauses.Values.{variable-literal}
+use Rattle.varisat_prop.proofs.trails.LiteralValues.{polarity-literal}
 use Rattle.varisat_search.proofs.stepping.StepWithoutLines.{proved_back}
 
 pub value-or-none : (o : Option Bool) → (o ≡ None) ⊎ (o ≢ None)
 value-or-none None = inl refl
 value-or-none (Some b) = inr (λ e. cc)
-
-pub true-or-false : (b : Bool) → (b ≡ true) ⊎ (b ≡ false)
-true-or-false true = inl refl
-true-or-false false = inr refl
 
 some-value : (o : Option Bool) → o ≢ None → (b : Bool) × (o ≡ Some b)
 some-value None n = absurd (n refl)
@@ -103,7 +100,7 @@ module _ (s t : View) (level : ℕ) (a b : Activities) (w : WellFormed s) (c : I
       ⊎_elim
       (λ f. f)
       (λ f. let g = m.stays v (λ q. let x = m.left v q in let y : true ≡ false = sym x ∙ f in cc) in g ∙ e)
-      (true-or-false (is_available b v))
+      (cases_Bool (is_available b v))
 
   had-value : (v : ℕ) → get_or t.values v None ≢ None → get_or s.values v None ≢ None
   had-value v n z = n (c.stays v (λ q. n (c.gone v q)) ∙ z)

@@ -3,6 +3,7 @@ use Rattle.std.proofs.Common.{◌≡◌, ◌≢◌, ℕ, suc, ◌+◌, ◌*◌, 
 use Rattle.std.specs.Prelude.{cond}
 use Rattle.std.specs.List.{filter}
 use Rattle.std.proofs.lemmas.List.{get_or-map, length-map}
+use Rattle.std.proofs.lemmas.Bool.{cases_Bool}
 use Rattle.varisat_theory.specs.promises.Membership.{◌∈◌, IsDistinct}
 use Rattle.varisat_theory.specs.promises.Literals.{Literal, Clause, variable_of}
 use Rattle.varisat_theory.proofs.clauses.Members.{equal_or_not}
@@ -19,6 +20,7 @@ use Rattle.varisat_prop.proofs.pairs.DistinctPlaces.{distinct-places, distinct-b
 use Rattle.varisat_prop.proofs.views.Leaving.{staying-was, was-staying, cleared-length, cleared-left, cleared-stays}
 use Rattle.varisat_prop.proofs.pairs.SimplifiedPairs.{none-unassigned}
 use Rattle.varisat_prop.proofs.views.SimplifiedView.{settled-undecided, settled-unassigned, implied-unassigned}
+use Rattle.varisat_prop.proofs.trails.TrailValues.{variables-distinct}
 use Rattle.varisat_analysis.proofs.WellFormedViews.{same-place}
 use Rattle.varisat_vsids.specs.Activities.{Activities}
 use Rattle.varisat_search.specs.declared.context.Context.{Context}
@@ -29,7 +31,6 @@ use Rattle.varisat_search.specs.Decisions.{IsDecidable, AreDecidable, CanDecide}
 use Rattle.varisat_search.specs.Forgotten.{AreStaying, IsWithout, forgotten_activities, search_without}
 use Rattle.varisat_search.specs.Seen.{search_of, is_fixed, is_proved}
 use Rattle.varisat_search.specs.RootSimplified.{IsRootSimplified}
-use Rattle.varisat_search.proofs.variables.DecidableVariables.{true-or-false}
 use Rattle.varisat_search.proofs.variables.ForgottenValues.{forgotten_values}
 
 -- 1. The places on the trail are counted anew.
@@ -109,16 +110,8 @@ distinct-left p (l ∷ ls) d = go (p l) (distinct-left p ls d.1)
     go true i = ((λ h. d.0 (mapped-less p ls (variable_of l) h)), i)
     go false i = i
 
-pub trail-distinct : (s : View) → WellFormed s → IsDistinct (map variable_of s.trail)
-trail-distinct s w = distinct-by-places (map variable_of s.trail) 0 (λ i j a b e.
-    let n = length-map s.trail variable_of in
-    let f : i < length s.trail = omega (arith, a, b, n) in
-    let g : j < length s.trail = omega (arith, b, n) in
-    let z = same-place s w i j f g (sym (get_or-map variable_of s.trail i 0 0 f) ∙ e ∙ get_or-map variable_of s.trail j 0 0 g) in
-    omega (arith, z, a))
-
 pub staying-distinct : (s : View) (gone : List Bool) → WellFormed s → IsDistinct (map variable_of (staying gone s.trail))
-staying-distinct s gone w = distinct-left (λ l. not (leaves gone (variable_of l))) s.trail (trail-distinct s w)
+staying-distinct s gone w = distinct-left (λ l. not (leaves gone (variable_of l))) s.trail (variables-distinct s w)
 
 -- 2. Which variables are decidable.
 module _ (gone : List Bool) (s t : View) (a : Activities) (e : t.values ≡ cleared gone None s.values) where
@@ -136,7 +129,7 @@ module _ (gone : List Bool) (s t : View) (a : Activities) (e : t.values ≡ clea
       (λ i. let g = cleared-left gone false a.available v f in let z : true ≡ false = sym i ∙ g in absurd cc)
       h)
       (λ f. (⊎_elim (λ n. inl (λ z. n (value-stays v f ∙ z))) (λ i. inr (sym (cleared-stays gone false a.available false v f) ∙ i)) h, f))
-      (true-or-false (leaves gone v))
+      (cases_Bool (leaves gone v))
 
   pub stays-decidable : (v : ℕ) → IsDecidable s a v → leaves gone v ≡ false → IsDecidable t (forgotten_activities gone a) v
   stays-decidable v h f = ⊎_elim (λ n. inl (λ z. n (sym (value-stays v f) ∙ z))) (λ i. inr (cleared-stays gone false a.available false v f ∙ i)) h
@@ -192,7 +185,7 @@ module _ (gone : List Bool) (s t : View) (w : WellFormed s) (d : IsRootSimplifie
       cleared-stays gone None s.values None (variable_of (literal_at u k)) e ∙ subst (IsTrueIn s) f (w.is_true j a)
 
   true-stays : (l : Literal) → IsTrueIn u l → leaves gone (variable_of l) ≡ false
-  true-stays l h = ⊎_elim (λ e. let n = cleared-left gone None s.values (variable_of l) e in absurd cc) (λ e. e) (true-or-false (leaves gone (variable_of l)))
+  true-stays l h = ⊎_elim (λ e. let n = cleared-left gone None s.values (variable_of l) e in absurd cc) (λ e. e) (cases_Bool (leaves gone (variable_of l)))
 
   stands-at : (l : Literal) → IsTrueIn u l → (k : ℕ) × (k < length u.trail) × (literal_at u k ≡ l)
   stands-at l h =
@@ -237,7 +230,7 @@ module _ (gone : List Bool) (s t : View) (w : WellFormed s) (d : IsRootSimplifie
       ⊎_elim
       (λ e. cleared-left gone None s.values (variable_of l) e)
       (λ e. cleared-stays gone None s.values None (variable_of l) e ∙ d.unassigned c i l j)
-      (true-or-false (leaves gone (variable_of l)))
+      (cases_Bool (leaves gone (variable_of l)))
 
   free : (c : Clause) → c ∈ kept u → (l : Literal) → l ∈ c → is_unassigned u.values l ≡ true
   free c i l j = none-unassigned u.values l (none-valued c i l j)

@@ -9,11 +9,11 @@ use Rattle.varisat_theory.proofs.clauses.Places.{∈-get_or}
 use Rattle.varisat_prop.specs.View.{View, clause_at, literal_at, implied_by, kept, WellFormed}
 use Rattle.varisat_prop.specs.Watches.{Watches, literal_in, WatchesHoldTo, IsImpliedTo, IsPropagated}
 use Rattle.varisat_prop.proofs.pairs.KeptPairs.{implied-kept}
-use Rattle.varisat_prop.proofs.trails.LiteralValues.{variable-opposite}
+use Rattle.varisat_theory.proofs.clauses.Values.{variable-opposite}
 use Rattle.varisat_prop.proofs.views.WellFormedChanges.{kept-here, well-moved}
+use Rattle.varisat_prop.proofs.views.SimplifiedView.{settled-undecided}
 use Rattle.varisat_search.specs.declared.context.Context.{Context}
 use Rattle.varisat_search.specs.Contexts.{view, IsReady}
-use Rattle.varisat_search.proofs.loading.LoadView.{undecided-settled}
 
 module _ (s : View) (l : Literal) (w : WellFormed s) (here : slice_get s.trail s.queue_head ≡ Some l)
     (unmentioned : (c : Clause) → c ∈ kept s → (m : Literal) → m ∈ c → variable_of m ≢ variable_of l) where
@@ -67,7 +67,7 @@ pub skipped-ready : {A : Type 0} (x : Context A) (l : Literal) → IsReady x →
     ((c : Clause) → c ∈ kept (view x) → (m : Literal) → m ∈ c → variable_of m ≢ variable_of l) → IsReady (with_next_head x)
 skipped-ready x l r none here u = record {
   well = skipped-well (view x) l r.well here u;
-  settled = undecided-settled (view (with_next_head x)) none;
+  settled = settled-undecided (view (with_next_head x)) none;
   propagated = skipped-propagated (view x) l r.well here u x.watchlists r.propagated;
   tracks = r.tracks;
   analysis = r.analysis;

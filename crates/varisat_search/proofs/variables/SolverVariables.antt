@@ -39,10 +39,10 @@ kept-literal s c l h i =
     let (k, j, e) = map-∈ (λ (k : KeptClause). k.clause) c (search_of s).kept (subst (λ P. c ∈ P) (sym (seen_clauses s)) h) in
     (k, j, subst (λ d. l ∈ d) e i)
 
-some-is : (o : Option ℕ) (v : ℕ) → o ≡ Some v → IsSome o
+pub some-is : (o : Option ℕ) (v : ℕ) → o ≡ Some v → IsSome o
 some-is o v e = subst IsSome (sym e) refl
 
-is-there : (o : Option ℕ) → IsSome o → (v : ℕ) × (o ≡ Some v)
+pub is-there : (o : Option ℕ) → IsSome o → (v : ℕ) × (o ≡ Some v)
 is-there None h = absurd (let z : false ≡ true = h in cc)
 is-there (Some v) h = (v, refl)
 

@@ -8,6 +8,7 @@ use Rattle.varisat_names.specs.promises.VarMap.{at, IsFull}
 use Rattle.varisat_names.specs.promises.Variables.{Tables, AreLinked, IsTaken}
 use Rattle.varisat_names.proofs.Maps.{updated-at, updated-other, updated-all, is-some}
 use Rattle.varisat_names.proofs.Tables.{live-inside}
+use Rattle.varisat_prop.proofs.pairs.DistinctPlaces.{below, length-below, in-below}
 
 -- 1. How many numbers a map leads somewhere.
 
@@ -55,20 +56,6 @@ few f C one n h =
         let (i, q, c) = h n (omega arith) in
         (λ m. step n i q h (subst (λ z. z ∈ images f n) (ap number_or_zero q) m), distinct n (λ x b. h x (omega (arith, b))))
 
-pub below : ℕ → List ℕ
-below zero = []
-below (suc n) = n ∷ below n
-
-pub below-count : (n : ℕ) → length (below n) ≡ n
-unfolding below
-below-count zero = refl
-below-count (suc n) = let e = below-count n in omega (arith, e)
-
-pub ∈-below : (n i : ℕ) → i < n → i ∈ below n
-unfolding below
-∈-below zero i h = absurd (omega arith)
-∈-below (suc n) i h = ⊎_elim inl (λ o. inr (∈-below n i (omega (arith, o)))) (equal_or_not i n)
-
 -- 2. A solver variable is taken.
 
 module _ (old new : Tables) (x v : ℕ) (t : IsTaken old new x v) where
@@ -113,7 +100,7 @@ pub solvers-within : (t : Tables) → AreLinked t → IsFull t.solvers.backward 
 solvers-within t l n =
     let d = few (at t.solvers.backward) (below (length t.kept))
     (λ v u x a b. let q : Some u ≡ Some v = sym (l.solvers.back x u b) ∙ l.solvers.back x v a in cc) (length t.solvers.backward)
-    (λ v h. ⊎_elim (λ e. absurd (n v h e)) (λ (x, e). (x, e, ∈-below (length t.kept) x (live-inside t.kept x (l.taken x v (l.solvers.back x v e)))))
+    (λ v h. ⊎_elim (λ e. absurd (n v h e)) (λ (x, e). (x, e, in-below (length t.kept) x (live-inside t.kept x (l.taken x v (l.solvers.back x v e)))))
     (is-some (at t.solvers.backward v))) in
-    let e = below-count (length t.kept) in
+    let e = length-below (length t.kept) in
     omega (arith, d, e)

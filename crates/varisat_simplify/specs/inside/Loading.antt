@@ -2,12 +2,12 @@
 use Rattle.std.specs.Prelude.{◌≡◌, ℕ, Bool, List}
 use Rattle.varisat_theory.specs.promises.Literals.{Clause}
 use Rattle.varisat_theory.specs.promises.Held.{SameClauses}
-use Rattle.varisat_database.specs.Databases.{State}
-use Rattle.varisat_rules.specs.inside.States.{Reduces}
+use Rattle.varisat_database.specs.Databases.{DatabaseState}
+use Rattle.varisat_rules.specs.inside.States.{DerivesFrom}
 
 -- The clauses P were loaded, over so many variables, of which the flagged ones are frozen.
-pub record IsLoaded (P : List Clause) (n : ℕ) (frozen : List Bool) (s : State) : Type 0 where
-  pub reduces : Reduces P s
+pub record IsLoaded (P : List Clause) (n : ℕ) (frozen : List Bool) (s : DatabaseState) : Type 0 where
+  pub reduces : DerivesFrom P s
   pub same : SameClauses s.clauses P
   pub count : s.var_count ≡ n
   pub flags : s.frozen ≡ frozen

@@ -5,27 +5,28 @@ use Rattle.varisat_theory.specs.promises.Derivations.{Line, IsDerivation, Refute
 use Rattle.varisat_theory.specs.promises.Held.{SameClauses}
 use Rattle.varisat_formula.specs.promises.Formulas.{Formula, AreBelow}
 use Rattle.varisat_rules.specs.promises.Leading.{LeadsTo, IsNamedBy, AreNamedBy}
-use Rattle.varisat_rules.specs.promises.Stacks.{assignment_of, extended}
-use Rattle.varisat_database.specs.Databases.{State}
-use Rattle.varisat_rules.specs.inside.States.{live_clauses, Reduces, Becomes}
+use Rattle.varisat_formula.specs.promises.Values.{assignment_of}
+use Rattle.varisat_rules.specs.promises.Stacks.{extended}
+use Rattle.varisat_database.specs.Databases.{DatabaseState}
+use Rattle.varisat_rules.specs.inside.States.{live_clauses, DerivesFrom, IsLaterState}
 
 -- the formula has just the live clauses
-pub record Lists (s : State) (f : Formula) : Type 0 where
+pub record Lists (s : DatabaseState) (f : Formula) : Type 0 where
   pub count : s.var_count ≤ f.var_count
   pub same : f.clauses ≡ live_clauses s
 
 -- The clauses P were loaded, so many of them, and the state was made of that.
-pub record IsReduced (P : List Clause) (n : ℕ) (frozen : List Bool) (count : ℕ) (t : State) : Type 0 where
-  pub loaded : State
-  pub reduces : Reduces P loaded
+pub record IsReduced (P : List Clause) (n : ℕ) (frozen : List Bool) (count : ℕ) (t : DatabaseState) : Type 0 where
+  pub loaded : DatabaseState
+  pub reduces : DerivesFrom P loaded
   pub same : SameClauses loaded.clauses P
-  pub becomes : Becomes loaded t
+  pub becomes : IsLaterState loaded t
   pub vars : loaded.var_count ≡ n
   pub flags : loaded.frozen ≡ frozen
   pub whole : count ≡ length loaded.clauses
 
 -- What is handed out is what is live, or the first clauses as they are.
-abbrev pub Finishes : State → ℕ → Formula → List Clause → List Line → Type 0
+abbrev pub Finishes : DatabaseState → ℕ → Formula → List Clause → List Line → Type 0
 Finishes s count g stack lines =
     (Lists s g × (stack ≡ s.stack) × (lines ≡ s.lines)) ⊎
     ((g.clauses ≡ take count s.clauses) × (stack ≡ []) × (lines ≡ []))

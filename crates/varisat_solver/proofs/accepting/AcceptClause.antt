@@ -1,6 +1,6 @@
 -- A clause is accepted: its names come into use, their variables take solver variables, and it is loaded.
 use Rattle.std.proofs.Common.{◌≡◌, ◌≢◌, ℕ, zero, suc, ◌+◌, ◌-◌, ◌<◌, ◌≤◌, nat_lt, if◌then◌else◌, Bool, true, false, Option, Some, None, List, [], ◌∷◌, ◌++◌, ◌⊎◌, inl, inr, ⊎_elim, length, map, sym, ap, ap₂, ◌∙◌, subst, refl, arith, rules}
-use Rattle.std.proofs.lemmas.Bool.{lt-ltb}
+use Rattle.std.proofs.lemmas.Bool.{lt-ltb, le-ltb}
 use Rattle.varisat_theory.specs.promises.Membership.{◌∈◌}
 use Rattle.varisat_theory.specs.promises.Literals.{Literal, Clause, Assignment, variable_of}
 use Rattle.varisat_theory.specs.promises.Searches.{IsLiteralOf}
@@ -98,16 +98,13 @@ next-spaces (suc k) g s new f (mid, x, n, rest) =
     (with_variables first (with_naming (bring s.naming.watermark s.naming) s)) new fits rest in
     (last, λ i b. further i (omega (arith, b)) ∙ keep i b, all)
 
-not-below : (a b : ℕ) → b ≤ a → nat_lt a b ≡ false
-not-below a b h = search (rules, h)
-
 -- how a name is named, below the watermark
 pub name-below : (u : ℕ) (m : Naming) → u < m.watermark → name_one u m ≡ bring_if_free u (m.names u) m
 name-below u m h = ap (λ c. if c then bring_if_free u (m.names u) m else bring_next (suc u - m.watermark) m) (lt-ltb u m.watermark h)
 
 -- and from it on
 pub name-above : (u : ℕ) (m : Naming) → m.watermark ≤ u → name_one u m ≡ bring_next (suc u - m.watermark) m
-name-above u m h = ap (λ c. if c then bring_if_free u (m.names u) m else bring_next (suc u - m.watermark) m) (not-below u m.watermark h)
+name-above u m h = ap (λ c. if c then bring_if_free u (m.names u) m else bring_next (suc u - m.watermark) m) (le-ltb u m.watermark h)
 
 -- a name is named: it was in use, or comes into use alone, or with those from the watermark up to it
 pub named-one : (g : Summary) (s : State) (new : Tables) (u : ℕ) → SpacesFit (spaces g) s → IsNamed u g.tables new →

@@ -7,7 +7,7 @@ use Rattle.varisat_theory.specs.promises.Renaming.{rename_line}
 use Rattle.varisat_theory.specs.promises.Journals.{Entry, Accepts, Assumes, GoesOn, written}
 use Rattle.varisat_solver.specs.promises.Journals.{with_entries, LogsStaying}
 use Rattle.varisat_theory.specs.promises.Searches.{Search, Covers, CoversBy, IsLiteralOf, IsCoveredBySearch, Tautology, KnownTrue, FixedTrue, Kept}
-use Rattle.varisat_theory.specs.inside.Outcomes.{Outcome, Loads, IsLiteralOfEither}
+use Rattle.varisat_theory.specs.inside.Outcomes.{SearchOutcome, Loads, IsLiteralOfEither}
 use Rattle.varisat_theory.specs.inside.Outcomes as outcome
 use Rattle.varisat_theory.proofs.clauses.Members.{∈-or_not, ∈-append_cases, ∈-append_left, ∈-append_right}
 use Rattle.varisat_theory.proofs.journals.Renaming.{∈-map, map-∈}
@@ -17,7 +17,8 @@ use Rattle.varisat_theory.proofs.journals.StepCounts.{by_derives}
 use Rattle.varisat_theory.proofs.journals.StepCovers.{names_are_loaded}
 use Rattle.varisat_theory.proofs.journals.Spoken.{spoken_wider}
 use Rattle.varisat_literals.specs.promises.Numbers.{polarity_of}
-use Rattle.varisat_prop.proofs.trails.LiteralValues.{own-opposite, same-literal, variable-opposite}
+use Rattle.varisat_theory.proofs.clauses.Values.{variable-opposite}
+use Rattle.varisat_prop.proofs.trails.LiteralValues.{same-literal}
 use Rattle.varisat_names.specs.promises.Maps.{chain}
 use Rattle.varisat_names.specs.declared.variables.data.VarData.{VarData}
 use Rattle.varisat_solver.specs.promises.States.{State, Verdict, Unknown, Unsat, IsRight}
@@ -39,6 +40,7 @@ use Rattle.varisat_proof.specs.promises.Calls.{CheckerState}
 use Rattle.varisat_proof.specs.promises.Proving.{IsCheckedIf}
 use Rattle.varisat_solver.proofs.entries.CheckedHeld.{checker-on, checker-still, logged-carried, global-carried}
 use Rattle.varisat_theory.proofs.journals.Journals.{written_stays}
+use Rattle.varisat_theory.proofs.clauses.ConflictForms.{never_its_own}
 use Rattle.varisat_solver.proofs.entries.LoggedProofs.{AreLoggedAs}
 
 module _ (w : Carrying) (p : Spaces) (s : State) (d : Clause) (k : Links w p s) (taken : AreTaken p d) where
@@ -121,7 +123,7 @@ module _ (w : Carrying) (p : Spaces) (s : State) (d : Clause) (k : Links w p s) 
 
     by-cover : (m : Literal) (i : ℕ) → r.identity (variable_of m) ≡ Some i → (D : Clause) → IsUnit (carry r.identity m) D →
         IsCoveredBySearch (carry r.identity) (is_forced r.forced) p.search D → m ∈ p.search.fixed
-    by-cover m i a D u (Tautology (l, f, g)) = absurd (own-opposite l (u.1 (opposite l) g ∙ sym (u.1 l f)))
+    by-cover m i a D u (Tautology (l, f, g)) = absurd (never_its_own l (u.1 (opposite l) g ∙ sym (u.1 l f)))
     by-cover m i a D u (KnownTrue l f g) =
         let z = u.1 l f in
         h.fixed open-verdict m i a (ap r.forced (sym (ap variable_of z ∙ carry-at r.identity m i a)) ∙ forced-value r.forced l g
@@ -161,7 +163,7 @@ module _ (w : Carrying) (p : Spaces) (s : State) (d : Clause) (k : Links w p s) 
         q
 
   -- What the search with the clause holds.
-  module _ (h : SearchHolds s.clauses r p.search outcome.Unknown) (t : Search) (v : Outcome) (lines : List Line)
+  module _ (h : SearchHolds s.clauses r p.search outcome.Unknown) (t : Search) (v : SearchOutcome) (lines : List Line)
       (loads : Loads p.search t e v lines) (long : AreLong t) (in-use : AreInUse p t) where
     in-covers : v ≢ outcome.Unsat → (Q : List Clause) → Covers Q p.search → Covers Q t
     in-covers n Q g b i = answers-covers (Q ++ e ∷ []) t v n (loads.answers Q g) b (∈-append_left b Q (e ∷ []) i)
@@ -258,7 +260,7 @@ module _ (w : Carrying) (p : Spaces) (s : State) (d : Clause) (k : Links w p s) 
         go (Forced b e) = Forced b e
 
     linked : (logged : List Entry) → IsWholeLog logged (s.clauses ++ c ∷ []) s.assumptions s.counted s.ever_hidden (IsRetired w s) →
-        (t : Search) (v : Outcome) (m : ℕ → Bool) (checker : Option CheckerState) (x : Verdict) →
+        (t : Search) (v : SearchOutcome) (m : ℕ → Bool) (checker : Option CheckerState) (x : Verdict) →
         CheckerFits w.global logged checker →
         SearchHolds (s.clauses ++ c ∷ []) (with_logged logged r) t (without_core v) → VerdictFits w.identity m v x →
         CoreFits s.naming.names p.core x → IsRight (s.clauses ++ c ∷ []) s.assumptions s.counted x →
@@ -347,7 +349,7 @@ module _ (w : Carrying) (p : Spaces) (s : State) (d : Clause) (k : Links w p s) 
         (subst (λ es. IsCheckedIf p.checker es checker) (sym all) checks)
         k.checked)
 
-    pub loaded : (t : Search) (v : Outcome) (m : ℕ → Bool) (checker : Option CheckerState) (lines : List Line) →
+    pub loaded : (t : Search) (v : SearchOutcome) (m : ℕ → Bool) (checker : Option CheckerState) (lines : List Line) →
         IsCheckedIf p.checker (logged_as (carry p.global_from_solver) (Accepts (map (solver_literal p) d) ∷ written lines)) checker →
         p.outcome ≡ outcome.Unknown → AreLong p.search → AreLong t → AreInUse p t → Loads p.search t (map (solver_literal p) d) v lines →
         (x : Verdict) × (logged : List Entry) × VerdictAfter s.clauses (map (through_names s.naming) d) Unknown x

@@ -5,19 +5,20 @@ use Rattle.varisat_theory.specs.promises.Literals.{Literal, Clause, variable_of}
 use Rattle.varisat_theory.specs.promises.Held.{without}
 use Rattle.varisat_theory.specs.promises.Renaming.{rename}
 use Rattle.varisat_theory.specs.promises.Searches.{Search, Fits, IsLiteralOf, IsCoveredBySearch, Tautology, KnownTrue, FixedTrue, Kept}
-use Rattle.varisat_theory.specs.inside.Outcomes.{Outcome}
+use Rattle.varisat_theory.specs.inside.Outcomes.{SearchOutcome}
 use Rattle.varisat_theory.specs.inside.Outcomes as outcome
 use Rattle.varisat_theory.proofs.clauses.Members.{equal_or_not, ∈-append_left, ∈-append_cases}
 use Rattle.varisat_theory.proofs.journals.HeldRetirements.{without_less}
 use Rattle.varisat_literals.specs.promises.Numbers.{polarity_of}
 use Rattle.varisat_prop.proofs.trails.LiteralValues.{same-literal}
+use Rattle.varisat_prop.proofs.pairs.DistinctPlaces.{below, length-below, in-below}
 use Rattle.varisat_names.specs.promises.Maps.{updated, onward, chain}
 use Rattle.varisat_solver.specs.promises.States.{State}
 use Rattle.varisat_tracer.specs.promises.Carried.{carry}
 use Rattle.varisat_solver.specs.inside.Carried.{is_forced}
 use Rattle.varisat_solver.specs.inside.Spaces.{Spaces, Carrying, Translation, translation, IsDischargedBy, SearchHolds, AssumptionsFit, without_core, Links}
 use Rattle.varisat_solver.proofs.calls.SpacesAgree.{take_solver, carry-same, working-same, settled-through}
-use Rattle.varisat_search.proofs.variables.TakenSolvers.{few, below, below-count, ∈-below}
+use Rattle.varisat_search.proofs.variables.TakenSolvers.{few}
 use Rattle.varisat_names.proofs.Maps.{updated-at, updated-other, updated-all, joined, chain-some, chain-none, chain-through, is-some}
 use Rattle.varisat_solver.proofs.leaving.DetachedSolvers.{settled-with}
 use Rattle.varisat_solver.proofs.calls.Carried.{carry-at, carry-sign}
@@ -193,7 +194,7 @@ module _ (w : Carrying) (p : Spaces) (s : State) (x i v : ℕ) (k : Links w p s)
     unforced : (p.outcome ≡ outcome.Unsat → ⊥) → w.forced i ≡ None
     unforced n = k.units.unit x i is ∙ ⊎_elim (λ e. e) (λ q. absurd (n q)) unfixed
 
-    taken-holds : (o : Outcome) → p.outcome ≡ o → SearchHolds s.clauses r p.search (without_core o) → SearchHolds s.clauses r' p.search (without_core o)
+    taken-holds : (o : SearchOutcome) → p.outcome ≡ o → SearchHolds s.clauses r p.search (without_core o) → SearchHolds s.clauses r' p.search (without_core o)
     taken-holds outcome.Unknown e h = taken-open h (unforced (λ q. let z : outcome.Unknown ≡ outcome.Unsat = sym e ∙ q in cc))
     taken-holds (outcome.Sat found) e h = with-model s.clauses r' p.search found
         (taken-open (without-model s.clauses r p.search found h) (unforced (λ q. let z : outcome.Sat found ≡ outcome.Unsat = sym e ∙ q in cc)))
@@ -220,6 +221,6 @@ pub globals-few : (w : Carrying) (p : Spaces) (s : State) (n : ℕ) → Links w 
 globals-few w p s n k live =
     let d = few w.identity (below s.naming.made)
     (λ x y i a b. let q : Some y ≡ Some x = sym (k.identities.one_to_one.there y i b) ∙ k.identities.one_to_one.there x i a in cc) n
-    (λ x b. let (i, e) = linked w p s x k (live x b) in (i, e, ∈-below s.naming.made i (k.identities.below x i e))) in
-    let e = below-count s.naming.made in
+    (λ x b. let (i, e) = linked w p s x k (live x b) in (i, e, in-below s.naming.made i (k.identities.below x i e))) in
+    let e = length-below s.naming.made in
     omega (arith, d, e)

@@ -5,7 +5,7 @@ use Rattle.std.specs.Option.{IsSome}
 use Rattle.varisat_theory.specs.promises.Membership.{◌∈◌}
 use Rattle.varisat_theory.specs.promises.Literals.{Literal, variable_of, literal_of}
 use Rattle.varisat_literals.specs.promises.Numbers.{polarity_of, variable_limit}
-use Rattle.varisat_prop.proofs.trails.LiteralValues.{same-literal}
+use Rattle.varisat_prop.proofs.trails.LiteralValues.{same-literal, polarity-literal}
 use Rattle.varisat_search.specs.declared.context.Context.{Context}
 use Rattle.varisat_search.specs.declared.state.SatState.{SatState}
 use Rattle.varisat_search.specs.declared.state.SatState.TheVariants as verdict
@@ -16,8 +16,8 @@ use Rattle.varisat_search.specs.Decisions.{AreDecidable}
 use Rattle.varisat_theory.proofs.journals.Renaming.{map-∈}
 use Rattle.varisat_search.specs.SolverVariables.{HasRoomFor, Searched, HasVariables, KeepsSeen, HasSolverVariable, HadOne, TookOne, CameBack, NameHasSolver, HaveSolversInTurn, AreOver}
 use Rattle.varisat_search.proofs.variables.KeptNames.{one-keeps}
-use Rattle.varisat_search.proofs.stepping.StepOutcome.{variable-literal, polarity-literal}
-use Rattle.varisat_search.proofs.variables.SolverVariables.{case-same, in-use-all}
+use Rattle.varisat_theory.proofs.clauses.Values.{variable-literal}
+use Rattle.varisat_search.proofs.variables.SolverVariables.{case-same, in-use-all, some-is, is-there}
 use Rattle.varisat_search.proofs.variables.TakenSolvers.{taken-stays, taken-full}
 use Rattle.varisat_names.specs.promises.Maps.{chain}
 use Rattle.varisat_names.specs.promises.VarBiMap.{BiMap}
@@ -40,7 +40,7 @@ use Rattle.varisat_solver.proofs.calls.SpacesAgree.{count}
 use Rattle.varisat_solver.proofs.calls.Counted.{join-has}
 use Rattle.varisat_solver.proofs.calls.Carried.{carry-at, carry-sign}
 use Rattle.varisat_solver.proofs.accepting.NamesComing.{IsNamedTo, Same, Alone, Onward, named-to, AreAlike, alike-self, one-named, one-watermark, next-below, all-made}
-use Rattle.varisat_solver.proofs.modes.TableMarks.{is-there, there-is, assumed-keeps, marked-keeps}
+use Rattle.varisat_solver.proofs.modes.TableMarks.{assumed-keeps, marked-keeps}
 use Rattle.varisat_solver.proofs.accepting.AcceptClause.{with_tables, named-one, HasNoModel, taken-one, raised, counted-spaces}
 use Rattle.varisat_solver.proofs.accepting.AcceptSolverVariables.{solvers-few}
 use Rattle.varisat_solver.proofs.modes.VariableChanges.{unsat-or-not}
@@ -260,11 +260,11 @@ module _ {A : Type 0} (l : Literal) (old new : Searched A) (v : ℕ) (none : old
         count = h.variables.count;
         decidable = h.variables.decidable;
         assumed = λ m i.
-            let (y, e) = there-is (at old.tables.users.forward (variable_of m)) (k.assumed m (subst (λ ls. m ∈ ls) user i)) in
-            is-there (at new.tables.users.forward (variable_of m)) y (ap (λ (b : BiMap). at b.forward (variable_of m)) users ∙ keeps.named (variable_of m) y e);
+            let (y, e) = is-there (at old.tables.users.forward (variable_of m)) (k.assumed m (subst (λ ls. m ∈ ls) user i)) in
+            some-is (at new.tables.users.forward (variable_of m)) y (ap (λ (b : BiMap). at b.forward (variable_of m)) users ∙ keeps.named (variable_of m) y e);
         marked = λ m z i f.
             let j = subst (λ ls. m ∈ ls) user i in
-            let (y, e) = there-is (at old.tables.users.forward (variable_of m)) (k.assumed m j) in
+            let (y, e) = is-there (at old.tables.users.forward (variable_of m)) (k.assumed m j) in
             ap (λ (ds : List VarData). (data_at ds z).assumed) kept ∙ marked-keeps old.tables h.mid (variable_of m) z y linked keeps e
             (k.marked m y j e) (ap (λ (b : BiMap). at b.forward (variable_of m)) (sym users) ∙ f);
         working = λ m i.
@@ -350,7 +350,7 @@ module _ {A : Type 0} {t : Tables} {c : Context A} (list literals : List Literal
     named = λ l h.
         let (v, e) = over-leads (chain (at t.users.forward) (at t.solvers.forward)) list literals over l h in
         let (x, a, b) = chain-through (at t.users.forward) (at t.solvers.forward) (variable_of l) v e in
-        is-there (at t.users.forward (variable_of l)) x a;
+        some-is (at t.users.forward (variable_of l)) x a;
   }
 
   -- the variables of the literals are in use
@@ -360,13 +360,13 @@ module _ {A : Type 0} {t : Tables} {c : Context A} (list literals : List Literal
       (subst (λ ls. l ∈ ls) (over-carried (chain (at t.users.forward) (at t.solvers.forward)) list literals over) h) in
       let (v, r) = over-leads (chain (at t.users.forward) (at t.solvers.forward)) list literals over m i in
       let (x, a, b) = chain-through (at t.users.forward) (at t.solvers.forward) (variable_of m) v r in
-      is-there (at t.solvers.backward (variable_of l)) x
+      some-is (at t.solvers.backward (variable_of l)) x
       (ap (at t.solvers.backward) (ap variable_of q ∙ carry-at (chain (at t.users.forward) (at t.solvers.forward)) m v r) ∙ linked.solvers.there x v b)
 
   -- the search has them
   pub literals-within : AreLinked t → (l : Literal) → l ∈ literals → variable_of l < length c.assignment.current
   literals-within linked l h =
-      let (x, e) = there-is (at t.solvers.backward (variable_of l)) (literals-known linked l h) in
+      let (x, e) = is-there (at t.solvers.backward (variable_of l)) (literals-known linked l h) in
       let r = at-inside t.solvers.backward (variable_of l) x e in
       omega (arith, r, k.count)
 

@@ -5,8 +5,8 @@ use Rattle.varisat_theory.specs.promises.Literals.{Literal, Clause, Assignment, 
 use Rattle.varisat_theory.proofs.clauses.Members.{∈-append_cases}
 use Rattle.varisat_theory.proofs.journals.Renaming.{∈-map, map-∈}
 use Rattle.varisat_literals.specs.promises.Numbers.{polarity_of}
-use Rattle.varisat_prop.proofs.trails.LiteralValues.{same-literal}
-use Rattle.varisat_search.proofs.stepping.StepOutcome.{variable-literal, polarity-literal}
+use Rattle.varisat_prop.proofs.trails.LiteralValues.{same-literal, polarity-literal}
+use Rattle.varisat_theory.proofs.clauses.Values.{variable-literal, parity}
 use Rattle.varisat_solver.specs.promises.Names.{identity_of}
 use Rattle.varisat_tracer.specs.promises.Carried.{carry}
 use Rattle.varisat_tracer.specs.inside.RenamedEntries.{carry-opposites}
@@ -97,9 +97,6 @@ forced-value forced l e = go (forced (variable_of l)) (polarity_of l) e
     go (Some true) false e = absurd (let z : false ≡ true = e in cc)
     go (Some false) true e = absurd (let z : false ≡ true = e in cc)
     go (Some false) false e = refl
-
-parity : (m : ℕ) → (m % 2 ≡ 0) ⊎ (m % 2 ≡ 1)
-parity m = grind arith
 
 -- the literal of another variable with the same sign
 pub carried-literal : (f : ℕ → Option ℕ) (l : Literal) (v : ℕ) (b : Bool) → f (variable_of l) ≡ Some v → IsTrue b ↔ (l % 2 ≡ 0) → literal_of v b ≡ carry f l

@@ -8,6 +8,7 @@ use Rattle.varisat_solver.specs.promises.States.{State, is_member, join_one, joi
 use Rattle.varisat_solver.specs.inside.Spaces.{Spaces, Carrying, Links}
 use Rattle.varisat_solver.proofs.calls.SpacesAgree.{count}
 use Rattle.varisat_solver.proofs.entries.LoggedEntries.{logged-counted}
+use Rattle.varisat_clause.proofs.MarkedClauses.{distinct-more}
 
 member-is : (i : ℕ) (xs : List ℕ) → is_member i xs ≡ true → i ∈ xs
 member-is i [] e = absurd (let z : false ≡ true = e in cc)
@@ -21,14 +22,6 @@ is-member i (x ∷ xs) (inr h) = ap (λ b. nat_eq i x || b) (is-member i xs h) �
     or-true : (b : Bool) → (b || true) ≡ true
     or-true true = refl
     or-true false = refl
-
-pub distinct-push : (xs : List ℕ) (i : ℕ) → IsDistinct xs → (i ∈ xs → ⊥) → IsDistinct (xs ++ i ∷ [])
-distinct-push [] i d n = (λ h. h, tt)
-distinct-push (x ∷ xs) i d n = (
-  λ h. ⊎_elim d.0 (λ k. ⊎_elim (λ e. n (inl (sym e))) (λ z. z) k)
-      (∈-append_cases x xs (i ∷ []) h),
-  distinct-push xs i d.1 (λ h. n (inr h)),
-)
 
 -- what one more identity does to the list
 record Joins (old new : List ℕ) (i : ℕ) : Type 0 where
@@ -46,7 +39,7 @@ join-one i xs = go (is_member i xs) refl
       more = λ j h. ∈-append_left j xs (i ∷ []) h;
       has = ∈-append_right i xs (i ∷ []) (inl refl);
       only = λ j h. ⊎_elim inl (λ k. ⊎_elim inr (λ z. absurd z) k) (∈-append_cases j xs (i ∷ []) h);
-      once = λ d. distinct-push xs i d (λ h. let z : true ≡ false = sym (is-member i xs h) ∙ e in cc);
+      once = λ d. distinct-more xs i d (λ h. let z : true ≡ false = sym (is-member i xs h) ∙ e in cc);
     }
 
 pub join-more : (is xs : List ℕ) → xs ⊆ join_counted xs is

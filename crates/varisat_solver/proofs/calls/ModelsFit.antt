@@ -2,11 +2,12 @@
 use Rattle.std.proofs.Common.{◌≡◌, ℕ, zero, suc, ◌+◌, ◌<◌, ◌≤◌, Bool, true, false, Option, Some, None, List, [], ◌∷◌, ◌⊎◌, inl, inr, ⊎_elim, sym, ap, ◌∙◌, subst, refl, arith}
 use Rattle.varisat_theory.specs.promises.Membership.{◌∈◌}
 use Rattle.varisat_theory.specs.promises.Literals.{Literal, Assignment, variable_of, literal_of, value}
-use Rattle.varisat_theory.specs.inside.Outcomes.{Outcome}
+use Rattle.varisat_theory.specs.inside.Outcomes.{SearchOutcome}
 use Rattle.varisat_theory.specs.inside.Outcomes as outcome
 use Rattle.varisat_theory.proofs.journals.Renaming.{map-∈}
 use Rattle.varisat_literals.specs.promises.Numbers.{polarity_of}
-use Rattle.varisat_search.proofs.stepping.StepOutcome.{variable-literal, polarity-literal}
+use Rattle.varisat_theory.proofs.clauses.Values.{variable-literal}
+use Rattle.varisat_prop.proofs.trails.LiteralValues.{polarity-literal}
 use Rattle.varisat_names.proofs.Maps.{chain-some, chain-none}
 use Rattle.varisat_solver.specs.promises.States.{State, Verdict, Unknown, Sat, Unsat, UnsatUnderAssumptions, IsRight}
 use Rattle.varisat_solver.specs.promises.Names.{through_names}

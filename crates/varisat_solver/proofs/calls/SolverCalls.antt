@@ -5,7 +5,7 @@ use Rattle.varisat_theory.specs.promises.Literals.{Literal, Clause, Assignment, 
 use Rattle.varisat_theory.specs.promises.Derivations.{Line}
 use Rattle.varisat_theory.specs.promises.CallBounds.{AreFew}
 use Rattle.varisat_theory.specs.promises.Searches.{IsLiteralOf}
-use Rattle.varisat_theory.specs.inside.Outcomes.{Outcome, MakesSteps}
+use Rattle.varisat_theory.specs.inside.Outcomes.{SearchOutcome, MakesSteps}
 use Rattle.varisat_theory.specs.inside.Outcomes as outcome
 use Rattle.varisat_theory.proofs.journals.Renaming.{map-∈}
 use Rattle.varisat_prop.proofs.trails.LiteralValues.{same-literal}
@@ -402,10 +402,6 @@ comes-made at p q search assumed s t y z verdict.UnsatUnderAssumptions n lines (
       fits = left-spaces g q.proof.checker (with_entries logged (with_verdict (UnsatUnderAssumptions core) s)) t y z verdict.UnsatUnderAssumptions v (w, links);
     }
 
-pub not-valid : (b : Bool) → not b ≡ true → b ≡ false
-not-valid true e = let z : false ≡ true = e in absurd cc
-not-valid false e = refl
-
 -- few steps were made since the last change
 pub counted-few : (g : Summary) (s : State) → Represents g s → g.ledger.valid ≡ true →
     ((n : ℕ) → length g.search.values ≤ n → AreFew n g.ledger.since) → AreFew (length s.counted) s.ledger.since
@@ -512,7 +508,7 @@ unsat-known g s st v e =
 -- 7. What is logged where the verdict is known.
 
 -- under Unsat what was logged leads to a conflict
-pub unsat-logged : (id : ℕ → Option ℕ) (m : ℕ → Bool) (r : Translation) (fixed : List Literal) (share : List Clause) (o : Outcome) (x : Verdict) →
+pub unsat-logged : (id : ℕ → Option ℕ) (m : ℕ → Bool) (r : Translation) (fixed : List Literal) (share : List Clause) (o : SearchOutcome) (x : Verdict) →
     x ≡ Unsat → VerdictFits id m o x → HeldFits r fixed share (without_core o) → LogsConflict r.logged
 unsat-logged id m r fixed share outcome.Unsat x e f h = h
 unsat-logged id m r fixed share outcome.Unknown x e f h = absurd (subst (VerdictFits id m outcome.Unknown) e f)
@@ -524,7 +520,7 @@ logged-refuted g s st v e = let (w, k) = st.fits v in unsat-logged w.identity (s
     (spaces g).search.fixed k.holds.held (spaces g).outcome s.verdict e k.verdict k.holds.logged
 
 -- a core is not empty
-pub core-not-empty : (id : ℕ → Option ℕ) (m : ℕ → Bool) (o : Outcome) (x : Verdict) (list : List Literal) → x ≡ UnsatUnderAssumptions list →
+pub core-not-empty : (id : ℕ → Option ℕ) (m : ℕ → Bool) (o : SearchOutcome) (x : Verdict) (list : List Literal) → x ≡ UnsatUnderAssumptions list →
     VerdictFits id m o x → list ≢ []
 core-not-empty id m outcome.Unknown x list e f = absurd (subst (VerdictFits id m outcome.Unknown) e f)
 core-not-empty id m (outcome.Sat found) x list e f = absurd (subst (VerdictFits id m (outcome.Sat found)) e f)

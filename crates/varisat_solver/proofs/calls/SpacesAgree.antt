@@ -3,7 +3,7 @@ use Rattle.std.proofs.Common.{◌≡◌, ◌≢◌, ℕ, ◌+◌, max, true, fal
 use Rattle.varisat_theory.specs.promises.Membership.{◌∈◌, ◌⊆◌}
 use Rattle.varisat_theory.specs.promises.Literals.{Literal, Clause, variable_of, Assignment, value, MakesTrue}
 use Rattle.varisat_theory.specs.promises.Searches.{Search, KeptClause, IsLiteralOf, IsCoveredBySearch, Tautology, KnownTrue, FixedTrue, Kept}
-use Rattle.varisat_theory.specs.inside.Outcomes.{Outcome}
+use Rattle.varisat_theory.specs.inside.Outcomes.{SearchOutcome}
 use Rattle.varisat_names.specs.promises.Maps.{updated, chain, onward}
 use Rattle.varisat_names.specs.promises.VarData.{fresh}
 use Rattle.varisat_names.specs.declared.variables.data.VarData.{VarData}
@@ -43,7 +43,7 @@ abbrev pub count : List ℕ → State → State
 count is s = record s { counted = is }
 
 -- the search with its verdict
-abbrev pub with_search : Search → Outcome → Spaces → Spaces
+abbrev pub with_search : Search → SearchOutcome → Spaces → Spaces
 with_search t v p = record p { search = t; outcome = v }
 
 -- the names of a clause lead to solver variables
@@ -169,7 +169,7 @@ core-same ns ns' logged (UnsatUnderAssumptions core) m (named, e) = (
   e ∙ map-same (carry ns) (carry ns') logged (λ l h. let (i, q) = named l h in carry-same ns ns' l (q ∙ sym (m (variable_of l) i q))),
 )
 
-pub verdict-moved : (id id' : ℕ → Option ℕ) (m m' : ℕ → Bool) (o : Outcome) (v : Verdict) →
+pub verdict-moved : (id id' : ℕ → Option ℕ) (m m' : ℕ → Bool) (o : SearchOutcome) (v : Verdict) →
     ((a : Assignment) → v ≡ Sat a → ((x i : ℕ) → id x ≡ Some i → a i ≡ m x) → (x i : ℕ) → id' x ≡ Some i → a i ≡ m' x) → VerdictFits id m o v →
     VerdictFits id' m' o v
 verdict-moved id id' m m' outcome.Unknown Unknown h f = tt
@@ -242,7 +242,7 @@ shares-same r r' share a f g still n q = record {
   settled = λ c h. settled-alike r r' _ a f c (q.settled c h);
 }
 
-pub logged-same : (r r' : Translation) (fixed : List Literal) (share : List Clause) (v : Outcome) → ((x : ℕ) → r'.identity x ≡ r.identity x) →
+pub logged-same : (r r' : Translation) (fixed : List Literal) (share : List Clause) (v : SearchOutcome) → ((x : ℕ) → r'.identity x ≡ r.identity x) →
     ((i : ℕ) → r'.forced i ≡ r.forced i) → ((i x : ℕ) (b : Bool) → r.forced i ≡ Some b → r'.global i ≡ Some x → (y : ℕ) × (r.global i ≡ Some y)) →
     ((i x : ℕ) → r.global i ≡ Some x → (y : ℕ) × (r'.global i ≡ Some y)) → r'.logged ≡ r.logged → HeldFits r fixed share v → HeldFits r' fixed share v
 logged-same r r' fixed share outcome.Unknown a f g still n q = shares-same r r' share a f g still n q
@@ -250,7 +250,7 @@ logged-same r r' fixed share (outcome.Sat found) a f g still n q = shares-same r
 logged-same r r' fixed share outcome.Unsat a f g still n q = subst LogsConflict (sym n) q
 logged-same r r' fixed share (outcome.UnsatUnder core) a f g still n q = shares-same r r' share a f g still n q
 
-pub holds-same : (P : List Clause) (r r' : Translation) (s : Search) (v : Outcome) → ((x : ℕ) → r'.identity x ≡ r.identity x) →
+pub holds-same : (P : List Clause) (r r' : Translation) (s : Search) (v : SearchOutcome) → ((x : ℕ) → r'.identity x ≡ r.identity x) →
     ((i : ℕ) → r'.forced i ≡ r.forced i) → ((share : List Clause) → HeldFits r s.fixed share v → HeldFits r' s.fixed share v) →
     SearchHolds P r s v → SearchHolds P r' s v
 holds-same P r r' s v a f n h =

@@ -14,7 +14,7 @@ use Rattle.varisat_lines.specs.promises.Lines.{encoding_of, plain_lines, has_mar
 use Rattle.varisat_lines.specs.promises.Steps.{lines_written}
 use Rattle.varisat_proof.specs.promises.Marked.{state_of, nothing_logged}
 use Rattle.varisat_proof.proofs.MarkedJournals.{journal_taken}
-use Rattle.varisat_theory.specs.inside.Outcomes.{Outcome}
+use Rattle.varisat_theory.specs.inside.Outcomes.{SearchOutcome}
 use Rattle.varisat_theory.specs.inside.Outcomes as outcome
 use Rattle.varisat_theory.proofs.clauses.Held.{conflicts_same}
 use Rattle.varisat_theory.proofs.journals.Renaming.{map-∈}
@@ -44,7 +44,7 @@ use Rattle.varisat_solver.proofs.entries.LoggedEntries.{all-wider, lines-speak, 
 use Rattle.varisat_solver.proofs.steps.SearchLinks.{relinked}
 use Rattle.varisat_solver.proofs.calls.SolverCalls.{logged-refuted}
 
-led-of : (r : Translation) (fixed : List Literal) (share : List Clause) (o : Outcome) → HeldFits r fixed share (without_core o) →
+led-of : (r : Translation) (fixed : List Literal) (share : List Clause) (o : SearchOutcome) → HeldFits r fixed share (without_core o) →
     (held : List Clause) × Leads [] r.logged held
 led-of r fixed share outcome.Unknown q = (q.held, q.led)
 led-of r fixed share (outcome.Sat found) q = (q.held, q.led)
@@ -204,7 +204,7 @@ unassumed-refuted g s st v none-assumed e =
     none [] h = refl
     none (l ∷ core) h = absurd (h l (inl refl))
 
-    go : (x : Outcome) (y : Verdict) → answer_of y ≡ Some false → (id : ℕ → Option ℕ) (m : ℕ → Bool) → VerdictFits id m x y →
+    go : (x : SearchOutcome) (y : Verdict) → answer_of y ≡ Some false → (id : ℕ → Option ℕ) (m : ℕ → Bool) → VerdictFits id m x y →
         IsRight s.clauses [] s.counted y → y ≡ Unsat
     go x Unknown e id m f r = absurd cc
     go x (Sat a) e id m f r = absurd (let z : true ≡ false = cc in cc)

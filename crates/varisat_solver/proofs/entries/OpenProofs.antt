@@ -3,6 +3,7 @@ use Rattle.std.proofs.Common.{◌≡◌, ℕ, ◌<◌, ◌*◌, ◌/◌, false, 
 use Rattle.std.specs.Prelude.{flat_map, is_some, take, not, ◌&&◌}
 use Rattle.std.proofs.lemmas.List.{append-nil, map-append}
 use Rattle.std.specs.declared.io.Error.{Error}
+use Rattle.std.proofs.lemmas.Grind.{flat_map-append}
 use Rattle.varisat_theory.specs.promises.Membership.{◌∈◌}
 use Rattle.varisat_theory.specs.promises.Literals.{Literal, variable_of, Clause}
 use Rattle.varisat_theory.specs.promises.Derivations.{Add, Delete}
@@ -118,13 +119,9 @@ module _ (w : Carrying) (p : Spaces) (s : State) (k : Links w p s) where
       ∙ entries-themselves s.logged
 
 -- 1. Bytes of entries.
-flat-append : {X Y : Type 0} (f : X → List Y) (xs ys : List X) → flat_map f (xs ++ ys) ≡ flat_map f xs ++ flat_map f ys
-flat-append f [] ys = refl
-flat-append f (x ∷ xs) ys = ap (λ zs. f x ++ zs) (flat-append f xs ys) ∙ sym (append_assoc (f x) (flat_map f xs) (flat_map f ys))
-
 pub bytes-more : (f : ProofFormat) (first more : List Entry) → logged_bytes f (first ++ more) ≡ logged_bytes f first ++ logged_bytes f more
-bytes-more f first more = ap (λ ls. flat_map (line_written (encoding_of f)) ls) (flat-append (entry_lines (encoding_of f)) first more)
-    ∙ flat-append (line_written (encoding_of f)) (logged_lines (encoding_of f) first) (logged_lines (encoding_of f) more)
+bytes-more f first more = ap (λ ls. flat_map (line_written (encoding_of f)) ls) (flat_map-append (entry_lines (encoding_of f)) first more)
+    ∙ flat_map-append (line_written (encoding_of f)) (logged_lines (encoding_of f) first) (logged_lines (encoding_of f) more)
 
 -- in DRAT entries have no lines but those that add or delete a clause
 plainly-logged : (f : ProofFormat) → has_marks f ≡ false → (es : List Entry) → logged_lines (encoding_of f) es ≡ plain_lines (lines_of es)

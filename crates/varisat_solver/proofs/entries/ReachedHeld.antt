@@ -10,41 +10,30 @@ use Rattle.varisat_theory.specs.promises.Renaming.{rename, rename_line}
 use Rattle.varisat_theory.specs.promises.Counted.{DerivesBy}
 use Rattle.varisat_theory.specs.promises.Journals.{Entry, Accepts, Retires, Follow, Leads, written, GoesOn}
 use Rattle.varisat_theory.specs.promises.Searches.{Search, Fits, IsLiteralOf}
-use Rattle.varisat_theory.specs.inside.Outcomes.{Outcome, Holds}
+use Rattle.varisat_theory.specs.inside.Outcomes.{SearchOutcome, Holds}
 use Rattle.varisat_theory.specs.inside.Outcomes as outcome
 use Rattle.varisat_theory.proofs.clauses.Members.{∈-append_left, ∈-append_right, ∈-append_cases}
 use Rattle.varisat_theory.proofs.clauses.Growth.{conflicts_more, covered_by_more}
 use Rattle.varisat_theory.proofs.clauses.Held.{same_set-self, same_add, same_clauses-self, same_clauses-back, same_clauses-through, same_clauses_find, conflicts_same}
 use Rattle.varisat_theory.proofs.journals.HeldRetirements.{without_less, without_append, same_without}
 use Rattle.varisat_theory.proofs.journals.Renaming.{map-∈, conflicts_renamed, same_clauses_renamed}
-use Rattle.varisat_theory.proofs.steps.StepRetirements.{variable_is_retired}
+use Rattle.varisat_theory.proofs.steps.StepRetirements.{variable_is_retired, without_keeps}
 use Rattle.varisat_theory.proofs.journals.NewClauses.{over_after}
-use Rattle.varisat_theory.proofs.journals.Journals.{leads_append, by_leads, by_leads_same, written_by, goes_on, by_renamed, by_beside}
-use Rattle.varisat_prop.proofs.trails.LiteralValues.{own-opposite}
+use Rattle.varisat_theory.proofs.journals.Journals.{leads_append, by_leads, by_leads_same, written_by, goes_on, by_renamed, by_beside, after_all}
 use Rattle.varisat_names.specs.promises.Maps.{chain}
 use Rattle.varisat_names.proofs.Maps.{chain-through}
 use Rattle.varisat_tracer.specs.promises.Carried.{carry}
 use Rattle.varisat_solver.specs.promises.States.{State}
 use Rattle.varisat_solver.specs.inside.Spaces.{Carrying, Spaces, Translation, IsCounted, AreLive, SharesHeld, HeldFits, without_core, translation, Links}
 use Rattle.varisat_proof.specs.promises.Passing.{LogsConflict}
-use Rattle.varisat_search.proofs.stepping.StepOutcome.{variable-literal}
+use Rattle.varisat_theory.proofs.clauses.Values.{variable-literal}
+use Rattle.varisat_theory.proofs.clauses.ConflictForms.{never_its_own}
+use Rattle.varisat_theory.proofs.steps.SearchFits.{same_front}
 use Rattle.varisat_solver.proofs.calls.Carried.{carry-at}
 use Rattle.varisat_tracer.specs.inside.RenamedEntries.{carry-opposites}
 use Rattle.varisat_solver.proofs.calls.SpacesAgree.{carry-same, rename-same, settled-more, settled-alike}
 
 -- 1. Lists that hold the same clauses.
-
--- more clauses at the end of both
-pub same-more : (P Q R : List Clause) → SameClauses P Q → SameClauses (P ++ R) (Q ++ R)
-same-more P Q [] s = subst (λ x. SameClauses x (Q ++ [])) (sym (append-nil P)) (subst (SameClauses P) (sym (append-nil Q)) s)
-same-more P Q (c ∷ R) s =
-    subst (λ x. SameClauses x (Q ++ c ∷ R)) (append_assoc P (c ∷ []) R)
-    (subst (SameClauses ((P ++ c ∷ []) ++ R)) (append_assoc Q (c ∷ []) R) (same-more (P ++ c ∷ []) (Q ++ c ∷ []) R (same_add P Q c c s (same_set-self c))))
-
--- and at the beginning
-pub same-after : (R P Q : List Clause) → SameClauses P Q → SameClauses (R ++ P) (R ++ Q)
-same-after [] P Q s = s
-same-after (c ∷ R) P Q s = (R ++ Q, ([], c, R ++ Q, refl, same_set-self c, refl), same-after R P Q s)
 
 -- 2. Clauses that mention a variable.
 
@@ -93,7 +82,7 @@ renamed-apart v f g share F e =
     let names : rename f (only v share ++ without v share) ≡ rename f (only v share) ++ rename g (without v share) =
     map-append (map f) (only v share) (without v share) ∙ ap (λ x. rename f (only v share) ++ x) (rename-same f g (without v share) e) in
     subst (SameClauses (F ++ rename f share)) (sym (append_assoc F (rename f (only v share)) (rename g (without v share))))
-    (same-after F (rename f share) (rename f (only v share) ++ rename g (without v share)) (subst (SameClauses (rename f share)) names split))
+    (after_all F (rename f share) (rename f (only v share) ++ rename g (without v share)) (subst (SameClauses (rename f share)) names split))
 
 -- 3. A clause that is taken out.
 
@@ -115,7 +104,7 @@ pub proved-fixed : (held : List Clause) (t : Search) → Fits held t → (l : Li
 proved-fixed held t f l h =
     let (d, i, u) = f.units l h in
     ⊎_elim
-    (λ (m, j, o). absurd (own-opposite m (u.1 (opposite m) o ∙ sym (u.1 m j))))
+    (λ (m, j, o). absurd (never_its_own m (u.1 (opposite m) o ∙ sym (u.1 m j))))
     (λ (m, j, o). subst (λ y. y ∈ t.fixed) (u.1 m j) o)
     (f.settled d i)
 
@@ -208,7 +197,7 @@ module _ {fixed : List Literal} (r : Translation) (share : List Clause) (n : ℕ
       )
 
   -- what a search shares after lines over variables in use
-  pub shares-after : (t : Search) (v : Outcome) → (v ≢ outcome.Unsat → fixed ⊆ t.fixed) → SpeakOf (IsInUse r) lines →
+  pub shares-after : (t : Search) (v : SearchOutcome) → (v ≢ outcome.Unsat → fixed ⊆ t.fixed) → SpeakOf (IsInUse r) lines →
       ((core : List Literal) → v ≡ outcome.UnsatUnder core → ⊥) → Holds after t v → HeldFits (with_logged (r.logged ++ lines_logged r lines) r) t.fixed after v
   shares-after t outcome.Unknown stay speaks plain h = shares-fits t.fixed (stay (λ e. let z : outcome.Unknown ≡ outcome.Unsat = e in cc)) speaks
   shares-after t (outcome.Sat found) stay speaks plain h = shares-fits t.fixed (stay (λ e. let z : outcome.Sat found ≡ outcome.Unsat = e in cc)) speaks
@@ -318,7 +307,7 @@ logged-live w p s k n = go (without_core p.outcome) n k.holds.logged
         × AreLive (translation w p s.logged) held
     shares q = (q.held, q.led, held-live (translation w p s.logged) k.holds.held (in-use-lives w p s k) q)
 
-    go : (v : Outcome) → v ≢ outcome.Unsat → HeldFits (translation w p s.logged) p.search.fixed k.holds.held v → (held : List Clause)
+    go : (v : SearchOutcome) → v ≢ outcome.Unsat → HeldFits (translation w p s.logged) p.search.fixed k.holds.held v → (held : List Clause)
         × Leads [] s.logged held × AreLive (translation w p s.logged) held
     go outcome.Unknown n q = shares q
     go (outcome.Sat found) n q = shares q
@@ -332,7 +321,7 @@ taken-behind F A R d out =
     (R ++ A, (R ++ A, d, [], refl, same_set-self d, sym (append-nil (R ++ A))), same_clauses-self (R ++ A)) in
     subst (SameClauses (F ++ A)) (append_assoc R A (d ∷ []))
     (same_clauses-through (F ++ A) (d ∷ (R ++ A)) ((R ++ A) ++ d ∷ [])
-    (same-more F (d ∷ R) A (same_clauses-back (d ∷ R) F (R, out, same_clauses-self R))) moved)
+    (same_front F (d ∷ R) A (same_clauses-back (d ∷ R) F (R, out, same_clauses-self R))) moved)
 
 -- An entry is logged that changes nothing of what is held.
 module _ (r : Translation) (e : Entry) (quiet : (held : List Clause) → Leads [] r.logged held → Follow held e held) where
@@ -352,7 +341,7 @@ module _ (r : Translation) (e : Entry) (quiet : (held : List Clause) → Leads [
     settled = q.settled;
   }
 
-  pub logged-quiet : (fixed : List Literal) (share : List Clause) (v : Outcome) → HeldFits r fixed share v →
+  pub logged-quiet : (fixed : List Literal) (share : List Clause) (v : SearchOutcome) → HeldFits r fixed share v →
       HeldFits (with_logged (r.logged ++ e ∷ []) r) fixed share v
   logged-quiet fixed share outcome.Unknown q = shares-quiet share q
   logged-quiet fixed share (outcome.Sat found) q = shares-quiet share q
@@ -365,15 +354,6 @@ not-mentioned : (v : ℕ) (P : List Clause) → ((c : Clause) (l : Literal) → 
 not-mentioned v [] n = refl
 not-mentioned v (c ∷ P) n = ap (λ b. unless b c (without v P)) (unmentioned v c (λ l i e. n c l (inl refl) i e))
     ∙ ap (λ x. c ∷ x) (not-mentioned v P (λ d l h i e. n d l (inr h) i e))
-
-still-there : (v : ℕ) (P : List Clause) (c : Clause) → c ∈ P → mentions v c ≡ false → c ∈ without v P
-still-there v [] c h e = absurd h
-still-there v (d ∷ P) c (inl q) e = subst (λ b. c ∈ unless b d (without v P)) (sym (ap (mentions v) (sym q) ∙ e)) (inl q)
-still-there v (d ∷ P) c (inr h) e = go (mentions v d) (still-there v P c h e)
-  where
-    go : (b : Bool) → c ∈ without v P → c ∈ unless b d (without v P)
-    go true i = i
-    go false i = inr i
 
 -- No solver variable stands for the identity i, which is live no longer; solver variables stand for what they stood for.
 module _ (r r' : Translation) (i : ℕ) (none : (v : ℕ) → r.identity v ≡ Some i → ⊥) (same : (v : ℕ) → r'.identity v ≡ r.identity v)
@@ -402,12 +382,12 @@ module _ (r r' : Translation) (i : ℕ) (none : (v : ℕ) → r.identity v ≡ S
         units = λ j b x o l n.
             let (other, was) = live j x l in
             let (c, h, u) = q.units j b x (sym (forced j) ∙ o) was (λ v g. n v (same v ∙ g)) in
-            (c, still-there i q.forgotten c h (unmentioned i c (λ m a z. other (sym (variable-literal j b) ∙ ap variable_of (sym (u.1 m a)) ∙ z))), u);
+            (c, without_keeps i q.forgotten c h (unmentioned i c (λ m a z. other (sym (variable-literal j b) ∙ ap variable_of (sym (u.1 m a)) ∙ z))), u);
         live = λ c l h a. let (x, g) = q.live c l (without_less i q.forgotten c h) a in (x, still (variable_of l) x (left-apart i q.forgotten c l h a) g);
         settled = λ c h. settled-alike r r' _ same forced c (q.settled c (without_less i q.forgotten c h));
       }
 
-  pub logged-gone : (fixed : List Literal) (share : List Clause) (v : Outcome) → v ≢ outcome.Unsat → r'.logged ≡ r.logged ++ Retires i ∷ [] →
+  pub logged-gone : (fixed : List Literal) (share : List Clause) (v : SearchOutcome) → v ≢ outcome.Unsat → r'.logged ≡ r.logged ++ Retires i ∷ [] →
       HeldFits r fixed share v → HeldFits r' fixed share v
   logged-gone fixed share outcome.Unknown n e q = shares-gone share e q
   logged-gone fixed share (outcome.Sat found) n e q = shares-gone share e q

@@ -3,6 +3,7 @@ use Rattle.std.proofs.Common.{◌≡◌, ◌≢◌, ℕ, not, Bool, true, false,
 use Rattle.std.specs.Option.{IsSome, is_none}
 use Rattle.std.specs.Prelude.{slice_index_or}
 use Rattle.std.proofs.lemmas.List.{map-append}
+use Rattle.std.proofs.lemmas.Bool.{false_from_ne_true}
 use Rattle.varisat_theory.specs.promises.Membership.{◌∈◌, IsDistinct}
 use Rattle.varisat_theory.specs.promises.Literals.{Literal, variable_of, Clause, literal_of}
 use Rattle.varisat_prop.specs.Leaving.{leaves, staying}
@@ -22,7 +23,6 @@ use Rattle.varisat_solver.specs.inside.Accepting.{DecidesInUse, HasUser, IsAssum
 use Rattle.varisat_solver.specs.inside.Representations.{IsValidSolver, spaces_of}
 use Rattle.varisat_solver.specs.promises.Detaching.{leads_to_unassumed, AreOverAssumed}
 use Rattle.varisat_solver.specs.inside.Detached.{FlagsVariables, DetachesFromTables, unassumed_among, AreDetachedAlone, leads_to_hidden, ListsUnneeded, LosesSolverVar, AreDetached, HasOnlyNeeded, Detaches}
-use Rattle.varisat_solver.proofs.modes.TableMarks.{there-is}
 use Rattle.varisat_theory.specs.promises.Held.{mentions}
 use Rattle.varisat_theory.specs.promises.Searches.{Search}
 use Rattle.varisat_theory.proofs.clauses.Places.{place_in}
@@ -31,7 +31,7 @@ use Rattle.varisat_literals.specs.promises.Numbers.{polarity_of}
 use Rattle.varisat_prop.proofs.pairs.SimplifiedPairs.{filter-∈, ∈-filter}
 use Rattle.varisat_search.specs.Seen.{search_of, is_fixed, is_proved}
 use Rattle.varisat_search.specs.RootSimplified.{IsRootSimplified}
-use Rattle.varisat_search.proofs.variables.ForgottenViews.{trail-distinct, distinct-left}
+use Rattle.varisat_search.proofs.variables.ForgottenViews.{distinct-left}
 use Rattle.varisat_solver.specs.promises.States.{State}
 use Rattle.varisat_theory.specs.promises.Journals.{Entry}
 use Rattle.varisat_tracer.specs.inside.Tracing.{TracerState, retires_if_deleted}
@@ -42,20 +42,19 @@ use Rattle.varisat_solver.proofs.leaving.DetachedTables.{AreWithout, variables-l
 use Rattle.varisat_solver.proofs.calls.Carried.{literal-parts}
 use Rattle.varisat_solver.proofs.steps.SearchLinks.{of-kept}
 use Rattle.varisat_theory.proofs.clauses.Members.{equal_or_not, ∈-append_cases, ∈-append_left, ∈-append_right}
-use Rattle.varisat_solver.proofs.calls.Counted.{distinct-push}
+use Rattle.varisat_theory.proofs.steps.StepRetirements.{not_mentioned}
 use Rattle.varisat_proof.specs.promises.Proving.{IsLogged}
 use Rattle.varisat_tracer.specs.inside.Logged.{logged-none, logged-more}
 use Rattle.varisat_names.proofs.Maps.{chain-some}
 use Rattle.varisat_names.proofs.VarMap.{at-inside}
 use Rattle.varisat_solver.proofs.entries.LoggedProofs.{leaving-nothing}
 use Rattle.varisat_prop.specs.declared.prop.graph.Reason.TheVariants as reason
+use Rattle.varisat_prop.proofs.trails.TrailValues.{variables-distinct}
 use Rattle.varisat_search.specs.declared.state.SatState.TheVariants as verdict
+use Rattle.varisat_search.proofs.variables.SolverVariables.{is-there}
+use Rattle.varisat_clause.proofs.MarkedClauses.{distinct-more}
 
 -- Solver variables left the tables and the search. What a solver keeps then, whichever they are.
-
-pub true-or-not : (b : Bool) → (b ≡ true → ⊥) → b ≡ false
-true-or-not true n = absurd (n refl)
-true-or-not false n = refl
 
 -- The variables of the literals were flagged, and left the tables and the search. `size` is the number of flags.
 pub record HaveLeft {A : Type 0} (m n : Tables) (x y : Context A) (gone : List Bool) (ls : List Literal) (size : ℕ) : Type 0 where
@@ -97,10 +96,10 @@ module _ {A : Type 0} {m n : Tables} {x y : Context A} {gone : List Bool} {ls : 
         let (e, st) = (h.decidable v).0 d in
         subst IsSome (sym (h.tables.stays v (other-than v st))) ((h.kept.decidable v).0 e),
     λ d.
-        let (z, e) = there-is (at n.solvers.backward v) d in
+        let (z, e) = is-there (at n.solvers.backward v) d in
         (h.decidable v).1 (
           (h.kept.decidable v).1 (subst IsSome (sym (h.tables.fewer v z e)) refl),
-          true-or-not (leaves gone v) (λ o.
+          false_from_ne_true (leaves gone v) (λ o.
               let (l, i, q) = (h.flags.flagged v).0 o in
               let r : None ≡ Some z = sym (h.tables.gone v l i q) ∙ e in
               cc),
@@ -173,11 +172,6 @@ unassumed-global m (Some x) e = (x, refl, go (data_at m.kept x).assumed e)
     go true h = let z : false ≡ true = h in absurd cc
     go false h = refl
 
--- no literal is over the variable
-pub unmentioned-by : (v : ℕ) (c : Clause) → ((l : Literal) → l ∈ c → variable_of l ≢ v) → mentions v c ≡ false
-unmentioned-by v [] n = refl
-unmentioned-by v (l ∷ c) n = ap (λ b. b || mentions v c) (ne_eqb (variable_of l) v (n l (inl refl))) ∙ unmentioned-by v c (λ k h. n k (inr h))
-
 -- there is an entry
 some-inside : (vs : List (Option Bool)) (v : ℕ) (b : Bool) → slice_index_or vs v None ≡ Some b → v < length vs
 some-inside [] v b e = absurd (let z : None ≡ Some b = e in cc)
@@ -219,14 +213,14 @@ module _ (s : View) (w : WellFormed s) (d : IsRootSimplified s) where
         (l, on, q, subst (λ z. leads_to_unassumed m (at m.solvers.backward z) ≡ true) q u)
 
     pub unmentioned : (c : Clause) → c ∈ kept s → AreStaying gone c
-    unmentioned c h l i = true-or-not (leaves gone (variable_of l)) (λ e.
+    unmentioned c h l i = false_from_ne_true (leaves gone (variable_of l)) (λ e.
         let (k, on, q, u) = leaving-literal (variable_of l) e in
         let z : Some (polarity_of k) ≡ None = sym (on-value k on) ∙ ap (λ v. slice_index_or s.values v None) q ∙ d.unassigned c h l i in
         cc)
 
     pub assumed-stay : (ls : List Literal) →
         ((l : Literal) → l ∈ ls → (x : ℕ) × (at m.solvers.backward (variable_of l) ≡ Some x) × ((data_at m.kept x).assumed ≡ true)) → AreStaying gone ls
-    assumed-stay ls n l i = true-or-not (leaves gone (variable_of l)) (λ e.
+    assumed-stay ls n l i = false_from_ne_true (leaves gone (variable_of l)) (λ e.
         let (k, on, q, u) = leaving-literal (variable_of l) e in
         let (x, a, b) = n l i in
         let z : true ≡ false = sym u ∙ ap (leads_to_unassumed m) a ∙ ap not b in
@@ -248,7 +242,7 @@ module _ (s : View) (w : WellFormed s) (d : IsRootSimplified s) where
     without-these t e = subst (λ (y : Search). AreWithout (λ v. slice_index_or s.values v None) (map variable_of (unassumed_among m s.trail))
         (search_of s) y) (sym e) (record {
           kept = refl;
-          unmentioned = λ v i k h. unmentioned-by v k.clause
+          unmentioned = λ v i k h. not_mentioned v k.clause
               (λ l j q. let z : true ≡ false = sym (dropped-is v i) ∙ ap (leaves gone) (sym q) ∙ unmentioned k.clause (of-kept s k h) l j in cc);
           stays = λ l i. go l i (leaves gone (variable_of l)) refl;
           fixed = λ l i. let (y, z) = staying-was gone (search_of s).fixed l i in (y, stays-of l z);
@@ -269,7 +263,7 @@ module _ (s : View) (w : WellFormed s) (d : IsRootSimplified s) where
         literal-is l v b e q = sym (literal-parts l) ∙ ap₂ literal_of e q
 
   pub unassumed-distinct : (m : Tables) → IsDistinct (map variable_of (unassumed_among m s.trail))
-  unassumed-distinct m = distinct-left (λ l. leads_to_unassumed m (at m.solvers.backward (variable_of l))) s.trail (trail-distinct s w)
+  unassumed-distinct m = distinct-left (λ l. leads_to_unassumed m (at m.solvers.backward (variable_of l))) s.trail (variables-distinct s w)
 
 -- those that are listed are in use
 pub unassumed-taken : (m : Tables) (ls : List Literal) (l : Literal) → l ∈ unassumed_among m ls → IsSome (at m.solvers.backward (variable_of l))
@@ -294,7 +288,7 @@ module _ {A : Type 0} {m n : Tables} {x y : Context A} {gone : List Bool}
 
   -- no variable that is not assumed has a literal on the trail any more
   pub none-left : AreOverAssumed n y.trail.literals
-  none-left = over-left h (λ l on e. true-or-not (leads_to_unassumed m (at m.solvers.backward (variable_of l)))
+  none-left = over-left h (λ l on e. false_from_ne_true (leads_to_unassumed m (at m.solvers.backward (variable_of l)))
       (λ u. other-than h (variable_of l) e l (filter-∈ (λ l. leads_to_unassumed m (at m.solvers.backward (variable_of l))) x.trail.literals l on u) refl))
 
 -- What it represents, which the proof logs too.
@@ -340,7 +334,7 @@ pub needed-shown : (m : Tables) (s : View) → AreOverAssumed m s.trail → ((v 
 needed-shown m s over shown = record {
   assumed = over;
   needed = λ v i.
-      let (x, e) = there-is (at m.solvers.backward v) i in
+      let (x, e) = is-there (at m.solvers.backward v) i in
       let (u, o) = named-there (at m.users.backward x) (sym (ap (leads_to_hidden m) e) ∙ shown v) in
       inl (u, chain-some (at m.solvers.backward) (at m.users.backward) v x e ∙ o);
 }
@@ -408,13 +402,13 @@ module _ (m : Tables) (mentioned : List Bool) (ls : List Literal) (u : ListsUnne
     stays-unlisted l e h = let z : true ≡ false = sym (leaves-listed (variable_of l) h) ∙ e in cc
 
     pub unneeded-unmentioned : (c : Clause) → c ∈ kept s → AreStaying gone c
-    unneeded-unmentioned c h l i = true-or-not (leaves gone (variable_of l)) (λ e.
+    unneeded-unmentioned c h l i = false_from_ne_true (leaves gone (variable_of l)) (λ e.
         let (a, b, d) = (u.listed (variable_of l)).0 (leaving (variable_of l) e) in
         let z : false ≡ true = sym b ∙ (p.flagged (variable_of l)).1 (c, h, l, i, refl) in
         cc)
 
     pub named-stay : (ks : List Literal) → ((l : Literal) → l ∈ ks → IsAssumedSolver m (variable_of l)) → AreStaying gone ks
-    named-stay ks n l i = true-or-not (leaves gone (variable_of l)) (λ e.
+    named-stay ks n l i = false_from_ne_true (leaves gone (variable_of l)) (λ e.
         let (j, h, q) = (f.flagged (variable_of l)).0 e in
         let (z, v, a, b, r) = n l i in
         not-named j z v h (ap (at m.solvers.backward) q ∙ a) b)
@@ -425,7 +419,7 @@ module _ (m : Tables) (mentioned : List Bool) (ls : List Literal) (u : ListsUnne
         search_of t ≡ search_without gone (search_of s) → AreWithout (λ v. None) (map variable_of ls) (search_of s) (search_of t)
     without-unneeded t over free e = subst (λ (y : Search). AreWithout (λ v. None) (map variable_of ls) (search_of s) y) (sym e) (record {
       kept = refl;
-      unmentioned = λ v i k h. unmentioned-by v k.clause
+      unmentioned = λ v i k h. not_mentioned v k.clause
           (λ l j q. let z : true ≡ false = sym (leaves-listed v i) ∙ ap (leaves gone) (sym q) ∙ unneeded-unmentioned k.clause (of-kept s k h) l j in cc);
       stays = λ l i. inl (was-staying gone (search_of s).fixed l i (not-leaving l (∈-filter (is_fixed s) s.trail l i).0));
       fixed = λ l i. let (y, z) = staying-was gone (search_of s).fixed l i in (y, stays-unlisted l z);
@@ -434,7 +428,7 @@ module _ (m : Tables) (mentioned : List Bool) (ls : List Literal) (u : ListsUnne
     })
       where
         not-leaving : (l : Literal) → l ∈ s.trail → leaves gone (variable_of l) ≡ false
-        not-leaving l on = true-or-not (leaves gone (variable_of l)) (λ a.
+        not-leaving l on = false_from_ne_true (leaves gone (variable_of l)) (λ a.
             let i = leaving (variable_of l) a in
             let (b, c, d) = (u.listed (variable_of l)).0 i in
             let (z, q, n) = hidden-global m (at m.solvers.backward (variable_of l)) d in
@@ -450,7 +444,7 @@ module _ {A : Type 0} {m n : Tables} {x y : Context A} {mentioned gone : List Bo
   -- a variable in use has a name, or a kept clause names it
   needed : (v : ℕ) → IsSome (at n.solvers.backward v) → HasUser n v ⊎ IsMentioned (kept (view y)) v
   needed v i =
-      let (z, e) = there-is (at n.solvers.backward v) i in
+      let (z, e) = is-there (at n.solvers.backward v) i in
       let was = h.tables.fewer v z e in
       let inside : v < length mentioned = (let a = at-inside m.solvers.backward v z was in let b = h.kept.count in let c = p.count in omega (arith, a, b, c)) in
       go z e was inside (slice_index_or mentioned v false) refl (leads_to_hidden m (at m.solvers.backward v)) refl
@@ -480,7 +474,7 @@ module _ {A : Type 0} {p q : TracerState} {x y : Context A} {mentioned gone : Li
   represents-released a seen s (c, links) =
       let m = p.tables in
       let free : (v z : ℕ) → v ∈ map variable_of ls → at m.solvers.backward v ≡ Some z →
-      (data_at m.kept z).assumed ≡ false = (λ v z i e. true-or-not (data_at m.kept z).assumed (λ t.
+      (data_at m.kept z).assumed ≡ false = (λ v z i e. false_from_ne_true (data_at m.kept z).assumed (λ t.
       let (l, g, r) = links.marks.only z t in
       let (j, k, o) = map-∈ variable_of v ls i in
       not-named m mentioned ls u j z (variable_of l) k (ap (at m.solvers.backward) (sym o) ∙ e) (h.linked.users.there (variable_of l) z r))) in
@@ -501,7 +495,7 @@ pub lists-one : (n : ℕ) (t : Tables) (flags : List Bool) (ls : List Literal) (
     slice_index_or flags n false ≡ false → leads_to_hidden t (at t.solvers.backward n) ≡ true → ListsBelow (n + 1) t flags (ls ++ l ∷ [])
 lists-one n t flags ls l a e p q = record {
   distinct = subst IsDistinct (sym (map-append variable_of ls (l ∷ [])))
-      (distinct-push (map variable_of ls) (variable_of l) a.distinct (λ h. let (b, c, d) = (a.listed (variable_of l)).0 h in absurd (omega (arith, b, e))));
+      (distinct-more (map variable_of ls) (variable_of l) a.distinct (λ h. let (b, c, d) = (a.listed (variable_of l)).0 h in absurd (omega (arith, b, e))));
   listed = λ v. (
     λ h. ⊎_elim
         (λ i. let (b, c, d) = (a.listed v).0 i in (omega (arith, b), c, d))

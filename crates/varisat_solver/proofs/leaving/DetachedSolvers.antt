@@ -17,7 +17,8 @@ use Rattle.varisat_solver.proofs.entries.ReachedHeld.{only, only-is, mentioned, 
 use Rattle.varisat_theory.proofs.steps.StepRetirements.{variable_is_retired}
 use Rattle.varisat_theory.proofs.journals.StepCovers.{detached_are_covered}
 use Rattle.varisat_literals.specs.promises.Numbers.{polarity_of}
-use Rattle.varisat_search.proofs.stepping.StepOutcome.{variable-literal, polarity-literal}
+use Rattle.varisat_theory.proofs.clauses.Values.{variable-literal}
+use Rattle.varisat_prop.proofs.trails.LiteralValues.{polarity-literal}
 use Rattle.varisat_names.specs.promises.Maps.{updated, onward, chain}
 use Rattle.varisat_names.specs.declared.variables.data.VarData.{VarData}
 use Rattle.varisat_names.proofs.Maps.{updated-at, updated-other, updated-all, parted, chain-some, chain-none, chain-through}
@@ -28,6 +29,7 @@ use Rattle.varisat_solver.proofs.calls.SpacesAgree.{identities-same, modes-same,
 use Rattle.varisat_solver.proofs.modes.VariableMoves.{leave_search}
 use Rattle.varisat_solver.proofs.modes.HiddenStates.{field-same, identity-named}
 use Rattle.varisat_theory.specs.inside.Outcomes as outcome
+use Rattle.varisat_theory.proofs.journals.Journals.{unit_renamed}
 
 -- Clauses that mention a variable, which are forgotten as it leaves. Its unit clause is one of them.
 
@@ -44,9 +46,6 @@ only-with v (d ∷ P) c (inr h) e = go (mentions v d) (only-with v P c h e)
     go true i = inr i
     go false i = i
 
-unit-renamed : (f : Literal → Literal) (l : Literal) (c : Clause) → IsUnit l c → IsUnit (f l) (map f c)
-unit-renamed f l c u = (∈-map f l c u.0, λ m h. let (k, i, e) = map-∈ f m c h in e ∙ ap f (u.1 k i))
-
 -- a unit clause of the variable is among those that are forgotten
 pub unit-forgotten : (f : Literal → Literal) (l : Literal) (held all : List Clause) (d : Clause) → SameClauses held all → d ∈ all → IsUnit l d →
     (c : Clause) × (c ∈ rename f (only (variable_of l) held)) × IsUnit (f l) c
@@ -55,7 +54,7 @@ unit-forgotten f l held all d s h u =
     let unit : IsUnit l c = (t.1 l u.0, λ m j. u.1 m (t.0 m j)) in (
       map f c,
       ∈-map (map f) c (only (variable_of l) held) (only-with (variable_of l) held c i (mentioned (variable_of l) c l unit.0 refl)),
-      unit-renamed f l c unit,
+      unit_renamed f l c unit,
     )
 
 -- What is held of a variable that no kept clause mentions says nothing more.

@@ -7,7 +7,8 @@ use Rattle.varisat_theory.specs.promises.Searches.{Search, clauses_of, KeptClaus
 use Rattle.varisat_theory.proofs.clauses.Members.{∈-append_right, equal_or_not}
 use Rattle.varisat_theory.proofs.clauses.Held.{same_satisfied}
 use Rattle.varisat_literals.specs.promises.Numbers.{polarity_of}
-use Rattle.varisat_search.proofs.stepping.StepOutcome.{variable-literal, polarity-literal}
+use Rattle.varisat_theory.proofs.clauses.Values.{variable-literal}
+use Rattle.varisat_prop.proofs.trails.LiteralValues.{polarity-literal}
 use Rattle.varisat_names.specs.promises.Maps.{updated, chain}
 use Rattle.varisat_names.specs.promises.VarData.{dead, data_at, IsDataAt}
 use Rattle.varisat_names.specs.declared.variables.data.VarData.{VarData}

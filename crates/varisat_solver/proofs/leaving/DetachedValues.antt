@@ -6,16 +6,15 @@ use Rattle.varisat_theory.specs.promises.Literals.{Literal, Clause, variable_of,
 use Rattle.varisat_theory.specs.promises.Held.{SameClauses, without}
 use Rattle.varisat_theory.specs.promises.Renaming.{rename}
 use Rattle.varisat_theory.specs.promises.Searches.{Search, KeptClause, IsDischarged, Covers, IsLiteralOf}
-use Rattle.varisat_theory.specs.inside.Outcomes.{Loads, Outcome}
+use Rattle.varisat_theory.specs.inside.Outcomes.{Loads, SearchOutcome}
 use Rattle.varisat_theory.proofs.clauses.Members.{equal_or_not, ∈-append_left, ∈-append_cases}
 use Rattle.varisat_theory.proofs.clauses.Assigned.{satisfies_more}
 use Rattle.varisat_theory.proofs.clauses.Held.{takes_out_member, same_clauses-through}
 use Rattle.varisat_theory.proofs.journals.HeldRetirements.{without_less}
-use Rattle.varisat_theory.proofs.journals.NewClauses.{taken_less}
 use Rattle.varisat_theory.proofs.journals.StepCovers.{still_covered}
 use Rattle.varisat_literals.specs.promises.Numbers.{polarity_of}
-use Rattle.varisat_prop.proofs.trails.LiteralValues.{same-literal}
-use Rattle.varisat_search.proofs.stepping.StepOutcome.{variable-literal, polarity-literal}
+use Rattle.varisat_prop.proofs.trails.LiteralValues.{same-literal, polarity-literal}
+use Rattle.varisat_theory.proofs.clauses.Values.{variable-literal}
 use Rattle.varisat_names.specs.promises.Maps.{updated, chain}
 use Rattle.varisat_names.proofs.Maps.{updated-all, chain-some, chain-through}
 use Rattle.varisat_solver.specs.promises.States.{State, Verdict, Unknown, Sat, Unsat, UnsatUnderAssumptions}
@@ -46,6 +45,7 @@ use Rattle.varisat_solver.proofs.accepting.NewNames.{linked}
 use Rattle.varisat_search.proofs.variables.TakenSolvers.{taken-full}
 use Rattle.varisat_solver.proofs.steps.SolveVerdict.{forgotten, spaces-same}
 use Rattle.varisat_theory.specs.inside.Outcomes as outcome
+use Rattle.varisat_theory.proofs.clauses.Sound.{takes_less}
 use Rattle.varisat_search.specs.declared.state.SatState.TheVariants as verdict
 
 -- A variable of which the value is kept comes back to the search, with its unit clause.
@@ -125,11 +125,11 @@ module _ (w : Carrying) (p : Spaces) (s : State) (x i v : ℕ) (b : Bool) (t : S
                   absurd (n v (to-new w p s x i v k is spoken unsolved free ∙ ap Some (sym same)))) stays-there,
               u',
             );
-        live = λ y l a j. live-apart (translation w p s.logged) v h.held (in-use-lives w p s k) q y l (taken_less (q.forgotten ++ old) d R out y a) j;
+        live = λ y l a j. live-apart (translation w p s.logged) v h.held (in-use-lives w p s k) q y l (takes_less (q.forgotten ++ old) d R out y a) j;
         settled = λ y a. settled-more (translation w (take_solver x v p) s.logged) p.search.fixed t.fixed
             (fixed-on s.clauses (translation w p s.logged) p.search t outcome.Unknown h long covers (λ e. let z : outcome.Unknown ≡ outcome.Unsat = e in cc))
             y
-            (settled-on w p s x i v k is spoken unsolved free h.held h.holds q.forgotten q.settled y (taken_less (q.forgotten ++ old) d R out y a));
+            (settled-on w p s x i v k is spoken unsolved free h.held h.holds q.forgotten q.settled y (takes_less (q.forgotten ++ old) d R out y a));
       }
 
   -- the search after the lines, if it needs any

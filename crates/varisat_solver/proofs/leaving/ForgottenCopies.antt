@@ -6,8 +6,8 @@ use Rattle.varisat_theory.specs.promises.Searches.{IsDischarged}
 use Rattle.varisat_theory.specs.inside.Outcomes as outcome
 use Rattle.varisat_theory.proofs.journals.Renaming.{∈-map, map-∈}
 use Rattle.varisat_literals.specs.promises.Numbers.{polarity_of}
-use Rattle.varisat_prop.proofs.trails.LiteralValues.{same-literal, variable-opposite}
-use Rattle.varisat_search.proofs.stepping.StepOutcome.{variable-literal, polarity-literal}
+use Rattle.varisat_theory.proofs.clauses.Values.{variable-opposite, variable-literal}
+use Rattle.varisat_prop.proofs.trails.LiteralValues.{same-literal, polarity-literal}
 use Rattle.varisat_names.specs.promises.Maps.{chain}
 use Rattle.varisat_names.proofs.Maps.{chain-some, chain-through, is-some}
 use Rattle.varisat_solver.specs.promises.States.{State}

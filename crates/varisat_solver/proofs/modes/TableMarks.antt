@@ -20,13 +20,6 @@ use Rattle.varisat_solver.proofs.calls.Carried.{carry-at}
 
 -- Names and solver variables in use, which stay as others come into use.
 
-pub is-there : (o : Option ℕ) (v : ℕ) → o ≡ Some v → IsSome o
-is-there o v e = subst IsSome (sym e) refl
-
-pub there-is : (o : Option ℕ) → IsSome o → (v : ℕ) × (o ≡ Some v)
-there-is None h = absurd (let z : false ≡ true = h in cc)
-there-is (Some v) h = (v, refl)
-
 -- Solver variables of names that are assumed.
 
 pub assumed-keeps : (old new : Tables) (v : ℕ) → AreLinked old → KeepsNames old new → IsAssumedSolver old v → IsAssumedSolver new v

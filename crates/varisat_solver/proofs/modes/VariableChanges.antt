@@ -1,6 +1,6 @@
 -- What the calls keep of the tables that set the mode of a variable, hide it, and bring hidden ones back.
 use Rattle.std.proofs.Common.{◌≡◌, ◌≢◌, ◌⊎◌, inl, inr, ℕ, zero, suc, ◌+◌, ◌-◌, ◌<◌, ◌≤◌, nat_lt, if◌then◌else◌, Bool, true, false, Option, Some, None, List, [], ◌∷◌, ⊎_elim, length, sym, ap, ◌∙◌, subst, refl, arith, rules}
-use Rattle.std.proofs.lemmas.Bool.{lt-ltb, cases_lt}
+use Rattle.std.proofs.lemmas.Bool.{lt-ltb, cases_lt, false_from_ne_true}
 use Rattle.varisat_theory.specs.promises.Membership.{◌∈◌}
 use Rattle.varisat_theory.proofs.clauses.Members.{equal_or_not}
 use Rattle.varisat_literals.specs.promises.Numbers.{variable_limit}
@@ -25,9 +25,11 @@ use Rattle.varisat_solver.specs.promises.Names.{Naming, bring, bring_next, bring
 use Rattle.varisat_solver.specs.inside.Accepting.{AreBounded, naming_of}
 use Rattle.varisat_names.specs.inside.NamesAndModes.{MovesName, SetsModeOf, LosesName, GetsName, OtherwiseSet, AreShownInTurn}
 use Rattle.varisat_solver.specs.inside.VariableChanges.{IsMarkedAssumed, CanBeChanged, StaysValid, IsNamedAs, SetsNamedMode, RetiresIfUnused, HidesNamed}
-use Rattle.varisat_search.proofs.variables.TakenSolvers.{few, below, below-count, ∈-below}
+use Rattle.varisat_search.proofs.variables.TakenSolvers.{few}
 use Rattle.varisat_solver.proofs.modes.VariableMoves.{given-most}
+use Rattle.varisat_solver.proofs.accepting.NamesComing.{next-made}
 use Rattle.varisat_search.proofs.variables.KeptNames.{KeepsNames, given-keeps, next-keeps}
+use Rattle.varisat_prop.proofs.pairs.DistinctPlaces.{below, length-below, in-below}
 
 -- 1. A name comes into use.
 
@@ -67,14 +69,10 @@ next-last (suc k) old new (mid, x, g, rest) =
 
 -- 2. The room for it.
 
-pub made-next : (k : ℕ) (m : Naming) → (bring_next k m).made ≡ m.made + k
-made-next zero m = omega arith
-made-next (suc k) m = let e = made-next k (bring m.watermark m) in omega (arith, e)
-
 pub made-above : (u : ℕ) (m : Naming) → m.watermark ≤ u → (name_one u m).made ≡ m.made + (u + 1 - m.watermark)
 made-above u m h =
     ap (λ b. (if b then bring_if_free u (m.names u) m else bring_next (suc u - m.watermark) m).made) (not-below u m.watermark h)
-    ∙ made-next (suc u - m.watermark) m ∙ ap (λ k. m.made + k) (let z : suc u - m.watermark ≡ u + 1 - m.watermark = omega arith in z)
+    ∙ next-made (suc u - m.watermark) m ∙ ap (λ k. m.made + k) (let z : suc u - m.watermark ≡ u + 1 - m.watermark = omega arith in z)
   where
     not-below : (a b : ℕ) → b ≤ a → nat_lt a b ≡ false
     not-below a b h = search (rules, h)
@@ -151,17 +149,13 @@ stays-on old mid new a b = record {
   names = λ x u e m. let (f, n) = a.names x u e m in b.names x u f n;
 }
 
-not-marked : (b : Bool) → (b ≡ true → ⊥) → b ≡ false
-not-marked true n = absurd (n refl)
-not-marked false n = refl
-
 -- a name in use stands for its variable already
 pub in-use-as : (u x : ℕ) (t : Tables) → AreLinked t → CanBeChanged u t → at t.users.forward u ≡ Some x → IsNamedAs u t t x
 in-use-as u x t l c e = record {
   named = InUse x e refl;
   leads = e;
   live = l.named x u (l.users.there u x e);
-  unassumed = not-marked (data_at t.kept x).assumed (λ m. c.unassumed (x, e, m));
+  unassumed = false_from_ne_true (data_at t.kept x).assumed (λ m. c.unassumed (x, e, m));
   stays = stays-same t c.bounded;
 }
 
@@ -354,7 +348,7 @@ pub shown-near : (t : Tables) (x u : ℕ) → AreLinked t → (data_at t.kept x)
 unfolding to
 shown-near t x u l live unnamed least =
     let d = few (to t u x) (below (length t.kept)) (to-once t u x l least.0 unnamed) (u + 1) found in
-    let e = below-count (length t.kept) in
+    let e = length-below (length t.kept) in
     omega (arith, d, e)
   where
     found : (v : ℕ) → v < u + 1 → (i : ℕ) × (to t u x v ≡ Some i) × (i ∈ below (length t.kept))
@@ -363,12 +357,12 @@ shown-near t x u l live unnamed least =
         (λ e. (
           x,
           ap (updated (at t.users.forward) u (Some x)) e ∙ updated-at (at t.users.forward) u (Some x),
-          ∈-below (length t.kept) x
+          in-below (length t.kept) x
               (live-inside t.kept x live),
         ))
         (λ n. ⊎_elim
         (λ z. absurd (least.1 v (omega (arith, h, n)) z))
-        (λ (y, q). (y, updated-other (at t.users.forward) u (Some x) v n ∙ q, ∈-below (length t.kept) y (named-inside t v y l q)))
+        (λ (y, q). (y, updated-other (at t.users.forward) u (Some x) v n ∙ q, in-below (length t.kept) y (named-inside t v y l q)))
         (is-some (at t.users.forward v)))
         (equal_or_not v u)
 

@@ -14,7 +14,7 @@ use Rattle.varisat_solver.specs.promises.Summaries.{Summary}
 use Rattle.varisat_solver.specs.inside.Representations.{spaces, IsValidSolver}
 use Rattle.varisat_solver.proofs.modes.ShownStates.{may-stay}
 use Rattle.varisat_theory.specs.promises.Literals.{variable_of, literal_of}
-use Rattle.varisat_search.proofs.stepping.StepOutcome.{variable-literal}
+use Rattle.varisat_theory.proofs.clauses.Values.{variable-literal}
 use Rattle.varisat_search.specs.declared.context.Context.{Context}
 use Rattle.varisat_search.specs.Contexts.{view}
 use Rattle.varisat_names.specs.promises.VarBiMap.{BiMap}

@@ -2,6 +2,7 @@
 use Rattle.std.proofs.Common.{◌≡◌, Bool, true, false, not, cond, Option, Some, Result, Ok, Err, MatchResult, List, [], ◌∷◌, ◌++◌, ◌⊎◌, inl, inr, ⊎_elim, map, sym, ap, ◌∙◌, subst, refl}
 use Rattle.std.specs.Prelude.{is_none}
 use Rattle.std.specs.List.{filter}
+use Rattle.std.proofs.lemmas.Bool.{not-true}
 use Rattle.varisat_theory.specs.promises.Membership.{◌∈◌, ◌⊆◌, SameSet}
 use Rattle.varisat_theory.specs.promises.Literals.{Literal, Clause}
 use Rattle.varisat_theory.specs.promises.Propagation.{IsComplete}
@@ -25,7 +26,6 @@ use Rattle.varisat_search.specs.Seen.{search_of}
 use Rattle.varisat_search.specs.RootSimplified.{SimplifiesRoot, IsRootSimplified}
 use Rattle.varisat_search.specs.Simplifications.{has_true, unassigned, pair_lines, lines_of_clause, lines_of_clauses, clause_lines}
 use Rattle.varisat_search.proofs.loading.LoadView.{no-decision}
-use Rattle.varisat_search.proofs.simplifying.SimplifiedSearch.{is-false}
 use Rattle.varisat_search.proofs.simplifying.UnassignedLiterals.{some-true, left-part, left-unassigned}
 use Rattle.varisat_search.proofs.stepping.ViewSearch.{proved_to}
 use Rattle.varisat_solver.specs.promises.StepEntries.{KeepsParts}
@@ -130,7 +130,7 @@ gone-pairs s w done e h =
     let (c, i, z) = map-∈ Delete (Delete e) cs h in
     let same : e ≡ c = cc in
     let (j, n) = ∈-filter (λ c. not (are_unassigned s.values c)) (pairs_from 0 s.binary) c i in
-    let f = is-false (are_unassigned s.values c) n in
+    let f = not-true (are_unassigned s.values c) n in
     let (l, o, t) = pair-satisfied s w done c j f in
     subst (IsRetired s.values (pair_lines s)) (sym same) (record { assigned = f; why = inl (l, o, trail-true s w l t) })
 

@@ -6,12 +6,11 @@ use Rattle.varisat_theory.specs.promises.Derivations.{Line, SpeakOf}
 use Rattle.varisat_theory.specs.promises.Counted.{DerivesBy}
 use Rattle.varisat_theory.specs.promises.Journals.{GoesOn}
 use Rattle.varisat_theory.specs.promises.Searches.{Search, KeptClause, IsDischarged, Covers, CoversBy, IsLiteralOf}
-use Rattle.varisat_theory.specs.inside.Outcomes.{Outcome, Holds, Answers}
+use Rattle.varisat_theory.specs.inside.Outcomes.{SearchOutcome, Holds, Answers}
 use Rattle.varisat_theory.proofs.clauses.Sound.{conflicts_sound, derives_sound}
 use Rattle.varisat_theory.proofs.journals.StepCounts.{by_derives}
 use Rattle.varisat_theory.proofs.journals.StepCovers.{still_covered}
 use Rattle.varisat_theory.proofs.journals.Spoken.{spoken_wider}
-use Rattle.varisat_prop.proofs.trails.LiteralValues.{own-opposite}
 use Rattle.varisat_solver.specs.promises.Names.{identity_of}
 use Rattle.varisat_tracer.specs.promises.Carried.{carry}
 use Rattle.varisat_solver.specs.inside.Carried.{AgreesAlong, is_forced}
@@ -28,6 +27,7 @@ use Rattle.varisat_prop.specs.View.{View, kept, WellFormed}
 use Rattle.varisat_search.specs.Seen.{search_of}
 use Rattle.varisat_search.proofs.stepping.ViewSearch.{fixed_from, seen_clauses}
 use Rattle.varisat_theory.specs.inside.Outcomes as outcome
+use Rattle.varisat_theory.proofs.clauses.ConflictForms.{never_its_own}
 
 -- A search that goes on.
 
@@ -37,7 +37,7 @@ pub fixed-alone : (t : Search) (l : Literal) → AreLong t → IsDischarged t (l
 fixed-alone t l long h =
     ⊎_elim
     (λ a. ⊎_elim
-    (λ (m, i, j). absurd (own-opposite m (only (opposite m) j ∙ sym (only m i))))
+    (λ (m, i, j). absurd (never_its_own m (only (opposite m) j ∙ sym (only m i))))
     (λ (m, i, j). subst (λ x. x ∈ t.fixed) (only m i) j)
     a)
     (λ (k, i, e, w). let (x, y, a, b, n) = long k i in absurd (n (only x (w x a) ∙ sym (only y (w y b)))))
@@ -47,7 +47,7 @@ fixed-alone t l long h =
     only m (inl e) = e
     only m (inr z) = absurd z
 
-pub answers-covers : (P : List Clause) (t : Search) (v : Outcome) → v ≢ outcome.Unsat → Answers P t v → Covers P t
+pub answers-covers : (P : List Clause) (t : Search) (v : SearchOutcome) → v ≢ outcome.Unsat → Answers P t v → Covers P t
 answers-covers P t outcome.Unknown n a = a
 answers-covers P t (outcome.Sat found) n a = a.0
 answers-covers P t outcome.Unsat n a = absurd (n refl)
@@ -57,7 +57,7 @@ answers-covers P t (outcome.UnsatUnder core) n a = a
 pub agrees-through : (f : ℕ → Option ℕ) (a : Assignment) → AgreesAlong f a (λ v. a (identity_of (f v)))
 agrees-through f a v i e = ap (λ o. a (identity_of o)) e
 
-module _ (P : List Clause) (r : Translation) (s t : Search) (v : Outcome) (h : SearchHolds P r s outcome.Unknown) (long : AreLong t)
+module _ (P : List Clause) (r : Translation) (s t : Search) (v : SearchOutcome) (h : SearchHolds P r s outcome.Unknown) (long : AreLong t)
     (covers : v ≢ outcome.Unsat → (Q : List Clause) → Covers Q s → Covers Q t) where
   pub fixed-on : v ≢ outcome.Unsat → (l : Literal) → l ∈ s.fixed → l ∈ t.fixed
   fixed-on n l i = fixed-alone t l long

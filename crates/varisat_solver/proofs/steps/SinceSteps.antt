@@ -26,21 +26,23 @@ use Rattle.varisat_theory.proofs.bounds.Ranks.{rank_grows, rank_steady, rank_beh
 use Rattle.varisat_theory.proofs.journals.Renaming.{map-∈}
 use Rattle.varisat_literals.specs.promises.Numbers.{polarity_of}
 use Rattle.varisat_theory.specs.inside.Luby.{luby, saturated}
+use Rattle.varisat_theory.proofs.bounds.RestartPoints.{length_with_units}
 use Rattle.varisat_schedule.specs.Plans.{Plan, IsPlan, IsDue, first_plan, step_begun, next_plan, PlannedCall}
 use Rattle.varisat_schedule.specs.CallSteps.{steps_since, HasComeTo, HasComeWithout}
 use Rattle.varisat_schedule.proofs.CallSteps.{goes-on}
-use Rattle.varisat_schedule.proofs.StepsWithout.{begins-anywhere, length-with-units, is-short-without}
+use Rattle.varisat_schedule.proofs.StepsWithout.{begins-anywhere, is-short-without}
 use Rattle.varisat_prop.specs.Leaving.{leaves, staying}
 use Rattle.varisat_prop.specs.View.{View, WellFormed, node_of, is_clause, is_implied, level_of, kinds}
 use Rattle.varisat_prop.proofs.pairs.DistinctPlaces.{distinct-below}
 use Rattle.varisat_prop.proofs.views.Leaving.{cleared-length}
 use Rattle.varisat_prop.proofs.pairs.SimplifiedPairs.{∈-filter}
+use Rattle.varisat_prop.proofs.trails.TrailValues.{variables-distinct}
 use Rattle.varisat_vsids.specs.Activities.{Activities}
 use Rattle.varisat_names.specs.promises.Settings.{Settings}
 use Rattle.varisat_search.specs.Decisions.{HasActivities, IsDecidable, SameDecidable}
 use Rattle.varisat_search.specs.Forgotten.{IsWithout}
 use Rattle.varisat_search.specs.Progress.{RaisesRank}
-use Rattle.varisat_search.proofs.variables.ForgottenViews.{trail-distinct, distinct-left}
+use Rattle.varisat_search.proofs.variables.ForgottenViews.{distinct-left}
 use Rattle.varisat_solver.specs.inside.SinceChange.{call_from, HasComeSince, HasBegunWithout, HasBegunSince, GoesOnWithin, BeginsWithin, CountsSince}
 
 -- Variables leave in time, step by step.
@@ -98,7 +100,7 @@ pub trail-room : {A : Type 0} (c : PlannedCall) (units : ℕ) (x : Context A) �
     units + length (kinds (view x)) ≤ c.variables
 trail-room c units x r room =
     let s = view x in
-    let b = room (map variable_of s.trail) (trail-distinct s r.well)
+    let b = room (map variable_of s.trail) (variables-distinct s r.well)
     (λ v h. let (l, i, e) = map-∈ variable_of v s.trail h in subst (IsDecidable s x.vsids) (sym e) (trail-decidable s x.vsids r.well l i)) in
     let n = length-map s.trail variable_of in
     let k = kinds-length s in
@@ -135,8 +137,8 @@ begun-without c q units before trail h l same r after rises short =
     let m = c.variables in
     let first = with_units units before in
     let last = with_units units after in
-    let a : length first ≤ m = (let n = length-with-units units before in let k = r.short in omega (arith, n, k)) in
-    let b : length last ≤ m = (let n = length-with-units units after in omega (arith, n, short)) in
+    let a : length first ≤ m = (let n = length_with_units units before in let k = r.short in omega (arith, n, k)) in
+    let b : length last ≤ m = (let n = length_with_units units after in omega (arith, n, short)) in
     let up = rises m (omega arith) in
     record {
       come = goes-on c q first last h l a (record {
@@ -295,7 +297,7 @@ come-dropped gone x y r d q w dec f c p k =
       variables = k.variables ∙ sym (ap (λ (u : View). length u.values) w.rest ∙ cleared-length gone None s.values);
       room = λ vs dv h.
           let gs = map variable_of going in
-          let distinct = distinct_append vs gs dv (distinct-left (λ l. leaves gone (variable_of l)) s.trail (trail-distinct s r.well)) (λ v i j.
+          let distinct = distinct_append vs gs dv (distinct-left (λ l. leaves gone (variable_of l)) s.trail (variables-distinct s r.well)) (λ v i j.
           let (l, m, z) = map-∈ variable_of v going j in
           let (on, o) = ∈-filter (λ l. leaves gone (variable_of l)) s.trail l m in
           let b : true ≡ false = sym o ∙ ap (leaves gone) (sym z) ∙ ((dec v).0 (h v i)).1 in
@@ -328,6 +330,3 @@ since-now changed_at x e r p = record {
   few = λ n h. let z : x.schedule.steps - changed_at ≡ 0 = omega (arith, e) in subst (AreFew n) (sym z) (few_none n);
   come = λ u. (call_from x, sym e, come-now x r p);
 }
-
-pub first-plan-is : IsPlan first_plan
-first-plan-is = record { ahead = omega arith; small = omega arith; positive = omega arith; few = omega arith; fewer = omega arith }

@@ -18,7 +18,7 @@ use Rattle.varisat_theory.proofs.clauses.Members.{∈-append_left, ∈-append_ri
 use Rattle.varisat_theory.proofs.clauses.Growth.{conflicts_more, covered_by_more}
 use Rattle.varisat_theory.proofs.clauses.Held.{same_clauses-back, same_clauses_find, conflicts_same}
 use Rattle.varisat_theory.specs.promises.Searches.{Search, Fits, IsLiteralOf}
-use Rattle.varisat_theory.specs.inside.Outcomes.{Outcome, Holds, MakesSteps}
+use Rattle.varisat_theory.specs.inside.Outcomes.{SearchOutcome, Holds, MakesSteps}
 use Rattle.varisat_theory.specs.inside.Outcomes as outcome
 use Rattle.varisat_theory.proofs.journals.Renaming.{∈-map, map-∈, map-⊆, conflicts_renamed}
 use Rattle.varisat_theory.proofs.clauses.Sound.{conflicts_sound, derives_sound}
@@ -26,8 +26,8 @@ use Rattle.varisat_theory.proofs.journals.StepCounts.{by_derives}
 use Rattle.varisat_theory.proofs.steps.StepsMade.{names_satisfied}
 use Rattle.varisat_literals.specs.promises.Numbers.{polarity_of}
 use Rattle.varisat_prop.specs.Parts.{is_true_value}
-use Rattle.varisat_search.proofs.stepping.StepOutcome.{variable-literal, polarity-literal}
-use Rattle.varisat_prop.proofs.trails.LiteralValues.{variable-opposite}
+use Rattle.varisat_prop.proofs.trails.LiteralValues.{polarity-literal}
+use Rattle.varisat_theory.proofs.clauses.Values.{variable-opposite, variable-literal}
 use Rattle.varisat_names.specs.promises.Maps.{onward, chain}
 use Rattle.varisat_search.specs.AssumptionParts.{AssumptionParts, KeepsAssumptions}
 use Rattle.varisat_solver.specs.promises.States.{State, Verdict, Unknown, Sat, Unsat, UnsatUnderAssumptions, IsRight}
@@ -58,12 +58,12 @@ abbrev pub logged-with : Carrying → Spaces → State → List Line → List En
 logged-with w p s lines = s.logged ++ lines_logged (translation w p s.logged) lines
 
 -- the spaces with a verdict that was found, and the checker after that
-abbrev pub with_found : Search → Outcome → (ℕ → Bool) → List Literal → List Literal → Option CheckerState → Spaces → Spaces
+abbrev pub with_found : Search → SearchOutcome → (ℕ → Bool) → List Literal → List Literal → Option CheckerState → Spaces → Spaces
 with_found t v m working core checker p = record p { search = t; outcome = v; model = m; working = working; core = core; checker = checker }
 
 -- another verdict of the state, which is right
 decided : (w : Carrying) (p : Spaces) (s : State) (logged : List Entry) → IsWholeLog logged s.clauses s.assumptions s.counted s.ever_hidden (IsRetired w s) →
-    (t : Search) (v : Outcome) (m : ℕ → Bool) (ws core : List Literal) (checker : Option CheckerState) (x : Verdict) → Links w p s →
+    (t : Search) (v : SearchOutcome) (m : ℕ → Bool) (ws core : List Literal) (checker : Option CheckerState) (x : Verdict) → Links w p s →
     CheckerFits w.global logged checker → SearchHolds s.clauses (translation w p logged) t (without_core v) →
     WorkingFits s.clauses (translation w p s.logged).identity s.assumptions ws → VerdictFits w.identity m v x →
     CoreFits s.naming.names core x → IsRight s.clauses s.assumptions s.counted x →
@@ -90,7 +90,7 @@ pub forgotten : (w : Carrying) (p : Spaces) (s : State) → Links w p s → s.ve
 forgotten w p s k n = decided w p s s.logged k.logged p.search outcome.Unknown p.model p.working p.core p.checker Unknown k
     k.checked (go p.outcome s.verdict k.holds k.verdict n) k.working tt tt tt
   where
-    go : (v : Outcome) (x : Verdict) → SearchHolds s.clauses (translation w p s.logged) p.search (without_core v) →
+    go : (v : SearchOutcome) (x : Verdict) → SearchHolds s.clauses (translation w p s.logged) p.search (without_core v) →
         VerdictFits w.identity p.model v x → x ≢ Unsat → SearchHolds s.clauses (translation w p s.logged) p.search outcome.Unknown
     go outcome.Unknown x h f n = h
     go (outcome.Sat found) x h f n = without-model s.clauses (translation w p s.logged) p.search found h
@@ -110,14 +110,14 @@ core-known w p s found core k unknown logged some right =
     (subst (SearchHolds s.clauses (translation w p s.logged) p.search) (ap without_core unknown) k.holds) k.working some logged right
 
 -- without its core a verdict has none
-plain-without : (v : Outcome) (core : List Literal) → without_core v ≡ outcome.UnsatUnder core → ⊥
+plain-without : (v : SearchOutcome) (core : List Literal) → without_core v ≡ outcome.UnsatUnder core → ⊥
 plain-without outcome.Unknown core e = let z : outcome.Unknown ≡ outcome.UnsatUnder core = e in cc
 plain-without (outcome.Sat found) core e = let z : outcome.Sat found ≡ outcome.UnsatUnder core = e in cc
 plain-without outcome.Unsat core e = let z : outcome.Unsat ≡ outcome.UnsatUnder core = e in cc
 plain-without (outcome.UnsatUnder found) core e = let z : outcome.Unknown ≡ outcome.UnsatUnder core = e in cc
 
 -- what is held says as much without the core
-holds-without : (held : List Clause) (t : Search) (v : Outcome) → Holds held t v → Holds held t (without_core v)
+holds-without : (held : List Clause) (t : Search) (v : SearchOutcome) → Holds held t v → Holds held t (without_core v)
 holds-without held t outcome.Unknown h = h
 holds-without held t (outcome.Sat found) h = h
 holds-without held t outcome.Unsat h = h
@@ -131,7 +131,7 @@ true-carried : (f : ℕ → Option ℕ) (a : Assignment) (ls : List Literal) →
 true-carried f a ls t l h = let (m, i, e) = map-∈ (carry f) l ls h in ap (value a) e ∙ value-carry f a m ∙ t m i
 
 -- the assumptions that are left after steps
-pub working-on : (P : List Clause) (r : Translation) (s : Search) (v : Outcome) (as' : List Literal) (x y : AssumptionParts) →
+pub working-on : (P : List Clause) (r : Translation) (s : Search) (v : SearchOutcome) (as' : List Literal) (x y : AssumptionParts) →
     SearchHolds P r s outcome.Unknown → KeepsAssumptions s v x y → WorkingFits P r.identity as' x.working → WorkingFits P r.identity as' y.working
 working-on P r s v as' x y h k f = record {
   used = λ l i. f.used l (k.part l i);
@@ -170,7 +170,7 @@ LinesInSteps interval number zero lines t =
 LinesInSteps interval number (suc k) lines t = (k ≡ 0) × AddOne lines
 
 -- Steps were made, and left some of the assumptions.
-module _ (w : Carrying) (p : Spaces) (s : State) (k : Links w p s) (unknown : p.outcome ≡ outcome.Unknown) (t : Search) (v : Outcome) (n : ℕ)
+module _ (w : Carrying) (p : Spaces) (s : State) (k : Links w p s) (unknown : p.outcome ≡ outcome.Unknown) (t : Search) (v : SearchOutcome) (n : ℕ)
     (lines : List Line) (made : MakesSteps n p.search t v lines) (long : AreLong t) (in-use : AreInUse p t) where
   before : SearchHolds s.clauses (translation w p s.logged) p.search outcome.Unknown
   before = subst (SearchHolds s.clauses (translation w p s.logged) p.search) (ap without_core unknown) k.holds
@@ -428,7 +428,7 @@ module _ (w : Carrying) (p : Spaces) (s : State) (k : Links w p s) (unknown : p.
         left (subst (λ y. VerdictFits w.identity m y (UnsatUnderAssumptions (map (carry s.naming.names) logged))) (sym e) some) (named, refl) (part, none)
 
 -- what is logged is logged in steps, then
-pub steps-in-turn : (w : Carrying) (p : Spaces) (s : State) (k : Links w p s) (unknown : p.outcome ≡ outcome.Unknown) (t : Search) (v : Outcome) (n : ℕ)
+pub steps-in-turn : (w : Carrying) (p : Spaces) (s : State) (k : Links w p s) (unknown : p.outcome ≡ outcome.Unknown) (t : Search) (v : SearchOutcome) (n : ℕ)
     (lines : List Line) (made : MakesSteps n p.search t v lines) (long : AreLong t) (in-use : AreInUse p t) (interval number : ℕ) →
     v ≡ outcome.Unknown → LinesInSteps interval number n lines t →
     LogsInSteps interval number n s.logged (steps-log w p s k unknown t v n lines made long in-use).entries
@@ -508,7 +508,7 @@ module _ (w : Carrying) (p : Spaces) (s : State) (k : Links w p s) (unknown : p.
             (is-some (chain w.global p.solver_from_global i)),
       )
 
-pub model-same : (id : ℕ → Option ℕ) (m m' : ℕ → Bool) (o : Outcome) (v : Verdict) →
+pub model-same : (id : ℕ → Option ℕ) (m m' : ℕ → Bool) (o : SearchOutcome) (v : Verdict) →
     ((found : Assignment) → o ≡ outcome.Sat found → (x : ℕ) → m' x ≡ m x) → VerdictFits id m o v → VerdictFits id m' o v
 model-same id m m' outcome.Unknown Unknown h f = tt
 model-same id m m' outcome.Unknown (Sat a) h f = f

@@ -10,7 +10,7 @@ use Rattle.varisat_theory.specs.promises.Held.{SameClauses}
 use Rattle.varisat_theory.specs.promises.Derivations.{Add, Delete}
 use Rattle.varisat_theory.specs.promises.Journals.{Entry, Accepts, Writes, Assumes, Fails, Retires, Leads, accepted_of, NoneRetires}
 use Rattle.varisat_theory.specs.promises.Searches.{Search, IsTautology, CoversBy, IsLiteralOf}
-use Rattle.varisat_theory.specs.inside.Outcomes.{Outcome, Holds}
+use Rattle.varisat_theory.specs.inside.Outcomes.{SearchOutcome, Holds}
 use Rattle.varisat_theory.specs.inside.Outcomes as outcome
 use Rattle.varisat_literals.specs.promises.Numbers.{polarity_of}
 use Rattle.varisat_names.specs.promises.Maps.{IsInverse, chain}
@@ -44,7 +44,7 @@ pub record Spaces : Type 0 where
   pub core : List Literal
   pub working : List Literal
   pub search : Search
-  pub outcome : Outcome
+  pub outcome : SearchOutcome
   pub var_count : ℕ
   pub checker : Option CheckerState
 
@@ -139,12 +139,12 @@ pub record SharesHeld (r : Translation) (fixed : List Literal) (share : List Cla
   pub settled : (c : Clause) → c ∈ forgotten → IsDischargedBy r fixed c
 
 -- What was logged of the clauses that the search holds. Under Unsat it leads to a conflict, and nothing more is logged of clauses.
-abbrev pub HeldFits : Translation → List Literal → List Clause → Outcome → Type 0
+abbrev pub HeldFits : Translation → List Literal → List Clause → SearchOutcome → Type 0
 HeldFits r fixed share outcome.Unsat = LogsConflict r.logged
 HeldFits r fixed share _ = SharesHeld r fixed share
 
 -- What the search with its verdict says of the accepted clauses: it holds some clauses, as a proof would.
-pub record SearchHolds (P : List Clause) (r : Translation) (s : Search) (v : Outcome) : Type 0 where
+pub record SearchHolds (P : List Clause) (r : Translation) (s : Search) (v : SearchOutcome) : Type 0 where
   pub held : List Clause
   pub holds : Holds held s v
   -- the search speaks of variables in use only
@@ -187,14 +187,14 @@ CoreFits names logged (UnsatUnderAssumptions core) =
     ((l : Literal) → l ∈ logged → (i : ℕ) × (names (variable_of l) ≡ Some i)) × (core ≡ map (carry names) logged)
 
 -- the verdict without a core, which says nothing of the clauses that are held
-abbrev pub without_core : Outcome → Outcome
+abbrev pub without_core : SearchOutcome → SearchOutcome
 without_core outcome.Unknown = outcome.Unknown
 without_core (outcome.Sat found) = outcome.Sat found
 without_core outcome.Unsat = outcome.Unsat
 without_core (outcome.UnsatUnder core) = outcome.Unknown
 
 -- the verdict, and the model that was found with it; a core is not empty
-abbrev pub VerdictFits : (ℕ → Option ℕ) → (ℕ → Bool) → Outcome → Verdict → Type 0
+abbrev pub VerdictFits : (ℕ → Option ℕ) → (ℕ → Bool) → SearchOutcome → Verdict → Type 0
 VerdictFits identity model outcome.Unknown Unknown = Unit {0}
 VerdictFits identity model (outcome.Sat found) (Sat a) = (x i : ℕ) → identity x ≡ Some i → a i ≡ model x
 VerdictFits identity model outcome.Unsat Unsat = Unit {0}

@@ -66,7 +66,7 @@ replicate_sum (suc u) v = let e : suc (u + v) ≡ suc u + v = omega arith in ap 
 pub units_first : (u v : ℕ) (trail : List Bool) → with_units u (with_units v trail) ≡ with_units (u + v) trail
 units_first u v trail = sym (append_assoc (replicate u true) (replicate v true) trail) ∙ ap (λ l. l ++ trail) (replicate_sum u v)
 
-length_with_units : (u : ℕ) (trail : List Bool) → length (with_units u trail) ≡ u + length trail
+pub length_with_units : (u : ℕ) (trail : List Bool) → length (with_units u trail) ≡ u + length trail
 length_with_units u trail = let a = length-append (replicate u true) trail in let b = length-replicate u true in omega (arith, a, b)
 
 pub units_below : (n u : ℕ) (trail : List Bool) → u + length trail ≤ n → rank n (with_units u trail) < 2 ^ suc n

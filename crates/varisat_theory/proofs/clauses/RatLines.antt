@@ -1,12 +1,12 @@
 -- Lines of DRAT keep clauses satisfiable.
-use Rattle.std.proofs.Common.{◌≡◌, ℕ, ◌/◌, ◌%◌, Bool, true, false, not, nat_eq, if◌then◌else◌, List, [], ◌∷◌, ◌++◌, ◌⊎◌, inl, inr, ⊎_elim, sym, ap, ◌∙◌, subst, refl, eq-eqb, ne_eqb, arith}
+use Rattle.std.proofs.Common.{◌≡◌, ℕ, ◌/◌, ◌%◌, true, nat_eq, if◌then◌else◌, List, [], ◌∷◌, ◌++◌, inl, inr, ⊎_elim, sym, ap, ◌∙◌, subst, refl, eq-eqb, ne_eqb}
 use Rattle.varisat_theory.specs.promises.Membership.{◌∈◌}
 use Rattle.varisat_theory.specs.promises.Literals.{Literal, Clause, Assignment, opposite, value, Satisfies, SatisfiesAll, IsSatisfiable}
 use Rattle.varisat_theory.specs.promises.Propagation.{Conflicts, Follows}
 use Rattle.varisat_theory.specs.promises.Derivations.{Line, Add, Delete}
 use Rattle.varisat_theory.specs.promises.Rat.{put_unless, but_for, ResolventsFollow, IsRat, IsDratLine, DerivesByDrat}
 use Rattle.varisat_theory.proofs.clauses.Members.{equal_or_not, ∈-or_not, ∈-append_cases}
-use Rattle.varisat_theory.proofs.clauses.Values.{parity}
+use Rattle.varisat_theory.proofs.clauses.Values.{either_true, same_or_opposite, value_by}
 use Rattle.varisat_theory.proofs.clauses.Assigned.{satisfies_more}
 use Rattle.varisat_theory.proofs.clauses.Sound.{conflicts_sound, follows_entails, satisfied_or_not, takes_less}
 
@@ -22,33 +22,17 @@ elsewhere : (a : Assignment) (l v : ℕ) → (v ≡ l / 2 → ⊥) → with_true
 unfolding with_true
 elsewhere a l v n = ap (λ b. if b then nat_eq (l % 2) 0 else a v) (ne_eqb v (l / 2) n)
 
-value_by : (a : Assignment) (m : Literal) (b : Bool) → a (m / 2) ≡ b → value a m ≡ (if nat_eq (m % 2) 0 then b else not b)
-unfolding value
-value_by a m b e = ap (λ x. if nat_eq (m % 2) 0 then x else not x) e
-
-either_true : (b : Bool) → (if b then b else not b) ≡ true
-either_true true = refl
-either_true false = refl
-
 pub now_true : (a : Assignment) (l : Literal) → value (with_true a l) l ≡ true
 now_true a l = value_by (with_true a l) l (nat_eq (l % 2) 0) (at_variable a l (l / 2) refl) ∙ either_true (nat_eq (l % 2) 0)
 
 same_elsewhere : (a : Assignment) (l m : Literal) → (m / 2 ≡ l / 2 → ⊥) → value (with_true a l) m ≡ value a m
 same_elsewhere a l m n = value_by (with_true a l) m (a (m / 2)) (elsewhere a l (m / 2) n) ∙ sym (value_by a m (a (m / 2)) refl)
 
-one_variable : (l m : Literal) → m / 2 ≡ l / 2 → (m ≡ l) ⊎ (m ≡ opposite l)
-unfolding opposite
-one_variable l m e =
-    ⊎_elim
-    (λ p. ⊎_elim (λ q. inl (omega (arith, e, p, q))) (λ q. inr (omega (arith, e, p, q))) (parity m))
-    (λ p. ⊎_elim (λ q. inr (omega (arith, e, p, q))) (λ q. inl (omega (arith, e, p, q))) (parity m))
-    (parity l)
-
 -- all true literals but the opposite of l stay true
 still_true : (a : Assignment) (l m : Literal) → (m ≡ opposite l → ⊥) → value a m ≡ true → value (with_true a l) m ≡ true
 still_true a l m n t =
     ⊎_elim
-    (λ e. ⊎_elim (λ q. subst (λ x. value (with_true a l) x ≡ true) (sym q) (now_true a l)) (λ q. absurd (n q)) (one_variable l m e))
+    (λ e. ⊎_elim (λ q. subst (λ x. value (with_true a l) x ≡ true) (sym q) (now_true a l)) (λ q. absurd (n q)) (same_or_opposite m l e))
     (λ d. same_elsewhere a l m d ∙ t)
     (equal_or_not (m / 2) (l / 2))
 

@@ -99,7 +99,7 @@ written_by n P (Delete c ∷ lines) Q (R, t, d) = (R, t, inl (tt, written_by n R
 -- 4. Where no variable leaves, the lines are a derivation from all clauses that are accepted.
 
 -- a clause behind others stands in front of them
-after_all : (R P Q : List Clause) → SameClauses P Q → SameClauses (R ++ P) (R ++ Q)
+pub after_all : (R P Q : List Clause) → SameClauses P Q → SameClauses (R ++ P) (R ++ Q)
 after_all [] P Q s = s
 after_all (c ∷ R) P Q s = (R ++ Q, ([], c, R ++ Q, refl, same_set-self c, refl), after_all R P Q s)
 
@@ -192,7 +192,7 @@ goes_on_further n m logged es fs g h held d =
 
 -- 7. Lines under new names, beside more clauses.
 
-unit_renamed : (f : Literal → Literal) (l : Literal) (c : Clause) → IsUnit l c → IsUnit (f l) (map f c)
+pub unit_renamed : (f : Literal → Literal) (l : Literal) (c : Clause) → IsUnit l c → IsUnit (f l) (map f c)
 unit_renamed f l c u = (∈-map f l c u.0, λ m h. let (k, i, e) = map-∈ f m c h in e ∙ ap f (u.1 k i))
 
 minor_renamed : (f : Literal → Literal) (P : List Clause) (c : Clause) → IsMinor P c → IsMinor (rename f P) (map f c)

@@ -19,6 +19,7 @@ use Rattle.varisat_theory.proofs.journals.Renaming.{∈-map, map-∈, map-⊆}
 use Rattle.varisat_theory.proofs.clauses.Lines.{present_unique, derives_present}
 use Rattle.varisat_theory.proofs.journals.StepCounts.{by_derives, new_same, among_same}
 use Rattle.varisat_theory.proofs.journals.Journals.{leads_append, leads_same, by_leads, leads_unique, lines_append, written_by, by_renamed, by_beside}
+use Rattle.varisat_theory.proofs.clauses.Sound.{takes_less}
 
 -- 1. What new clauses add up to.
 
@@ -191,12 +192,6 @@ by_cut n P (Add c ∷ lines) more R (f, inl (i, d)) = let (Q, k, m, a, b) = by_c
 by_cut n P (Add c ∷ lines) more R (f, inr (j, e, d)) = let (Q, k, m, a, b) = by_cut j (P ++ c ∷ []) lines more R d in (Q, suc k, m, (f, inr (k, refl, a)), b)
 by_cut n P (Delete c ∷ lines) more R (S, t, d) = let (Q, k, m, a, b) = by_cut n S lines more R d in (Q, k, m, (S, t, a), b)
 
--- what is left stood there before
-pub taken_less : (P : List Clause) (d : Clause) (R : List Clause) → TakesOut P d R → R ⊆ P
-taken_less P d R (front, x, back, e, s, f) c h =
-    subst (λ y. c ∈ y) (sym e) (⊎_elim (λ a. ∈-append_left c front (x ∷ back) a) (λ b. ∈-append_right c front (x ∷ back) (inr b))
-    (∈-append_cases c front back (subst (λ y. c ∈ y) f h)))
-
 -- `are` holds of each literal of the clauses
 abbrev pub AreOver : (Literal → Type 0) → List Clause → Type 0
 AreOver are P = (c : Clause) (l : Literal) → c ∈ P → l ∈ c → are l
@@ -212,7 +207,7 @@ over_after n are P (Add c ∷ lines) Q (g, d) f (a, w) =
     (λ (m, y). over_after n are (P ++ c ∷ []) lines Q y more w)
     (λ (m, o, y). over_after m are (P ++ c ∷ []) lines Q y more w)
     d
-over_after n are P (Delete c ∷ lines) Q (R, out, d) f (a, w) = over_after n are R lines Q d (λ x l h i. f x l (taken_less P c R out x h) i) w
+over_after n are P (Delete c ∷ lines) Q (R, out, d) f (a, w) = over_after n are R lines Q d (λ x l h i. f x l (takes_less P c R out x h) i) w
 
 spoken_cut : (are : Literal → Type 0) (first second : List Line) → SpeakOf are (first ++ second) → SpeakOf are first × SpeakOf are second
 spoken_cut are [] second p = (tt, p)

@@ -8,7 +8,7 @@ use Rattle.varisat_theory.specs.promises.Derivations.{Add, Delete}
 use Rattle.varisat_theory.specs.promises.Held.{mentions, unless, without}
 use Rattle.varisat_theory.specs.promises.Renaming.{KeepsOpposites, IsOneToOneOn, IsWithin, rename}
 use Rattle.varisat_theory.specs.promises.Journals.{Entry, Accepts, Writes, Assumes, Fails, Retires, Follow, Leads, rename_entry, IsEntryWithin, AreWithin}
-use Rattle.varisat_theory.proofs.clauses.Values.{opposite_twice, parity, opposites-∈}
+use Rattle.varisat_theory.proofs.clauses.Values.{opposite_twice, parity, opposites-∈, variable-opposite, same_or_opposite}
 use Rattle.varisat_theory.proofs.clauses.Members.{∈-append_right, ∈-append_cases}
 use Rattle.varisat_theory.proofs.clauses.Sound.{takes_less}
 use Rattle.varisat_theory.proofs.journals.HeldRetirements.{mentioned_literal, literal_mentioned, without_less}
@@ -22,19 +22,6 @@ of_variable l v e = ⊎_elim (λ h. inl (omega (arith, e))) (λ h. inr (omega (a
 over_variable : (v : ℕ) → ((2 * v) / 2 ≡ v) × (opposite (2 * v) / 2 ≡ v)
 unfolding opposite
 over_variable v = (omega arith, omega arith)
-
-same_variable : (l : ℕ) → opposite l / 2 ≡ l / 2
-unfolding opposite
-same_variable l = ⊎_elim (λ h. omega arith) (λ h. omega arith) (parity l)
-
--- two literals of one variable are the same or opposite
-one_variable : (l m : ℕ) → l / 2 ≡ m / 2 → (l ≡ m) ⊎ (l ≡ opposite m)
-unfolding opposite
-one_variable l m e =
-    ⊎_elim
-    (λ h. ⊎_elim (λ k. inl (omega (arith, e))) (λ k. inr (omega (arith, e))) (parity m))
-    (λ h. ⊎_elim (λ k. inr (omega (arith, e))) (λ k. inl (omega (arith, e))) (parity m))
-    (parity l)
 
 joins : (ls : List Literal) (P : List Clause) (c d : Clause) → ((x : Clause) → x ∈ P → IsWithin ls x) → IsWithin ls c → d ∈ (P ++ c ∷ []) → IsWithin ls d
 joins ls P c d h k i = ⊎_elim (h d) (λ j. ⊎_elim (λ e. subst (IsWithin ls) (sym e) k) (λ z. absurd z) j) (∈-append_cases d P (c ∷ []) i)
@@ -60,7 +47,7 @@ module _ (f : Literal → Literal) (w : KeepsOpposites f) (ls : List Literal) (o
   renamed_literal v l e =
       ⊎_elim
       (λ q. ap (λ x. f x / 2) q)
-      (λ q. ap (λ x. f x / 2) q ∙ ap (λ x. x / 2) (w (2 * v)) ∙ same_variable (f (2 * v)))
+      (λ q. ap (λ x. f x / 2) q ∙ ap (λ x. x / 2) (w (2 * v)) ∙ variable-opposite (f (2 * v)))
       (of_variable l v e)
 
   literal_back : (v : ℕ) (l : Literal) → IsWithin ls (2 * v ∷ []) → l ∈ ls → f l / 2 ≡ f (2 * v) / 2 → l / 2 ≡ v
@@ -69,7 +56,7 @@ module _ (f : Literal → Literal) (w : KeepsOpposites f) (ls : List Literal) (o
       ⊎_elim
       (λ q. ap (λ x. x / 2) (one l (2 * v) h t.0 q) ∙ (over_variable v).0)
       (λ q. ap (λ x. x / 2) (one l (opposite (2 * v)) h t.1 (q ∙ sym (w (2 * v)))) ∙ (over_variable v).1)
-      (one_variable (f l) (f (2 * v)) e)
+      (same_or_opposite (f l) (f (2 * v)) e)
 
   mentions_renamed : (v : ℕ) (c : Clause) → IsWithin ls (2 * v ∷ []) → IsWithin ls c → mentions (f (2 * v) / 2) (map f c) ≡ mentions v c
   mentions_renamed v c k h = go (mentions v c) (mentions (f (2 * v) / 2) (map f c)) refl refl

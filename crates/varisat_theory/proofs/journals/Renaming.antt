@@ -33,7 +33,7 @@ half_twice v = omega arith
 even_twice : (v : ℕ) → (2 * v) % 2 ≡ 0
 even_twice v = omega arith
 
-value_twice : (a : Assignment) (v : ℕ) → value a (2 * v) ≡ a v
+pub value_twice : (a : Assignment) (v : ℕ) → value a (2 * v) ≡ a v
 unfolding value
 value_twice a v = rw (even_twice v) (ap a (half_twice v))
 

@@ -8,11 +8,11 @@ use Rattle.varisat_theory.proofs.clauses.Sound.{derives_sound, conflicts_sound}
 use Rattle.varisat_theory.proofs.clauses.Assigned.{satisfies_more, satisfies_fewer}
 use Rattle.varisat_theory.specs.promises.Counted.{DerivesBy, AddsNew, AddsManyNew, DeletesNone, added}
 use Rattle.varisat_theory.specs.promises.Searches.{Search, Fits, Covers, IsLiteralOf}
-use Rattle.varisat_theory.specs.inside.Outcomes.{Outcome, Unknown, Sat, Unsat, UnsatUnder, Holds, Answers, Proves, Steps, Loads, AccountsFor}
+use Rattle.varisat_theory.specs.inside.Outcomes.{SearchOutcome, Unknown, Sat, Unsat, UnsatUnder, Holds, Answers, Proves, Steps, Loads, AccountsFor}
 use Rattle.varisat_theory.proofs.journals.StepCounts.{by_derives, by_append, new_before, new_after}
 use Rattle.varisat_theory.proofs.journals.Spoken.{spoken_after}
 
-pub part_step : (s t u : Search) (v : Outcome) (first second : List Line) → Proves 0 s t first → Steps t u v second → Steps s u v (first ++ second)
+pub part_step : (s t u : Search) (v : SearchOutcome) (first second : List Line) → Proves 0 s t first → Steps t u v second → Steps s u v (first ++ second)
 part_step s t u v first second p q = record {
   holds = λ held f.
       let (mid, d, g) = p.holds held f in
@@ -75,7 +75,7 @@ pub step_adds : (s t : Search) (lines : List Line) (held : List Clause) → Step
 step_adds s t lines held p f = adds_one held lines ((p.holds held f).3 refl)
 
 -- what lines lead to stands for the same accepted clauses
-pub accounts_after : (n : ℕ) (P held after : List Clause) (s t : Search) (v : Outcome) (lines : List Line) → AccountsFor P held s Unknown →
+pub accounts_after : (n : ℕ) (P held after : List Clause) (s t : Search) (v : SearchOutcome) (lines : List Line) → AccountsFor P held s Unknown →
     DerivesBy n held lines after → Holds after t v → Answers P t v → AccountsFor P after t v
 accounts_after n P held after s t v lines w d h a = record {
   implied = λ x m. derives_sound held lines after x (by_derives n held lines after d) (w.implied x m);
@@ -83,7 +83,7 @@ accounts_after n P held after s t v lines w d h a = record {
   answers = a;
 }
 
-pub step_accounts : (P held : List Clause) (s t : Search) (v : Outcome) (lines : List Line) → AccountsFor P held s Unknown → Steps s t v lines →
+pub step_accounts : (P held : List Clause) (s t : Search) (v : SearchOutcome) (lines : List Line) → AccountsFor P held s Unknown → Steps s t v lines →
     (after : List Clause) × DerivesBy 1 held lines after × AccountsFor P after t v × (v ≡ Unknown → 1 ≤ added lines)
 step_accounts P held s t v lines w p =
     let (after, d, h, n) = p.holds held w.holds in
@@ -95,13 +95,13 @@ part_accounts n P held s t lines w p =
     let (after, d, h) = p.holds held w.holds in
     (after, d, accounts_after n P held after s t Unknown lines w d h (p.covers P w.answers))
 
-open_fits : (held : List Clause) (s : Search) (v : Outcome) → v ≢ Unsat → Holds held s v → Fits held s
+open_fits : (held : List Clause) (s : Search) (v : SearchOutcome) → v ≢ Unsat → Holds held s v → Fits held s
 open_fits held s Unknown n h = h
 open_fits held s (Sat a) n h = h
 open_fits held s Unsat n h = absurd (n refl)
 open_fits held s (UnsatUnder core) n h = h.0
 
-open_covers : (P : List Clause) (s : Search) (v : Outcome) → v ≢ Unsat → Answers P s v → Covers P s
+open_covers : (P : List Clause) (s : Search) (v : SearchOutcome) → v ≢ Unsat → Answers P s v → Covers P s
 open_covers P s Unknown n h = h
 open_covers P s (Sat a) n h = h.0
 open_covers P s Unsat n h = absurd (n refl)
@@ -112,7 +112,7 @@ implied_more : (P held : List Clause) (c : Clause) → ((a : Assignment) → Sat
 implied_more P held c g a m =
     satisfies_more a held c (g a (satisfies_fewer a P (c ∷ []) m)) (m c (∈-append_right c P (c ∷ []) (inl refl)))
 
-pub load_accounts : (P held : List Clause) (s t : Search) (c : Clause) (v w : Outcome) (lines : List Line) → AccountsFor P held s v → v ≢ Unsat →
+pub load_accounts : (P held : List Clause) (s t : Search) (c : Clause) (v w : SearchOutcome) (lines : List Line) → AccountsFor P held s v → v ≢ Unsat →
     Loads s t c w lines → (after : List Clause) × DerivesBy 0 (held ++ c ∷ []) lines after × AccountsFor (P ++ c ∷ []) after t w
 load_accounts P held s t c v w lines x n p =
     let (after, d, h) = p.holds held (open_fits held s v n x.holds) in (

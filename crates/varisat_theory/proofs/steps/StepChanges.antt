@@ -1,6 +1,7 @@
 -- Parts of a step: kept clauses move, are deleted and shortened, units are proved.
-use Rattle.std.proofs.Common.{◌≡◌, Bool, true, false, List, [], ◌∷◌, ◌++◌, ◌⊎◌, inl, inr, ⊎_elim, sym, ap, ◌∙◌, subst, refl, append_assoc}
+use Rattle.std.proofs.Common.{◌≡◌, true, false, List, [], ◌∷◌, ◌++◌, ◌⊎◌, inl, inr, ⊎_elim, sym, ap, ◌∙◌, subst, refl, append_assoc}
 use Rattle.std.proofs.lemmas.List.{append-nil}
+use Rattle.std.proofs.lemmas.Bool.{false_from_ne_true}
 use Rattle.varisat_theory.specs.promises.Membership.{◌∈◌, ◌⊆◌, SameSet}
 use Rattle.varisat_theory.specs.promises.Literals.{Literal, Clause, opposite, IsUnit}
 use Rattle.varisat_theory.specs.promises.Propagation.{LeavesOnly, Follows}
@@ -151,10 +152,6 @@ pub learned_is_deleted : (s : Search) (front back : List KeptClause) (k : KeptCl
     SameSet k.clause c → k.learned ≡ true → Proves 0 s (record s { kept = front ++ back }) (Delete c ∷ [])
 learned_is_deleted s front back k c e q w = is_deleted s front back k c e q (inl w)
 
-is_false : (b : Bool) → (b ≡ true → ⊥) → b ≡ false
-is_false true n = absurd (n refl)
-is_false false n = refl
-
 pub is_shortened : (s : Search) (front back : List KeptClause) (k j : KeptClause) (c d : Clause) → s.kept ≡ front ++ (k ∷ back) →
     SameSet k.clause c → SameSet j.clause d → j.clause ⊆ k.clause → ((m : Literal) → m ∈ k.clause → (m ∈ j.clause) ⊎ (opposite m ∈ s.proved)) →
     (j.learned ≡ true → k.learned ≡ true) → Proves 0 s (record s { kept = front ++ (j ∷ back) }) (Add d ∷ Delete c ∷ [])
@@ -186,7 +183,7 @@ is_shortened s front back k j c d e q r w g y = record {
         },
       );
   covers = covers_replaced s front back (j ∷ []) k e
-      (λ a n p. inr (j, inl refl, is_false j.learned (λ u. let z : true ≡ false = sym (y u) ∙ n in cc), λ x u. p x (w x u)));
+      (λ a n p. inr (j, inl refl, false_from_ne_true j.learned (λ u. let z : true ≡ false = sym (y u) ∙ n in cc), λ x u. p x (w x u)));
   speaks = (λ l i. inr (k, at_place s front back k e, w l (r.1 l i)), (λ l i. inr (k, at_place s front back k e, q.1 l i), tt));
   within = part_within s front back k j e w;
 }

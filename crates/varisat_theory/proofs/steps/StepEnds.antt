@@ -12,7 +12,7 @@ use Rattle.varisat_theory.proofs.clauses.Implication.{implied_false}
 use Rattle.varisat_theory.specs.promises.Counted.{IsNew, AddsNew}
 use Rattle.varisat_theory.specs.promises.Searches.{KeptClause, Search, clauses_of, IsDischarged, Fits, Covers, IsLiteralOf}
 use Rattle.varisat_theory.specs.inside.Outcomes.{Unknown, Sat, Unsat, UnsatUnder, Steps}
-use Rattle.varisat_theory.specs.inside.StepLaws.{FollowsFrom, IsNewTo, IsFresh, IsSolution}
+use Rattle.varisat_theory.specs.inside.StepLaws.{FollowsFrom, IsNewTo, IsFresh, DecidesKept}
 use Rattle.varisat_theory.proofs.steps.SearchFits.{same_between, clauses_last, clause_from, plain, proved_implied}
 use Rattle.varisat_theory.proofs.journals.Spoken.{kept_within, unit_within}
 use Rattle.varisat_theory.proofs.steps.StepChanges.{discharged_more, more_units, more_discharged, in_plain}
@@ -152,7 +152,7 @@ contradiction_is_found s t g = (
   },
 )
 
-pub model_satisfies : (s : Search) (known : List Literal) (a : Assignment) (P : List Clause) → IsSolution s known → MakesTrue a known → Covers P s →
+pub model_satisfies : (s : Search) (known : List Literal) (a : Assignment) (P : List Clause) → DecidesKept s known → MakesTrue a known → Covers P s →
     SatisfiesAll a P
 model_satisfies s known a P (x, n, y) m v c h =
     ⊎_elim
@@ -171,7 +171,7 @@ model_satisfies s known a P (x, n, y) m v c h =
     kept : (k : KeptClause) → k ∈ s.kept → Satisfies a k.clause
     kept k i = all k.clause (in_clauses s.kept k i)
 
-pub model_is_found : (s : Search) (known : List Literal) (a : Assignment) → IsSolution s known → MakesTrue a known → Steps s s (Sat a) []
+pub model_is_found : (s : Search) (known : List Literal) (a : Assignment) → DecidesKept s known → MakesTrue a known → Steps s s (Sat a) []
 model_is_found s known a n m = record {
   holds = λ held f. (held, refl, f, λ e. absurd (let y : Sat a ≡ Unknown = e in cc));
   answers = λ P v. (v, model_satisfies s known a P n m v);

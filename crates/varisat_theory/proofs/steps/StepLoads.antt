@@ -9,7 +9,7 @@ use Rattle.varisat_theory.proofs.clauses.Implication.{implied_false, implied_mor
 use Rattle.varisat_theory.proofs.clauses.Held.{same_set-back}
 use Rattle.varisat_theory.specs.promises.Searches.{KeptClause, Search, IsDischarged, Covers, IsLiteralOf}
 use Rattle.varisat_theory.specs.promises.Counted.{DerivesBy}
-use Rattle.varisat_theory.specs.inside.Outcomes.{Outcome, Unknown, Unsat, Holds, Proves, Loads, IsContradicted, IsLiteralOfEither}
+use Rattle.varisat_theory.specs.inside.Outcomes.{SearchOutcome, Unknown, Unsat, Holds, Proves, Loads, IsContradicted, IsLiteralOfEither}
 use Rattle.varisat_theory.proofs.journals.StepCounts.{by_append}
 use Rattle.varisat_theory.specs.inside.StepLaws.{IsGrounded}
 use Rattle.varisat_theory.proofs.journals.Spoken.{spoken_wider, spoken_after, kept_within, unit_within}
@@ -88,7 +88,7 @@ loaded_is_contradicted s t c r w = record {
     opposed m i (inr (l, u, o)) = subst (λ x. opposite x ∈ s.fixed) (sym (u.1 m i)) o
 
 -- what moves without a line may do so before and after
-pub part_load : (s t u : Search) (c : Clause) (v : Outcome) (lines : List Line) → Proves 0 s t [] → s.fixed ⊆ t.fixed → t.fixed ⊆ s.fixed →
+pub part_load : (s t u : Search) (c : Clause) (v : SearchOutcome) (lines : List Line) → Proves 0 s t [] → s.fixed ⊆ t.fixed → t.fixed ⊆ s.fixed →
     Loads t u c v lines → Loads s u c v lines
 part_load s t u c v lines p x y q = record {
   holds = λ held f.

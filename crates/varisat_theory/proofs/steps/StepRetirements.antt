@@ -50,11 +50,11 @@ mentioned v (x ∷ c) l (inr h) e = mentioned v c l h (right (nat_eq (x / 2) v) 
     right true b e = absurd (let z : true ≡ false = e in cc)
     right false b e = e
 
-not_mentioned : (v : ℕ) (c : Clause) → ((l : Literal) → l ∈ c → variable_of l ≢ v) → mentions v c ≡ false
+pub not_mentioned : (v : ℕ) (c : Clause) → ((l : Literal) → l ∈ c → variable_of l ≢ v) → mentions v c ≡ false
 not_mentioned v [] f = refl
 not_mentioned v (x ∷ c) f = ap (λ b. b || mentions v c) (ne_eqb (x / 2) v (f x (inl refl))) ∙ not_mentioned v c (λ l h. f l (inr h))
 
-without_keeps : (v : ℕ) (P : List Clause) (c : Clause) → c ∈ P → mentions v c ≡ false → c ∈ without v P
+pub without_keeps : (v : ℕ) (P : List Clause) (c : Clause) → c ∈ P → mentions v c ≡ false → c ∈ without v P
 without_keeps v [] c h e = absurd h
 without_keeps v (d ∷ P) c (inl q) e = subst (λ b. c ∈ unless b d (without v P)) (sym (ap (mentions v) (sym q) ∙ e)) (inl q)
 without_keeps v (d ∷ P) c (inr h) e = go (mentions v d) (without_keeps v P c h e)

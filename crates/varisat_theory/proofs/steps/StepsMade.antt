@@ -6,7 +6,7 @@ use Rattle.varisat_theory.specs.promises.Literals.{Literal, Clause, Assignment, 
 use Rattle.varisat_theory.specs.promises.Derivations.{Line, Derives, Refutes}
 use Rattle.varisat_theory.specs.promises.Counted.{DerivesBy, AddsNew, AddsManyNew, DeletesNone}
 use Rattle.varisat_theory.specs.promises.Searches.{KeptClause, Search, Fits, Covers, IsCoveredBySearch, Tautology, KnownTrue, FixedTrue, Kept, CoversBy, IsLiteralOf}
-use Rattle.varisat_theory.specs.inside.Outcomes.{Outcome, Unknown, Sat, Unsat, UnsatUnder, Proves, Steps, MakesSteps, AccountsFor}
+use Rattle.varisat_theory.specs.inside.Outcomes.{SearchOutcome, Unknown, Sat, Unsat, UnsatUnder, Proves, Steps, MakesSteps, AccountsFor}
 use Rattle.varisat_theory.specs.inside.StepLaws.{joined}
 use Rattle.varisat_theory.proofs.clauses.Assigned.{tautology_satisfied}
 use Rattle.varisat_theory.proofs.clauses.Lines.{refutes_from, derives_present}
@@ -51,7 +51,7 @@ none_made s = record { holds = λ held f. (held, refl, f); answers = λ P c. c; 
 pub part_made : (s t : Search) (lines : List Line) → Proves 0 s t lines → MakesSteps 0 s t Unknown lines
 part_made s t lines p = record { holds = p.holds; answers = p.covers; adds = λ held f e. tt; speaks = p.speaks; within = λ n. p.within }
 
-pub one_more_made : (k : ℕ) (s t u : Search) (v : Outcome) (first second : List Line) → MakesSteps k s t Unknown first → Steps t u v second →
+pub one_more_made : (k : ℕ) (s t u : Search) (v : SearchOutcome) (first second : List Line) → MakesSteps k s t Unknown first → Steps t u v second →
     MakesSteps (suc k) s u v (first ++ second)
 one_more_made k s t u v first second p q = record {
   holds = λ held f.
@@ -74,7 +74,7 @@ steps_of_call zero s lines g = none_made (s 0)
 steps_of_call (suc k) s lines g =
     one_more_made k (s 0) (s k) (s (suc k)) Unknown (joined k lines) (lines k) (steps_of_call k s lines (λ i h. g i (omega (arith, h)))) (g k (omega arith))
 
-pub part_before_made : (k : ℕ) (s t u : Search) (v : Outcome) (first second : List Line) → Proves 0 s t first → MakesSteps k t u v second →
+pub part_before_made : (k : ℕ) (s t u : Search) (v : SearchOutcome) (first second : List Line) → Proves 0 s t first → MakesSteps k t u v second →
     MakesSteps k s u v (first ++ second)
 part_before_made k s t u v first second p q = record {
   holds = λ held f.
@@ -109,7 +109,7 @@ part_after_made k s t u first second p q none = record {
   within = λ n l h. p.within unknown_is_open l (q.within l h);
 }
 
-abbrev IsFound : Outcome → Type 0
+abbrev IsFound : SearchOutcome → Type 0
 IsFound Unknown = ⊥
 IsFound (Sat a) = Unit {0}
 IsFound Unsat = ⊥
@@ -131,7 +131,7 @@ part_after_found k s t u found first second p q = record {
   within = λ n l h. p.within (found_is_open found) l (q.within l h);
 }
 
-pub steps_account : (k : ℕ) (P held : List Clause) (s t : Search) (v : Outcome) (lines : List Line) → AccountsFor P held s Unknown →
+pub steps_account : (k : ℕ) (P held : List Clause) (s t : Search) (v : SearchOutcome) (lines : List Line) → AccountsFor P held s Unknown →
     MakesSteps k s t v lines → (after : List Clause) × DerivesBy k held lines after × AccountsFor P after t v × (v ≡ Unknown → AddsManyNew k held lines)
 steps_account k P held s t v lines w p =
     let (after, d, h) = p.holds held w.holds in

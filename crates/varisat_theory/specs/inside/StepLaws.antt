@@ -9,7 +9,7 @@ use Rattle.varisat_theory.specs.promises.Analysis.{Implied}
 use Rattle.varisat_theory.specs.promises.Renaming.{KeepsOpposites}
 use Rattle.varisat_theory.specs.promises.Counted.{IsNew, DerivesBy, AddsManyNew, DeletesNone, added}
 use Rattle.varisat_theory.specs.promises.Searches.{KeptClause, Search, clauses_of, IsTautology, IsDischarged, Fits, Covers, CoversBy, IsLiteralOf}
-use Rattle.varisat_theory.specs.inside.Outcomes.{Outcome, Unknown, Sat, Unsat, UnsatUnder, Proves, Steps, Loads, IsContradicted, AccountsFor, MakesSteps}
+use Rattle.varisat_theory.specs.inside.Outcomes.{SearchOutcome, Unknown, Sat, Unsat, UnsatUnder, Proves, Steps, Loads, IsContradicted, AccountsFor, MakesSteps}
 
 -- 1. How parts join.
 
@@ -21,7 +21,7 @@ PartsJoin = (m n : ℕ) (s t u : Search) (first second : List Line) → Proves m
 -- parts of which nothing counts may come before a step, and such as delete nothing after one that goes on
 abbrev pub PartsJoinStep : Type 0
 PartsJoinStep =
-    ((s t u : Search) (v : Outcome) (first second : List Line) → Proves 0 s t first → Steps t u v second →
+    ((s t u : Search) (v : SearchOutcome) (first second : List Line) → Proves 0 s t first → Steps t u v second →
     Steps s u v (first ++ second))
     × ((s t u : Search) (first second : List Line) → Steps s t Unknown first → Proves 0 t u second →
     DeletesNone second →
@@ -144,17 +144,17 @@ abbrev pub ContradictionIsFound : Type 0
 ContradictionIsFound = (s t : Search) → FollowsFrom s [] → Steps s t Unsat [] × Steps s t Unsat (Add [] ∷ [])
 
 -- each literal of the kept clauses is known or its opposite is, and none of the clauses is false
-abbrev pub IsSolution : Search → List Literal → Type 0
-IsSolution s known =
+abbrev pub DecidesKept : Search → List Literal → Type 0
+DecidesKept s known =
     (s.fixed ⊆ known) × (HasFalse (clauses_of s.kept) known → ⊥)
     × ((k : KeptClause) → k ∈ s.kept → (l : Literal) → l ∈ k.clause → (l ∈ known) ⊎ (opposite l ∈ known))
 
 -- a total assignment under which no kept clause is false satisfies all accepted clauses, and ends the step
 abbrev pub ModelIsFound : Type 0
 ModelIsFound =
-    ((s : Search) (known : List Literal) (a : Assignment) (P : List Clause) → IsSolution s known → MakesTrue a known →
+    ((s : Search) (known : List Literal) (a : Assignment) (P : List Clause) → DecidesKept s known → MakesTrue a known →
     Covers P s → SatisfiesAll a P)
-    × ((s : Search) (known : List Literal) (a : Assignment) → IsSolution s known → MakesTrue a known →
+    × ((s : Search) (known : List Literal) (a : Assignment) → DecidesKept s known → MakesTrue a known →
     Steps s s (Sat a) [])
 
 -- so does a core with which whatever fits conflicts
@@ -197,7 +197,7 @@ LoadedIsContradicted = (s t : Search) (c : Clause) → IsGrounded s → IsContra
 -- parts of which nothing counts may come after loading, and before it such as write no line and leave the same fixed
 abbrev pub PartsJoinLoad : Type 0
 PartsJoinLoad =
-    ((s t u : Search) (c : Clause) (v : Outcome) (lines : List Line) → Proves 0 s t [] → s.fixed ⊆ t.fixed →
+    ((s t u : Search) (c : Clause) (v : SearchOutcome) (lines : List Line) → Proves 0 s t [] → s.fixed ⊆ t.fixed →
     t.fixed ⊆ s.fixed →
     Loads t u c v lines → Loads s u c v lines)
     × ((s t u : Search) (c : Clause) (lines more : List Line) → Loads s t c Unknown lines → Proves 0 t u more →
@@ -212,7 +212,7 @@ NoStepIsMade = (s : Search) → MakesSteps 0 s s Unknown []
 -- one more step follows k that went on
 abbrev pub StepIsMade : Type 0
 StepIsMade =
-    (k : ℕ) (s t u : Search) (v : Outcome) (first second : List Line) → MakesSteps k s t Unknown first →
+    (k : ℕ) (s t u : Search) (v : SearchOutcome) (first second : List Line) → MakesSteps k s t Unknown first →
     Steps t u v second →
     MakesSteps (suc k) s u v (first ++ second)
 
@@ -235,7 +235,7 @@ StepsOfCall =
 -- that delete nothing.
 abbrev pub PartsJoinSteps : Type 0
 PartsJoinSteps =
-    ((k : ℕ) (s t u : Search) (v : Outcome) (first second : List Line) → Proves 0 s t first →
+    ((k : ℕ) (s t u : Search) (v : SearchOutcome) (first second : List Line) → Proves 0 s t first →
     MakesSteps k t u v second →
     MakesSteps k s u v (first ++ second))
     × ((k : ℕ) (s t u : Search) (first second : List Line) → MakesSteps k s t Unknown first →
@@ -265,14 +265,14 @@ PartAccounts =
 -- So does a step.
 abbrev pub StepAccounts : Type 0
 StepAccounts =
-    (P held : List Clause) (s t : Search) (v : Outcome) (lines : List Line) → AccountsFor P held s Unknown →
+    (P held : List Clause) (s t : Search) (v : SearchOutcome) (lines : List Line) → AccountsFor P held s Unknown →
     Steps s t v lines → (after : List Clause)
     × DerivesBy 1 held lines after × AccountsFor P after t v × (v ≡ Unknown → 1 ≤ added lines)
 
 -- So do k steps.
 abbrev pub StepsAccount : Type 0
 StepsAccount =
-    (k : ℕ) (P held : List Clause) (s t : Search) (v : Outcome) (lines : List Line) →
+    (k : ℕ) (P held : List Clause) (s t : Search) (v : SearchOutcome) (lines : List Line) →
     AccountsFor P held s Unknown →
     MakesSteps k s t v lines →
     (after : List Clause) × DerivesBy k held lines after × AccountsFor P after t v
@@ -281,7 +281,7 @@ StepsAccount =
 -- Loading adds a clause to them.
 abbrev pub LoadAccounts : Type 0
 LoadAccounts =
-    (P held : List Clause) (s t : Search) (c : Clause) (v w : Outcome) (lines : List Line) → AccountsFor P held s v →
+    (P held : List Clause) (s t : Search) (c : Clause) (v w : SearchOutcome) (lines : List Line) → AccountsFor P held s v →
     v ≢ Unsat → Loads s t c w lines →
     (after : List Clause) × DerivesBy 0 (held ++ c ∷ []) lines after × AccountsFor (P ++ c ∷ []) after t w
 

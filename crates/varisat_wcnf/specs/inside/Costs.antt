@@ -3,7 +3,7 @@ use Rattle.std.specs.Prelude.{◌≡◌, ℕ, Bool, Option, Some, None, Result, 
 use Rattle.std.proofs.Common.{sym, append-nil}
 use Rattle.varisat_formula.specs.promises.Streams.{Taken}
 use Rattle.varisat_theory.specs.promises.Literals.{IsSatisfiable}
-use Rattle.varisat_maxsat.specs.promises.Problems.{Problem, Found, IsAnswer, last_found}
+use Rattle.varisat_maxsat.specs.promises.Problems.{Problem, Found, IsOptimumOrSolution, last_found}
 use Rattle.varisat_wcnf.specs.inside.Printed.{cost_lines}
 
 -- they were printed; or a beginning of them, once there was a fault
@@ -16,7 +16,7 @@ PrintsCosts (Some e) found old new = (n : ℕ) × (new.bytes ≡ old.bytes ++ ta
 abbrev pub ReturnsLast : {X E : Type 0} → Problem → List Found → Result (Option X) E → (X → Bool) → (X → Found) → Type 0
 ReturnsLast p found result is_optimum found_of =
     IfOk result (λ o. MatchOption o ((IsSatisfiable p.hard → ⊥) × (found ≡ []))
-    (λ s. IsAnswer (is_optimum s) p (found_of s).cost (found_of s).values × (last_found found ≡ Some (found_of s))))
+    (λ s. IsOptimumOrSolution (is_optimum s) p (found_of s).cost (found_of s).values × (last_found found ≡ Some (found_of s))))
 
 -- no lines
 pub prints-none : {E : Type 0} (fault : Option E) (old : Taken) → PrintsCosts fault [] old old

@@ -2,10 +2,10 @@
 use Rattle.std.specs.Prelude.{◌≡◌, ◌⊎◌, ℕ, Bool, true, false, if◌then◌else◌, List, [], ◌∷◌, ◌++◌, take, codes, decimal, Ok, Err}
 use Rattle.varisat_theory.specs.promises.Literals.{IsSatisfiable}
 use Rattle.varisat_formula.specs.promises.Streams.{Taken}
-use Rattle.varisat_maxsat.specs.promises.Problems.{Problem, IsAnswer, Found, Improve}
+use Rattle.varisat_maxsat.specs.promises.Problems.{Problem, IsOptimumOrSolution, Found, Improve}
 use Rattle.varisat_wcnf.specs.declared.wcnf.WcnfFault.TheVariants.{OutOfMemory}
 use Rattle.varisat_wcnf.specs.declared.wcnf.WcnfError.{WcnfError}
-use Rattle.varisat_wcnf.specs.inside.Texts.{Reading, wcnf}
+use Rattle.varisat_wcnf.specs.inside.Texts.{WcnfReading, wcnf}
 
 -- a digit for each value
 abbrev pub value_digits : List Bool → List ℕ
@@ -17,9 +17,9 @@ abbrev pub verdict_line : Bool → List ℕ
 verdict_line true = codes "s OPTIMUM FOUND\n"
 verdict_line false = codes "s UNKNOWN\n"
 
-abbrev pub verdict_status : Bool → ℕ
-verdict_status true = 30
-verdict_status false = 0
+abbrev pub solution_status : Bool → ℕ
+solution_status true = 30
+solution_status false = 0
 
 -- the verdict on a solution, and the values of the variables in turn
 abbrev pub solution_text : Bool → List Bool → List ℕ
@@ -34,23 +34,23 @@ cost_lines [] = []
 cost_lines (f ∷ fs) = cost_lines fs ++ cost_line f.cost
 
 -- The text was printed, with this status; or a beginning of it, with the status of a fault.
-abbrev pub Prints : List ℕ → ℕ → Taken → Taken → ℕ → Type 0
-Prints text status old new result =
+abbrev pub PrintsText : List ℕ → ℕ → Taken → Taken → ℕ → Type 0
+PrintsText text status old new result =
     ((new.bytes ≡ old.bytes ++ text) × (result ≡ status))
     ⊎ ((n : ℕ) × (new.bytes ≡ old.bytes ++ take n text) × (result ≡ 2))
 
 -- What is printed of a problem: the costs of solutions, each less than the one before it, and the last one as an optimum, or as
 -- one that is not known to be; or that no assignment satisfies its hard clauses; or such costs alone, as a limit was met.
-pub data Answers (p : Problem) (old new : Taken) (result : ℕ) : Type 0 where
-  Solved : (is_optimum : Bool) (f : Found) (fs : List Found) → Improve p (f ∷ fs) → IsAnswer is_optimum p f.cost f.values →
-      Prints (cost_lines (f ∷ fs) ++ solution_text is_optimum f.values) (verdict_status is_optimum) old new result →
-      Answers p old new result
-  Unsatisfiable : (IsSatisfiable p.hard → ⊥) → Prints (codes "s UNSATISFIABLE\n") 20 old new result → Answers p old new result
-  Unknown : (fs : List Found) → Improve p fs → Prints (cost_lines fs ++ codes "s UNKNOWN\n") 0 old new result →
-      Answers p old new result
+pub data PrintsAnswer (p : Problem) (old new : Taken) (result : ℕ) : Type 0 where
+  Solved : (is_optimum : Bool) (f : Found) (fs : List Found) → Improve p (f ∷ fs) → IsOptimumOrSolution is_optimum p f.cost f.values →
+      PrintsText (cost_lines (f ∷ fs) ++ solution_text is_optimum f.values) (solution_status is_optimum) old new result →
+      PrintsAnswer p old new result
+  Unsatisfiable : (IsSatisfiable p.hard → ⊥) → PrintsText (codes "s UNSATISFIABLE\n") 20 old new result → PrintsAnswer p old new result
+  Unknown : (fs : List Found) → Improve p fs → PrintsText (cost_lines fs ++ codes "s UNKNOWN\n") 0 old new result →
+      PrintsAnswer p old new result
 
 -- What is printed of a text: what it is of its problem; or nothing, where the text has a fault, or memory ran out for it.
 pub data AnswersText (text : List ℕ) (old new : Taken) (result : ℕ) : Type 0 where
-  Read : (r : Reading) → wcnf text ≡ Ok r → Answers r.problem old new result → AnswersText text old new result
+  Read : (r : WcnfReading) → wcnf text ≡ Ok r → PrintsAnswer r.problem old new result → AnswersText text old new result
   Refused : (e : WcnfError) → (e.fault ≡ OutOfMemory) ⊎ (wcnf text ≡ Err e) → new ≡ old → result ≡ 2 →
       AnswersText text old new result

@@ -35,12 +35,12 @@ abbrev pub clause_of : List (List ℕ) → Result Clause WcnfFault
 clause_of ws = clause_from [] (map meaning ws)
 
 -- What was read so far: a problem, and in the old format the weight from which on a clause is hard.
-pub record Reading : Type 0 where
+pub record WcnfReading : Type 0 where
   pub problem : Problem
   pub top : Option ℕ
 
 -- a clause more, which is added as a hard or a soft one
-abbrev pub after_clause : (Clause → Problem → Problem) → Reading → Result Clause WcnfFault → Result Reading WcnfFault
+abbrev pub after_clause : (Clause → Problem → Problem) → WcnfReading → Result Clause WcnfFault → Result WcnfReading WcnfFault
 after_clause add r (Err f) = Err f
 after_clause add r (Ok c) =
     Ok (record r { problem = record (add c r.problem) { variables = max r.problem.variables (variables_of c) } })
@@ -51,7 +51,7 @@ is_hard None w = false
 is_hard (Some top) w = nat_le top w
 
 -- a clause with a weight more
-abbrev pub after_weight : Option ℕ → Reading → Result Clause WcnfFault → Result Reading WcnfFault
+abbrev pub after_weight : Option ℕ → WcnfReading → Result Clause WcnfFault → Result WcnfReading WcnfFault
 after_weight None r c = Err fault.Start
 after_weight (Some w) r c = if is_hard r.top w then after_clause with_hard r c else after_clause (with_soft w) r c
 
@@ -74,7 +74,7 @@ heading_of (name ∷ v ∷ count ∷ ws) =
 heading_of _ = Err fault.Header
 
 -- what a header makes of the reading
-abbrev pub after_heading : Reading → Result Heading WcnfFault → Result Reading WcnfFault
+abbrev pub after_heading : WcnfReading → Result Heading WcnfFault → Result WcnfReading WcnfFault
 after_heading r (Err f) = Err f
 after_heading r (Ok h) =
     Ok (record { problem = record r.problem { variables = max r.problem.variables h.variables }; top = h.top })
@@ -85,23 +85,23 @@ is_comment [] = false
 is_comment (b ∷ bs) = b == 99
 
 -- What the words of a line say: nothing or a comment; a header; `h` and a hard clause; a weight and a clause.
-abbrev pub after_line : Reading → List (List ℕ) → Result Reading WcnfFault
+abbrev pub after_line : WcnfReading → List (List ℕ) → Result WcnfReading WcnfFault
 after_line r [] = Ok r
 after_line r (w ∷ ws) =
     if is_comment w then Ok r else (if bytes_eq w (codes "p") then after_heading r (heading_of ws) else (
     if bytes_eq w (codes "h") then after_clause with_hard r (clause_of ws) else after_weight (below_limit (number w)) r (clause_of ws)))
 
 -- a fault in the line
-abbrev pub at_line : ℕ → Result Reading WcnfFault → Result Reading WcnfError
+abbrev pub at_line : ℕ → Result WcnfReading WcnfFault → Result WcnfReading WcnfError
 at_line n (Ok r) = Ok r
 at_line n (Err f) = Err (record { line = n; fault = f })
 
 -- what lines in turn say, the first of which is line n; the first fault is reported
-abbrev pub after_lines : Result Reading WcnfError → ℕ → List (List ℕ) → Result Reading WcnfError
+abbrev pub after_lines : Result WcnfReading WcnfError → ℕ → List (List ℕ) → Result WcnfReading WcnfError
 after_lines s n [] = s
 after_lines (Err e) n (line ∷ lines) = Err e
 after_lines (Ok r) n (line ∷ lines) = after_lines (at_line n (after_line r (words line))) (n + 1) lines
 
 -- what a text means
-abbrev pub wcnf : List ℕ → Result Reading WcnfError
+abbrev pub wcnf : List ℕ → Result WcnfReading WcnfError
 wcnf text = after_lines (Ok (record { problem = starting 0; top = None })) 1 (slice_split is_line_feed text)

@@ -1,5 +1,5 @@
 use Rattle.std.proofs.Common.{◌≡◌, true, false, ◌++◌, ap, ◌∙◌}
-use Rattle.varisat_maxsat.proofs.Standing.{not-false, not-true}
+use Rattle.std.proofs.lemmas.Bool.{not-true, not-false}
 use Rattle.varisat_maxsat.proofs.Lightening.{goes-on, goes-to-model, goes-to-core, core-named, core-unnamed, begins, shares-more, found-lightly}
 use Rattle.varisat_maxsat.proofs.feeding.search_lightly.Goals as goal
 

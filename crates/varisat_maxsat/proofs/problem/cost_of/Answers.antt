@@ -1,6 +1,7 @@
 use Rattle.std.proofs.Common.{◌≡◌, ◌<◌, ◌∙◌, ◌+◌, ◌++◌, ◌∷◌, [], refl, sym, ap, subst, map, take, length, append_assoc, append-nil, arith}
 use Rattle.std.proofs.lemmas.List.{map-append, length-append, take_all}
-use Rattle.varisat_maxsat.specs.promises.Problems.{paired, cost, assignment_of}
+use Rattle.varisat_formula.specs.promises.Values.{assignment_of}
+use Rattle.varisat_maxsat.specs.promises.Problems.{paired, cost}
 use Rattle.varisat_maxsat.proofs.Standing.{cost-next, clause-room}
 use Rattle.varisat_maxsat.proofs.problem.cost_of.Goals as goal
 

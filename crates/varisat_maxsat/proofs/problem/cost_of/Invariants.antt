@@ -1,5 +1,6 @@
 use Rattle.std.proofs.Common.{◌≡◌, ◌++◌, map, take, length}
-use Rattle.varisat_maxsat.specs.promises.Problems.{paired, cost, assignment_of}
+use Rattle.varisat_formula.specs.promises.Values.{assignment_of}
+use Rattle.varisat_maxsat.specs.promises.Problems.{paired, cost}
 use Rattle.varisat_maxsat.proofs.problem.cost_of.Given as goal
 
 abbrev pub invariant-loop-clause : goal.invariant-loop-clause

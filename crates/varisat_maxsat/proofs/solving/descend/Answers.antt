@@ -1,6 +1,7 @@
 use Rattle.std.proofs.Common.{◌≡◌, true, sym, subst}
+use Rattle.std.proofs.lemmas.Bool.{not-false}
 use Rattle.varisat_maxsat.specs.inside.Reductions.{ReducesTo, ReducesToAfter, IsRelaxed}
-use Rattle.varisat_maxsat.proofs.Standing.{stands-still, best-moves, not-false}
+use Rattle.varisat_maxsat.proofs.Standing.{stands-still, best-moves}
 use Rattle.varisat_maxsat.proofs.Below.{after-solution}
 use Rattle.varisat_maxsat.proofs.Handing.{also-optimal, took-moves}
 use Rattle.varisat_maxsat.proofs.solving.descend.Goals as goal

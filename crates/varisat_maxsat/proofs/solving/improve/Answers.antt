@@ -1,5 +1,5 @@
 use Rattle.std.proofs.Common.{◌≡◌, true, false}
-use Rattle.varisat_maxsat.proofs.Standing.{not-false, not-true}
+use Rattle.std.proofs.lemmas.Bool.{not-true, not-false}
 use Rattle.varisat_maxsat.proofs.Improving.{best-met, improved, not-improved}
 use Rattle.varisat_maxsat.proofs.solving.improve.Goals as goal
 

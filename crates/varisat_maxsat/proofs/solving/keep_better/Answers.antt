@@ -1,5 +1,5 @@
 use Rattle.std.proofs.Common.{◌≡◌, false}
-use Rattle.varisat_maxsat.proofs.Standing.{not-true}
+use Rattle.std.proofs.lemmas.Bool.{not-true}
 use Rattle.varisat_maxsat.proofs.solving.keep_better.Goals as goal
 
 pub returns-then-not-is_better : goal.returns-then-not-is_better

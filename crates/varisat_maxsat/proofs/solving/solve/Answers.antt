@@ -1,8 +1,8 @@
 use Rattle.std.proofs.Common.{◌≡◌, true, false, subst, rules}
 use Rattle.std.specs.Prelude.{IfSome, IfOk, MatchOption, Some, []}
+use Rattle.std.proofs.lemmas.Bool.{not-true, not-false}
 use Rattle.varisat_maxsat.specs.promises.Problems.{IsOptimum, last_found}
 use Rattle.varisat_maxsat.specs.inside.Reductions.{IsEnded}
-use Rattle.varisat_maxsat.proofs.Standing.{not-false, not-true}
 use Rattle.varisat_maxsat.proofs.Handing.{took-nothing, handed-none, handed-best, handed-so-far}
 use Rattle.varisat_maxsat.proofs.solving.solve.Goals as goal
 

@@ -1,6 +1,6 @@
 use Rattle.std.proofs.Common.{Bool, subst}
 use Rattle.varisat_present.specs.Places.{present}
-use Rattle.varisat_present.specs.Knowing.{Finds}
+use Rattle.varisat_present.specs.Knowing.{FindsConflict}
 use Rattle.varisat_present.proofs.PlacedClauses.{at_in}
 use Rattle.varisat_present.proofs.KnownGrowth.{passed_finds, finds_on}
 use Rattle.varisat_present.proofs.propagation.take_newest.Given.{Over}
@@ -8,14 +8,14 @@ use Rattle.varisat_present.proofs.propagation.take_newest.Goals.{In_ok-is_false}
 use Rattle.varisat_present.proofs.propagation.take_newest.Goals as goal
 
 -- what the newest clause comes to
-found : (g : Over) (c : In_ok-is_false g) → Finds (present c.args.places.now) c.args.known.now c.in_ok-is_false.is_false c.pass_clause.new.known
+found : (g : Over) (c : In_ok-is_false g) → FindsConflict (present c.args.places.now) c.args.known.now c.in_ok-is_false.is_false c.pass_clause.new.known
 found g c =
     passed_finds (present c.args.places.now) c.args.known.now c.pass_clause.new.known c.in-Some.clause.now c.in_ok-is_false.is_false c.requires
     (at_in c.args.places.now _ c.in-Some.clause.now c.in-Some.ensures) c.in_ok-is_false.ensures
 
 pub returns-then-is_false : goal.returns-then-is_false
 returns-then-is_false g c =
-    subst (λ (b : Bool). Finds (present c.args.places.now) c.args.known.now b c.pass_clause.new.known) c.if-is_false.true
+    subst (λ (b : Bool). FindsConflict (present c.args.places.now) c.args.known.now b c.pass_clause.new.known) c.if-is_false.true
     (found g (goal.at.returns-then-is_false g c).In_ok-is_false)
 
 pub propagate-requires : goal.propagate-requires

@@ -7,7 +7,8 @@ use Rattle.varisat_search.specs.declared.context.Context.{Context}
 use Rattle.varisat_search.specs.Contexts.{view}
 use Rattle.varisat_search.specs.Decisions.{TakesUnassigned, SameDecidable, CanDecide}
 use Rattle.varisat_search.proofs.variables.DecidableVariables.{decided-same, none-same, decided-decidable, none-decidable}
-use Rattle.varisat_search.proofs.stepping.StepOutcome.{variable-literal, polarity-literal}
+use Rattle.varisat_theory.proofs.clauses.Values.{variable-literal}
+use Rattle.varisat_prop.proofs.trails.LiteralValues.{polarity-literal}
 use Rattle.varisat_search.proofs.decision.make_decision.Given.{Over}
 use Rattle.varisat_search.proofs.decision.make_decision.Goals.{In_ok-decide_lit}
 use Rattle.varisat_search.proofs.decision.make_decision.Goals as goal

@@ -2,6 +2,7 @@ use Rattle.std.proofs.Common.{◌≡◌, Bool, true, false, not, ◌||◌, List,
 use Rattle.std.specs.Prelude.{cond}
 use Rattle.std.specs.List.{filter, list_any}
 use Rattle.std.proofs.lemmas.List.Elements.{filter-append}
+use Rattle.std.proofs.lemmas.Bool.{cases_Bool}
 use Rattle.varisat_theory.specs.promises.Membership.{◌∈◌, SameSet, IsDistinct}
 use Rattle.varisat_theory.specs.promises.Literals.{Clause, variable_of, Literal}
 use Rattle.varisat_theory.specs.promises.Derivations.{TakesOut}
@@ -11,7 +12,6 @@ use Rattle.varisat_prop.specs.Leaving.{leaves}
 use Rattle.varisat_prop.proofs.views.Leaving.{staying-was, was-staying, staying-shorter}
 use Rattle.varisat_prop.proofs.pairs.SimplifiedPairs.{filter-∈, ∈-filter}
 use Rattle.varisat_search.specs.Forgotten.{AreStaying, search_without, clauses_without, IsWithout}
-use Rattle.varisat_search.proofs.variables.DecidableVariables.{true-or-false}
 use Rattle.varisat_theory.proofs.clauses.Places.{place_in}
 use Rattle.varisat_analysis.proofs.WellFormedViews.{inside-at}
 use Rattle.varisat_prop.specs.Parts.{TrailParts, Values}
@@ -60,7 +60,7 @@ module _ (f : Clause → Bool) (same : (c d : Clause) → SameSet c d → f c �
       (λ e. subst (λ X. SameClauses X (filter f Q)) (sym (at-true c P e)) (filter f R, takes-kept Q c R e t, same-filtered P R s))
       (λ e. subst (λ X. SameClauses X (filter f Q)) (sym (at-false c P e))
       (subst (SameClauses (filter f P)) (sym (takes-left Q c R e t)) (same-filtered P R s)))
-      (true-or-false (f c))
+      (cases_Bool (f c))
 
   all-stay : (P : List Clause) → ((c : Clause) → c ∈ P → f c ≡ true) → filter f P ≡ P
   all-stay [] h = refl
@@ -95,9 +95,9 @@ module _ (gone : List Bool) where
   names-same c d s =
       ⊎_elim
       (λ e. ⊎_elim (λ g. e ∙ sym g) (λ g. let z = none-named c (λ l h. names-none d g l (s.0 l h)) in
-      absurd (let x : true ≡ false = sym e ∙ z in cc)) (true-or-false (names d)))
+      absurd (let x : true ≡ false = sym e ∙ z in cc)) (cases_Bool (names d)))
       (λ e. e ∙ sym (none-named d (λ l h. names-none c e l (s.1 l h))))
-      (true-or-false (names c))
+      (cases_Bool (names c))
 
   stays-same : (c d : Clause) → SameSet c d → stays c ≡ stays d
   stays-same c d s = ap not (names-same c d s)

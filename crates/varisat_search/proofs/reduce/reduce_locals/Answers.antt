@@ -20,14 +20,15 @@ use Rattle.varisat_search.proofs.reduce.reduce_locals.Given.{Over}
 use Rattle.varisat_search.proofs.reduce.reduce_locals.Goals.{After-delete_unmarked, After-count}
 use Rattle.varisat_steps.specs.Traces.{TakesLines}
 use Rattle.std.specs.List.{filter}
+use Rattle.std.proofs.lemmas.Bool.{cases_Bool, eq-eqb}
 use Rattle.varisat_theory.specs.promises.Membership.{◌∈◌, IsDistinct}
 use Rattle.varisat_theory.specs.promises.Searches.{KeptClause, Search}
 use Rattle.varisat_theory.specs.inside.Outcomes.{Proves}
 use Rattle.varisat_theory.proofs.steps.StepParts.{no_part, parts_join}
 use Rattle.varisat_theory.proofs.steps.StepChanges.{learned_is_deleted}
 use Rattle.varisat_clause.specs.Stored.{StoredClause, literals_at, stored_at, IsClauseRef, AreRising, header_at}
-use Rattle.varisat_clause.proofs.StoredClauses.{same-self, is-same, is-other, stored-∈, stored-found}
-use Rattle.varisat_clause.proofs.DatabaseTracks.{place-is, true-or-false, same-tier}
+use Rattle.varisat_clause.proofs.StoredClauses.{same-self, is-other, stored-∈, stored-found}
+use Rattle.varisat_clause.proofs.DatabaseTracks.{place-is, same-tier}
 use Rattle.varisat_prop.proofs.pairs.SimplifiedPairs.{filter-∈, ∈-filter}
 use Rattle.varisat_analysis.specs.HeaderChanges.{kept_clause}
 use Rattle.varisat_analysis.proofs.DeletedPlaces.{filter-rising, one-placed, one-gone, deleted-stays, unmarked-∈}
@@ -39,8 +40,8 @@ use Rattle.varisat_clause.proofs.LocalReduction.{live-not-deleted}
 use Rattle.varisat_prop.specs.View.{View, WellFormed, pairs_from}
 use Rattle.varisat_analysis.proofs.MarkedReasons.{mark-place, mark-held}
 use Rattle.varisat_analysis.proofs.SameButHeaders.{headers-place, headers-kept}
-use Rattle.varisat_search.proofs.simplifying.TracedClauses.{live-there}
 use Rattle.varisat_clause.specs.declared.header.Tier.TheVariants as tier
+use Rattle.varisat_clause.proofs.LiveStore.{∈-live}
 use Rattle.varisat_search.proofs.reduce.reduce_locals.Goals as goal
 
 -- The lines that delete learned clauses of the store, in the order of a list of places.
@@ -69,7 +70,7 @@ record IsSplit (ks : List StoredClause) (k : StoredClause) : Type 0 where
 split-place : (ks : List StoredClause) → AreRising ks → (k : StoredClause) → k ∈ ks → IsSplit ks k
 split-place [] r k h = absurd h
 split-place (j ∷ ks) r k (inl e) =
-    let gone : other_place k.place j ≡ false = ap not (is-same j.place k.place (ap (λ (x : StoredClause). x.place) (sym e))) in
+    let gone : other_place k.place j ≡ false = ap not (eq-eqb j.place k.place (ap (λ (x : StoredClause). x.place) (sym e))) in
     record {
       front = [];
       back = ks;
@@ -152,13 +153,13 @@ equal-of a b e = grind (arith, e)
 pub without-is : (ps : List ℕ) (ks : List StoredClause) (gone : StoredClause → Bool) →
     ((k : StoredClause) → k ∈ ks → gone k ≡ true → k.place ∈ ps) → ((k : StoredClause) → k ∈ ks → k.place ∈ ps → gone k ≡ true) →
     without_places ps ks ≡ filter (λ k. not (gone k)) ks
-without-is [] ks gone f t = sym (stays-all (λ k. not (gone k)) ks (λ k h. ⊎_elim (λ e. absurd (f k h e)) (λ e. ap not e) (true-or-false (gone k))))
+without-is [] ks gone f t = sym (stays-all (λ k. not (gone k)) ks (λ k h. ⊎_elim (λ e. absurd (f k h e)) (λ e. ap not e) (cases_Bool (gone k))))
 without-is (p ∷ ps) ks gone f t =
     without-is ps (filter (other_place p) ks) gone
     (λ k h e.
     let (i, n) = ∈-filter (other_place p) ks k h in
     ⊎_elim
-    (λ g. absurd (let z : false ≡ true = sym (ap not (is-same k.place p g)) ∙ n in cc))
+    (λ g. absurd (let z : false ≡ true = sym (ap not (eq-eqb k.place p g)) ∙ n in cc))
     (λ o. o)
     (f k i e))
     (λ k h o. t k (∈-filter (other_place p) ks k h).0 (inr o))
@@ -219,7 +220,7 @@ module _ (s : View) (old marked : Store) (order : List ℕ) (n : ℕ) (w : WellF
       let live : k.header.deleted ≡ false = sym (ap (λ x. x.deleted) held) ∙ ap (λ (x : StoredClause). x.header.deleted) e
       ∙ live-not-deleted tier.Local j (l.live p i) in
       let at : k.place ≡ p = sym (mark-place s.values s.nodes k) ∙ ap (λ (x : StoredClause). x.place) e ∙ place-is (stored_clauses marked) p (l.known p i) in
-      let there : k ∈ s.clauses = subst (λ (xs : List StoredClause). k ∈ xs) (sym are) (live-there ks k a live) in
+      let there : k ∈ s.clauses = subst (λ (xs : List StoredClause). k ∈ xs) (sym are) (∈-live ks k a live) in
       let stored : stored_at s.clauses p ≡ k = ap (stored_at s.clauses) (sym at) ∙ stored-found s.clauses w.places k there in
       let seen : kept_clause k ≡ kept_clause j = sym (ap (λ x. x.placed.kept) held) ∙ ap kept_clause e in
       let local : j.header.tier ≡ tier.Local =

@@ -1,4 +1,5 @@
 use Rattle.std.proofs.Common.{◌≡◌, ℕ, Bool, true, false, not, ◌&&◌, ⊎_elim, sym, ap, ◌∙◌, subst, length, refl}
+use Rattle.std.proofs.lemmas.Bool.{cases_Bool}
 use Rattle.varisat_clause.specs.declared.header.Tier.{Tier}
 use Rattle.varisat_clause.specs.Tiers.{is_tier}
 use Rattle.varisat_clause.specs.Stored.{StoredClause}
@@ -6,7 +7,7 @@ use Rattle.varisat_clause.specs.Stores.{Store, stored_clauses, HoldsClauses}
 use Rattle.varisat_clause.specs.Databases.{is_live_in}
 use Rattle.varisat_clause.specs.Collected.{live_of, live_clauses}
 use Rattle.varisat_clause.specs.Reductions.{mid_reduced, mids_reduced}
-use Rattle.varisat_clause.proofs.DatabaseTracks.{same-tier, true-or-false}
+use Rattle.varisat_clause.proofs.DatabaseTracks.{same-tier}
 use Rattle.varisat_clause.proofs.MidReduction.{mid-other, mid-active, mid-moved}
 use Rattle.varisat_analysis.specs.HeaderChanges.{SameButHeaders, ChangesHeaders}
 use Rattle.varisat_analysis.proofs.SameButHeaders.{held_clause, live-map}
@@ -39,9 +40,9 @@ mid-held k =
       deleted =
           k.header.deleted;
     }) (sym (mid-learned k e)))
-    (true-or-false k.header.active))
+    (cases_Bool k.header.active))
     (λ e. ap held_clause (mid-other k e))
-    (true-or-false (is_live_in tier.Mid k))
+    (cases_Bool (is_live_in tier.Mid k))
 
 mids-headers : (s t : Store) (size : ℕ) → HoldsClauses t size (mids_reduced (stored_clauses s)) → SameButHeaders (live_clauses s) (live_clauses t)
 mids-headers s t size h = subst (λ ks. SameButHeaders (live_clauses s) (live_of ks)) (sym h.clauses) (live-map mid_reduced (stored_clauses s) mid-held)

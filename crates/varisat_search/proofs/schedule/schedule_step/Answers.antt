@@ -1,7 +1,7 @@
 use Rattle.std.proofs.Common.{◌≡◌, if◌then◌else◌, nat_eq, ℕ, suc, ◌+◌, ◌*◌, ◌<◌, ◌≤◌, Bool, true, false, List, [], ◌++◌, length, subst, ◌∙◌, ap, refl}
 use Rattle.varisat_theory.specs.inside.Rank.{rank}
 use Rattle.varisat_theory.specs.promises.Derivations.{Line}
-use Rattle.varisat_theory.specs.inside.Outcomes.{Outcome, Steps, Proves}
+use Rattle.varisat_theory.specs.inside.Outcomes.{SearchOutcome, Steps, Proves}
 use Rattle.varisat_theory.proofs.steps.StepAccounts.{part_step}
 use Rattle.varisat_prop.specs.View.{View, WellFormed, kinds}
 use Rattle.varisat_schedule.specs.CallSteps.{IsPlannedStep}
@@ -33,7 +33,7 @@ use Rattle.varisat_search.proofs.schedule.schedule_step.Goals as goal
 -- A step that begins with a restart and goes on with inprocessing: x is before it, t after the restart, u after inprocessing.
 module _ {A : Type 0} (x t u : Context A) (r : IsReady x) (b : RestartsByPolicy x.solver_config.restart_glue x.schedule x.assumptions.levels (view x) (view t))
     {P : List Line → Type 0} (k : GoesOnByLines P t u) where
-  scheduled-steps : (z : View) (v : Outcome) (Q R : List Line → Type 0) → ((first more : List Line) → P first → Q more → R (first ++ more)) →
+  scheduled-steps : (z : View) (v : SearchOutcome) (Q R : List Line → Type 0) → ((first more : List Line) → P first → Q more → R (first ++ more)) →
       ((more : List Line) × Steps (search_of (view u)) (search_of z) v more × Q more) → (lines : List Line)
       × Steps (search_of (view x)) (search_of z) v lines × R lines
   scheduled-steps z v Q R join (more, h, j) =
@@ -61,7 +61,7 @@ module _ {A : Type 0} (x t u : Context A) (r : IsReady x) (b : RestartsByPolicy 
       Remembers (view u) u.assignment.last new → RestartsAndRemembers x.solver_config.restart_glue x.schedule x.assumptions.levels (view x) x.assignment.last new
   scheduled-last new saved remembers = (view t, t.assignment.last, b, saved, remembers-settled t u P k new remembers)
 
-  scheduled-assumes : (v : Outcome) (a : AssumptionParts) → u.assumptions ≡ x.assumptions →
+  scheduled-assumes : (v : SearchOutcome) (a : AssumptionParts) → u.assumptions ≡ x.assumptions →
       KeepsAssumptions (search_of (view u)) v u.assumptions a → KeepsAssumptions (search_of (view x)) v x.assumptions a
   scheduled-assumes v a same h =
       let (lines, q, i) = k.proves in

@@ -3,14 +3,13 @@ use Rattle.std.proofs.Common.{◌≡◌, Bool, Option, MatchOption, inl, inr, sy
 use Rattle.varisat_theory.specs.promises.Membership.{◌∈◌}
 use Rattle.varisat_theory.specs.promises.Literals.{variable_of, opposite, literal_of}
 use Rattle.varisat_theory.specs.promises.Searches.{Search}
-use Rattle.varisat_prop.proofs.trails.LiteralValues.{variable-opposite}
+use Rattle.varisat_theory.proofs.clauses.Values.{variable-opposite, variable-literal}
 use Rattle.varisat_search.specs.declared.context.Context.{Context}
 use Rattle.varisat_search.specs.declared.state.SolverState.{SolverState}
 use Rattle.varisat_search.specs.AssumptionParts.{AssumptionParts}
 use Rattle.varisat_search.specs.SolverVariables.{KeepsSeen, HasUnitAgain}
 use Rattle.varisat_search.specs.Contexts.{view}
 use Rattle.varisat_search.specs.Seen.{search_of}
-use Rattle.varisat_search.proofs.stepping.StepOutcome.{variable-literal}
 use Rattle.varisat_search.proofs.variables.SolverVariables.{kept-literal, unit-over}
 use Rattle.varisat_search.proofs.solver_variables.initialize_solver_var.Given.{Over}
 use Rattle.varisat_search.proofs.solver_variables.initialize_solver_var.Goals.{After-lit}

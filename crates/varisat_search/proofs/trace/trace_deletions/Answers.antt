@@ -1,7 +1,7 @@
 use Rattle.std.proofs.Common.{◌≡◌, ◌≢◌, ℕ, zero, suc, ◌+◌, ◌-◌, ◌<◌, true, false, cond, List, [], ◌∷◌, drop, length, get_or, refl, sym, ap, ◌∙◌, arith, ◌++◌}
 use Rattle.varisat_clause.specs.Stored.{StoredClause, header_at}
 use Rattle.varisat_clause.specs.Reductions.{unmarked_places}
-use Rattle.varisat_clause.proofs.LocalReduction.{drop-place, element}
+use Rattle.varisat_clause.proofs.LocalReduction.{drop-place, element, unmarked-none}
 use Rattle.std.proofs.lemmas.Grind.{common_steps}
 use Rattle.varisat_steps.proofs.Broken.{lines-broken, breaks-on, breaks-in}
 use Rattle.varisat_theory.specs.promises.Literals.{Clause}
@@ -15,17 +15,12 @@ use Rattle.varisat_search.proofs.trace.trace_deletions.Given.{Over}
 use Rattle.varisat_search.proofs.trace.trace_deletions.Goals.{After-lits}
 use Rattle.varisat_search.proofs.trace.trace_deletions.Goals as goal
 
--- The places of clauses that are not marked, one after another.
-none : (ks : List StoredClause) (ps : List ℕ) → unmarked_places ks zero ps ≡ []
-none ks [] = refl
-none ks (p ∷ ps) = refl
-
 unmarked-zero : (ks : List StoredClause) (left : ℕ) (ps qs : List ℕ) → left ≡ 0 → unmarked_places ks left ps ≡ unmarked_places ks left qs
-unmarked-zero ks zero ps qs e = none ks ps ∙ sym (none ks qs)
+unmarked-zero ks zero ps qs e = unmarked-none ks ps ∙ sym (unmarked-none ks qs)
 unmarked-zero ks (suc n) ps qs e = absurd (omega (arith, e))
 
 passed : (ks : List StoredClause) (left p : ℕ) (ps : List ℕ) → (header_at ks p).mark ≡ true → unmarked_places ks left (p ∷ ps) ≡ unmarked_places ks left ps
-passed ks zero p ps e = sym (none ks ps)
+passed ks zero p ps e = sym (unmarked-none ks ps)
 passed ks (suc n) p ps e = ap (λ b. cond b (unmarked_places ks (suc n) ps) (p ∷ unmarked_places ks n ps)) e
 
 one : (ks : List StoredClause) (left p : ℕ) (ps : List ℕ) → left ≢ 0 → (header_at ks p).mark ≡ false →

@@ -17,6 +17,7 @@ use Rattle.varisat_search.proofs.unit_simplify.prove_units.Given.{Over}
 use Rattle.varisat_search.proofs.unit_simplify.prove_units.Goals.{After-forget_reasons}
 use Rattle.std.specs.Prelude.{cond}
 use Rattle.std.specs.List.{filter}
+use Rattle.std.proofs.lemmas.Bool.{cases_Bool}
 use Rattle.varisat_theory.specs.promises.Propagation.{LeavesOnly}
 use Rattle.varisat_theory.specs.promises.Searches.{KeptClause, Search, clauses_of}
 use Rattle.varisat_theory.specs.inside.Outcomes.{Proves}
@@ -30,7 +31,6 @@ use Rattle.varisat_prop.proofs.views.ViewGrowth.{append-nil}
 use Rattle.varisat_prop.proofs.pairs.SimplifiedPairs.{filter-∈}
 use Rattle.varisat_prop.proofs.trails.TrailValues.{trail-true}
 use Rattle.varisat_analysis.specs.Learned.{implying_clause}
-use Rattle.varisat_search.proofs.variables.DecidableVariables.{true-or-false}
 use Rattle.varisat_search.proofs.stepping.ViewSearch.{no_clause, fixed_from, fixed_to, proved_from, proved_to, seen_clauses}
 use Rattle.varisat_search.proofs.unit_simplify.prove_units.Goals as goal
 
@@ -125,7 +125,7 @@ module _ (s : View) (w : WellFormed s) (none : s.decisions ≡ []) where
         ⊎_elim
         (λ c. ∈-append_right m S.proved front (subst (λ xs. m ∈ xs) split.part (filter-∈ implied split.before m i c)))
         (λ c. ∈-append_left m S.proved front (proved-already m (subst (λ xs. m ∈ xs) (sym split.whole) (∈-append_left m split.before (l ∷ split.behind) i)) c))
-        (true-or-false (implied m))
+        (cases_Bool (implied m))
 
     fixed : l ∈ S.fixed
     fixed = fixed_to s w l (trail-true s w l on, zero-of l on)
@@ -175,7 +175,7 @@ module _ (s t : View) (w : WellFormed s) (none : s.decisions ≡ []) (d : Proves
       ⊎_elim
       (λ c. ∈-append_right l (search_of s).proved (implied_units s) (filter-∈ (implied s w none) s.trail l i c))
       (λ c. ∈-append_left l (search_of s).proved (implied_units s) (proved-already s w none l i c))
-      (true-or-false (implied s w none l))
+      (cases_Bool (implied s w none l))
 
   same-kept : (search_of t).kept ≡ (search_of s).kept
   same-kept = ap (λ (y : View). (search_of y).kept) d.rest

@@ -2,6 +2,7 @@ use Rattle.varisat_steps.proofs.Broken.{error-broken, breaks-on, breaks-not}
 use Rattle.varisat_steps.specs.declared.tracer.TraceError.TheVariants.{Memory}
 use Rattle.std.proofs.Common.{◌≡◌, ℕ, ◌<◌, ◌++◌, Bool, true, false, Option, List, length, get_or, ⊎_elim, refl, sym, ap, ◌∙◌, subst, arith}
 use Rattle.std.proofs.lemmas.List.Sorted.{IsPermutation-sym}
+use Rattle.std.proofs.lemmas.Bool.{cases_Bool}
 use Rattle.varisat_theory.specs.promises.Membership.{◌∈◌}
 use Rattle.varisat_theory.specs.promises.Literals.{Clause, Literal, opposite}
 use Rattle.varisat_clause.specs.Stored.{StoredClause, IsClauseRef, stored_at, literals_of}
@@ -12,7 +13,6 @@ use Rattle.varisat_prop.specs.declared.prop.watch_list.Watch.{Watch}
 use Rattle.varisat_prop.specs.Watches.{literal_in}
 use Rattle.varisat_prop.proofs.watching.LongVisited.{listed}
 use Rattle.varisat_prop.proofs.views.WellFormedChanges.{stored-kept}
-use Rattle.varisat_search.proofs.simplifying.UnassignedLiterals.{true-false}
 use Rattle.varisat_clause.specs.Stores.{Store, stored_clauses}
 use Rattle.varisat_clause.specs.Collected.{live_clauses}
 use Rattle.varisat_prop.specs.Simplified.{are_unassigned, without_assigned}
@@ -110,7 +110,7 @@ mend_lists-requires-clause-places g c = λ y w h.
     let place : IsClauseRef (live_clauses x.clause_alloc) w.cref = ⊎_elim
     (λ (e : x.watchlists.enabled ≡ true). ((p.watching e).known y w h).0)
     (λ (e : x.watchlists.enabled ≡ false). absurd (subst (λ (ws : List Watch). w ∈ ws) (p.empty e y) h))
-    (true-false x.watchlists.enabled) in
+    (cases_Bool x.watchlists.enabled) in
     filtered-place (Leaves g) _ c.filter_clauses.new.filter (stored_clauses x.clause_alloc) (stored_clauses c.filter_clauses.new.alloc)
     c.in_ok-filter_clauses.ensures.filtered w.cref (live-place (stored_clauses x.clause_alloc) w.cref place)
 

@@ -1,6 +1,6 @@
 use Rattle.std.proofs.Common.{List, Bool, ◌≤◌, sym, ap, subst}
 use Rattle.varisat_rules.specs.promises.Stacks.{KeepsFrozen}
-use Rattle.varisat_database.specs.Databases.{State}
+use Rattle.varisat_database.specs.Databases.{DatabaseState}
 use Rattle.varisat_simplify.proofs.UnloadLemmas.{finished, finished_frozen}
 use Rattle.varisat_simplify.proofs.simplify.simplify.Goals as goal
 
@@ -8,11 +8,11 @@ pub returns-clause-made : goal.returns-clause-made
 returns-clause-made g c =
     finished c.args.formula c.in_ok-made.made.formula c.in_ok-db.db.var_count c.in_ok-given.given c.in_ok-db.db.frozen c.reduce.new.db
     c.in_ok-made.made.stack c.in_ok-made.made.history.lines
-    (λ n b. subst (λ m. m ≤ n) (sym (ap (λ (s : State). s.var_count) (c.in_ok-db.ensures {u = tt}))) (c.named_count-count.ensures.least n b))
+    (λ n b. subst (λ m. m ≤ n) (sym (ap (λ (s : DatabaseState). s.var_count) (c.in_ok-db.ensures {u = tt}))) (c.named_count-count.ensures.least n b))
     (c.in_ok-given.ensures {u = tt}).reduced (c.in_ok-made.ensures {u = tt}).made
 
 pub returns-clause-frozen : goal.returns-clause-frozen
 returns-clause-frozen g c =
-    subst (λ (f : List Bool). KeepsFrozen f c.in_ok-made.made.stack) (ap (λ (s : State). s.frozen) (c.in_ok-db.ensures {u = tt}))
+    subst (λ (f : List Bool). KeepsFrozen f c.in_ok-made.made.stack) (ap (λ (s : DatabaseState). s.frozen) (c.in_ok-db.ensures {u = tt}))
     (finished_frozen c.args.formula.clauses c.in_ok-made.made.formula c.in_ok-db.db.var_count c.in_ok-given.given c.in_ok-db.db.frozen c.reduce.new.db
     c.in_ok-made.made.stack c.in_ok-made.made.history.lines (c.in_ok-given.ensures {u = tt}).reduced (c.in_ok-made.ensures {u = tt}).made)

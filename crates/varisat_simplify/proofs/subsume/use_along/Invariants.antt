@@ -1,5 +1,5 @@
-use Rattle.varisat_rules.specs.inside.States.{Becomes}
+use Rattle.varisat_rules.specs.inside.States.{IsLaterState}
 use Rattle.varisat_simplify.proofs.subsume.use_along.Given as goal
 
 abbrev pub invariant-loop : goal.invariant-loop
-invariant-loop g l = Becomes l.fn.db l.db
+invariant-loop g l = IsLaterState l.fn.db l.db

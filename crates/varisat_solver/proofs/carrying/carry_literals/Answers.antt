@@ -9,8 +9,8 @@ use Rattle.varisat_prop.proofs.views.ReadElements.{item-∈}
 use Rattle.varisat_tracer.specs.promises.Carried.{carry}
 use Rattle.varisat_solver.proofs.calls.ReadPlaces.{take-item}
 use Rattle.varisat_solver.proofs.calls.Carried.{carried-literal}
-use Rattle.varisat_solver.proofs.modes.TableMarks.{is-there}
 use Rattle.varisat_solver.proofs.carrying.carry_literals.Goals as goal
+use Rattle.varisat_search.proofs.variables.SolverVariables.{some-is}
 
 -- where both maps lead
 led-through : (f h : ℕ → Option ℕ) (ls : List Literal) (l : Literal) → ((m : Literal) → m ∈ ls → (v : ℕ) × (chain f h (variable_of m) ≡ Some v)) →
@@ -24,7 +24,7 @@ pub unwrap-middle-requires : goal.unwrap-middle-requires
 unwrap-middle-requires g c =
     let i = item-∈ c.args.lits.now c.loop-lit.lit-index c.lit-item.result c.loop-lit-test.true c.lit-item.is in
     let (x, v, a, b) = led-through (at c.args.first.now) (at c.args.second.now) c.args.lits.now c.lit-item.result c.requires i in
-    is-there c.get.result x (c.get.ensures ∙ ap (at c.args.first.now) c.var.ensures ∙ a)
+    some-is c.get.result x (c.get.ensures ∙ ap (at c.args.first.now) c.var.ensures ∙ a)
 
 pub unwrap-var-requires : goal.unwrap-var-requires
 unwrap-var-requires g c =
@@ -32,7 +32,7 @@ unwrap-var-requires g c =
     let (x, v, a, b) = led-through (at c.args.first.now) (at c.args.second.now) c.args.lits.now c.lit-item.result c.requires i in
     let s : Some c.unwrap-middle.result ≡ Some x = sym c.unwrap-middle.ensures ∙ c.get.ensures ∙ ap (at c.args.first.now) c.var.ensures ∙ a in
     let z : c.unwrap-middle.result ≡ x = cc in
-    is-there c.get-in-loop-lit.result v (c.get-in-loop-lit.ensures ∙ ap (at c.args.second.now) z ∙ b)
+    some-is c.get-in-loop-lit.result v (c.get-in-loop-lit.ensures ∙ ap (at c.args.second.now) z ∙ b)
 
 pub loop-lit-preserved : goal.loop-lit-preserved
 loop-lit-preserved g c =

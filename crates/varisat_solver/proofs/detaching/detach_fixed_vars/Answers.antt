@@ -12,9 +12,9 @@ use Rattle.varisat_prop.proofs.views.ReadElements.{item-∈}
 use Rattle.varisat_tracer.specs.inside.Tracing.{tracer_state, open_parts}
 use Rattle.varisat_solver.specs.inside.Detached.{fixed_to, LosesSolverVar, IsDetachedAlone, AreDetachedAlone, DetachesFromTables}
 use Rattle.varisat_solver.proofs.calls.ReadPlaces.{take-item, split-item}
-use Rattle.varisat_solver.proofs.modes.TableMarks.{is-there, there-is}
 use Rattle.varisat_solver.proofs.leaving.DetachedAlone.{sign-same, changed-twice, leaves-none, leaves-one, leaves-then, dropped-push, distinct-after}
 use Rattle.varisat_solver.proofs.detaching.detach_fixed_vars.Goals as goal
+use Rattle.varisat_search.proofs.variables.SolverVariables.{some-is, is-there}
 
 pub loop-lit-init : goal.loop-lit-init
 loop-lit-init g c = (refl, leaves-none c.args.tracer.now.tables, refl)
@@ -26,11 +26,11 @@ unwrap-global-requires g c =
     let i = c.loop-lit.lit-index in
     let l = c.lit-item.result in
     let there = item-∈ ls i l c.loop-lit-test.true c.lit-item.is in
-    let (x, e) = there-is (at c.args.tracer.now.tables.solvers.backward (variable_of l)) (c.requires.taken l there) in
+    let (x, e) = is-there (at c.args.tracer.now.tables.solvers.backward (variable_of l)) (c.requires.taken l there) in
     let (rest, s) = split-item ls i l c.loop-lit-test.true c.lit-item.is in
     let q = c.loop-lit.invariant.1.stays (variable_of l)
     (λ m h o. distinct-after (take i ls) l rest (subst (λ ks. IsDistinct (map variable_of ks)) s c.requires.distinct) m h o) in
-    is-there c.get.result x (c.get.ensures ∙ ap (λ m. at m c.var-solver.result) c.global_from_solver.ensures
+    some-is c.get.result x (c.get.ensures ∙ ap (λ m. at m c.var-solver.result) c.global_from_solver.ensures
     ∙ ap (at c.loop-lit.tracer.tables.solvers.backward) c.var-solver.ensures ∙ q ∙ e)
 
 pub set_unit-requires : goal.set_unit-requires

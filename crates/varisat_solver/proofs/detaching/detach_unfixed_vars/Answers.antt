@@ -6,10 +6,10 @@ use Rattle.varisat_tracer.specs.inside.Tracing.{tracer_state, open_parts}
 use Rattle.varisat_prop.proofs.views.ReadElements.{item-∈}
 use Rattle.varisat_solver.specs.inside.Detached.{LosesSolverVar, AreDetached, DetachesFromTables}
 use Rattle.varisat_solver.proofs.calls.ReadPlaces.{take-item, split-item}
-use Rattle.varisat_solver.proofs.modes.TableMarks.{is-there, there-is}
 use Rattle.varisat_solver.proofs.leaving.DetachedAlone.{leaves-none, leaves-dropped, leaves-then, taken-live, distinct-after}
 use Rattle.varisat_solver.proofs.leaving.DetachedLists.{released-push}
 use Rattle.varisat_solver.proofs.detaching.detach_unfixed_vars.Goals as goal
+use Rattle.varisat_search.proofs.variables.SolverVariables.{some-is, is-there}
 
 pub loop-lit-init : goal.loop-lit-init
 loop-lit-init g c = (refl, leaves-none c.args.tracer.now.tables, refl)
@@ -20,12 +20,12 @@ detach_solver_var-requires g c =
     let ls = c.args.lits.now in
     let i = c.loop-lit.lit-index in
     let l = c.lit-item.result in
-    let (x, e) = there-is (at c.args.tracer.now.tables.solvers.backward (variable_of l))
+    let (x, e) = is-there (at c.args.tracer.now.tables.solvers.backward (variable_of l))
     (c.requires.taken l (item-∈ ls i l c.loop-lit-test.true c.lit-item.is)) in
     let (rest, s) = split-item ls i l c.loop-lit-test.true c.lit-item.is in
     let q = c.loop-lit.invariant.1.stays (variable_of l)
     (λ m h o. distinct-after (take i ls) l rest (subst (λ ks. IsDistinct (map variable_of ks)) s c.requires.distinct) m h o) in
-    is-there (at c.loop-lit.tracer.tables.solvers.backward c.var.result) x (ap (at c.loop-lit.tracer.tables.solvers.backward) c.var.ensures ∙ q ∙ e)
+    some-is (at c.loop-lit.tracer.tables.solvers.backward c.var.result) x (ap (at c.loop-lit.tracer.tables.solvers.backward) c.var.ensures ∙ q ∙ e)
 
 pub loop-lit-preserved : goal.loop-lit-preserved
 loop-lit-preserved g c =

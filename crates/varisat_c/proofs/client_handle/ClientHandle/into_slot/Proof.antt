@@ -28,11 +28,12 @@ use Rattle.varisat_client.specs.inside.Clients.{Client}
 use Rattle.varisat_c.specs.ClientHandles.{client_row}
 use Rattle.varisat_c.specs.contracts.client_handle.ClientHandle as handle
 use Rattle.varisat_c.proofs.SlotWords.{both, slot_good, slot_in}
-use Rattle.varisat_c.proofs.ClientHandleWords.{word, word_good, handle_out}
+use Rattle.varisat_c.proofs.ClientHandleWords.{word, handle_out}
 use Rattle.varisat_c.specs.contracts.client_handle.ClientHandle.into_slot.{ended, clauses}
 use Rattle.varisat_c.specs.contracts.client_handle.ClientHandle.into_slot.Key.{name as #self}
 use Rattle.varisat_c.proofs.client_handle.ClientHandle.into_slot.Statement.{statement}
 use Rattle.varisat_c.proofs.client_handle.ClientHandle.into_slot.Code as code
+use Rattle.varisat_c.proofs.HandleWords.{word_good}
 
 pub into_slot_spec : {M : Type 1} → statement M
 into_slot_spec 𝓤 𝓛 𝓜 𝓡 wired =

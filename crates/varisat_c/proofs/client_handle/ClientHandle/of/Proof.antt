@@ -26,11 +26,12 @@ use Rattle.std_heap.proofs.Global.TheLaws as heap_laws
 use Rattle.varisat_client.specs.inside.Clients.{Client}
 use Rattle.varisat_c.specs.ClientHandles.{client_row}
 use Rattle.varisat_c.proofs.SlotWords.{both, Slot, slot_good, slot_out}
-use Rattle.varisat_c.proofs.ClientHandleWords.{word, word_good, handle_in}
+use Rattle.varisat_c.proofs.ClientHandleWords.{word, handle_in}
 use Rattle.varisat_c.specs.contracts.client_handle.ClientHandle.of.{ended, clauses}
 use Rattle.varisat_c.specs.contracts.client_handle.ClientHandle.of.Key.{name as #self}
 use Rattle.varisat_c.proofs.client_handle.ClientHandle.of.Statement.{statement}
 use Rattle.varisat_c.proofs.client_handle.ClientHandle.of.Code as code
+use Rattle.varisat_c.proofs.HandleWords.{word_good}
 
 pub of_spec : {M : Type 1} → statement M
 of_spec 𝓤 𝓛 𝓜 𝓡 wired =

@@ -28,11 +28,12 @@ use Rattle.varisat_calls.specs.Simplifiers.{Simplifier}
 use Rattle.varisat_c.specs.SimplifierHandles.{simplifier_row}
 use Rattle.varisat_c.specs.contracts.simplifier_handle.SimplifierHandle as handle
 use Rattle.varisat_c.proofs.SlotWords.{both, slot_good, slot_in}
-use Rattle.varisat_c.proofs.SimplifierHandleWords.{word, word_good, handle_out}
+use Rattle.varisat_c.proofs.SimplifierHandleWords.{word, handle_out}
 use Rattle.varisat_c.specs.contracts.simplifier_handle.SimplifierHandle.into_slot.{ended, clauses}
 use Rattle.varisat_c.specs.contracts.simplifier_handle.SimplifierHandle.into_slot.Key.{name as #self}
 use Rattle.varisat_c.proofs.simplifier_handle.SimplifierHandle.into_slot.Statement.{statement}
 use Rattle.varisat_c.proofs.simplifier_handle.SimplifierHandle.into_slot.Code as code
+use Rattle.varisat_c.proofs.HandleWords.{word_good}
 
 pub into_slot_spec : {M : Type 1} → statement M
 into_slot_spec 𝓤 𝓛 𝓜 𝓡 wired =

@@ -26,11 +26,12 @@ use Rattle.std_heap.proofs.Global.TheLaws as heap_laws
 use Rattle.varisat_calls.specs.Simplifiers.{Simplifier}
 use Rattle.varisat_c.specs.SimplifierHandles.{simplifier_row}
 use Rattle.varisat_c.proofs.SlotWords.{both, Slot, slot_good, slot_out}
-use Rattle.varisat_c.proofs.SimplifierHandleWords.{word, word_good, handle_in}
+use Rattle.varisat_c.proofs.SimplifierHandleWords.{word, handle_in}
 use Rattle.varisat_c.specs.contracts.simplifier_handle.SimplifierHandle.of.{ended, clauses}
 use Rattle.varisat_c.specs.contracts.simplifier_handle.SimplifierHandle.of.Key.{name as #self}
 use Rattle.varisat_c.proofs.simplifier_handle.SimplifierHandle.of.Statement.{statement}
 use Rattle.varisat_c.proofs.simplifier_handle.SimplifierHandle.of.Code as code
+use Rattle.varisat_c.proofs.HandleWords.{word_good}
 
 pub of_spec : {M : Type 1} → statement M
 of_spec 𝓤 𝓛 𝓜 𝓡 wired =

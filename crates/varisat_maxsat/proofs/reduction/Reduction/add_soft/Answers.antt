@@ -1,5 +1,5 @@
 use Rattle.std.proofs.Common.{◌++◌, ◌∷◌, [], ap, ◌∙◌, subst}
-use Rattle.varisat_maxsat.specs.inside.Charges.{AreBelow}
+use Rattle.varisat_maxsat.specs.inside.Charges.{LiteralsAreBelow}
 use Rattle.varisat_maxsat.specs.inside.Reductions.{Reduction}
 use Rattle.varisat_maxsat.proofs.Standing.{stands-nothing, literal-step, clause-step, one-item}
 use Rattle.varisat_maxsat.proofs.reduction.Reduction.add_soft.Goals as goal
@@ -14,7 +14,7 @@ returns-in-len1 g c = rw (← c.self.view_is) (λ p st.
 
 pub returns : goal.returns
 returns g c = λ p st.
-    clause-step p _ _ _ _ _ _ _ _ (subst (λ (x : Reduction). AreBelow x.variables c.args.clause.now) c.self.view_is (c.in_ok-ensure_below.ensures {u = tt}))
+    clause-step p _ _ _ _ _ _ _ _ (subst (λ (x : Reduction). LiteralsAreBelow x.variables c.args.clause.now) c.self.view_is (c.in_ok-ensure_below.ensures {u = tt}))
     (c.self-2.view_is ∙ c.in_ok-literal.ensures.named) (c.in_ok-give.ensures {u = tt})
     (c.deref.ensures.value ∙ c.in_ok-push-2.ensures.items ∙ ap (λ xs. xs ++ c.in_ok-literal.literal ∷ [])
     (c.in_ok-extend_from_slice.ensures.items ∙ ap (λ xs. xs ++ c.args.clause.now) c.new-relaxed.ensures.items))

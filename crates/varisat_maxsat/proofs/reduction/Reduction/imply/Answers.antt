@@ -1,6 +1,6 @@
 use Rattle.std.proofs.Common.{◌≡◌, true, arith}
+use Rattle.std.proofs.lemmas.Bool.{not-false}
 use Rattle.varisat_maxsat.proofs.Taking.{item-∈}
-use Rattle.varisat_maxsat.proofs.Standing.{not-false}
 use Rattle.varisat_maxsat.proofs.Below.{within-step}
 use Rattle.varisat_maxsat.proofs.reduction.Reduction.imply.Goals as goal
 

@@ -1,5 +1,5 @@
 use Rattle.varisat_prop.specs.View.{view_of}
-use Rattle.varisat_prop.specs.QueueSteps.{parts_of, KeepsParts}
+use Rattle.varisat_prop.specs.QueueSteps.{parts_of, KeepsUnseen}
 use Rattle.varisat_prop.proofs.pairs.BinaryPropagated.{Implying}
 use Rattle.varisat_prop.proofs.prop.binary.propagate_binary.Given as goal
 
@@ -7,6 +7,6 @@ abbrev pub invariant-loop-entry : goal.invariant-loop-entry
 invariant-loop-entry g l = record {
   implying : Implying (view_of l.alloc l.binary l.fn.assignment l.fn.trail l.fn.graph)
       (view_of l.alloc l.binary l.assignment l.trail l.graph) l.lit l.entry-index;
-  keeps : KeepsParts (parts_of l.alloc l.binary l.fn.assignment l.fn.trail l.fn.graph)
+  keeps : KeepsUnseen (parts_of l.alloc l.binary l.fn.assignment l.fn.trail l.fn.graph)
       (parts_of l.alloc l.binary l.assignment l.trail l.graph);
 }

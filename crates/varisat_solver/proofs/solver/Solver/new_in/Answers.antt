@@ -3,6 +3,7 @@ use Rattle.varisat_search.specs.declared.state.SolverState.{SolverState}
 use Rattle.varisat_search.specs.AssumptionParts.{no_assumptions}
 use Rattle.varisat_search.specs.Contexts.{view}
 use Rattle.varisat_schedule.specs.Plans.{Plan, IsPlan}
+use Rattle.varisat_schedule.proofs.RestartPlans.{first-is}
 use Rattle.varisat_names.specs.promises.Variables.{Tables, no_variables}
 use Rattle.varisat_search.specs.declared.context.Context.{Context}
 use Rattle.varisat_search.specs.declared.state.SatState.TheVariants as verdict
@@ -15,7 +16,7 @@ use Rattle.varisat_solver.specs.inside.Representations.{spaces_of, spaces_with, 
 use Rattle.varisat_proof.specs.promises.Proving.{ProofParts, is_there}
 use Rattle.varisat_solver.proofs.calls.CallStates.{ledger-is}
 use Rattle.varisat_solver.proofs.calls.SolverCalls.{first-spaces, first-kept}
-use Rattle.varisat_solver.proofs.steps.SinceSteps.{since-now, first-plan-is}
+use Rattle.varisat_solver.proofs.steps.SinceSteps.{since-now}
 use Rattle.varisat_solver.proofs.solver.Solver.new_in.Goals as goal
 
 -- a new solver represents the empty state
@@ -58,5 +59,5 @@ invariant_of-result g c _ =
       logs = subst CanLog (sym c.new_in-2.ensures.proof) (record { room = tt; usable = tt });
       represents = begun c.new_in-2.result.tables c.new_in-2.result.proof c.new_in.result c.new_in-2.ensures.variables c.new_in-2.ensures.proof
           c.new_in.ensures.assumptions (ap (λ (x : SolverState). x.sat_state) c.new_in.ensures.state) c.new_in.ensures.seen c.new_in.ensures.empty;
-      counts = since-now 0 c.new_in.result (ap (λ (x : Plan). x.steps) (sym e.schedule)) e.ready (subst IsPlan (sym e.schedule) first-plan-is);
+      counts = since-now 0 c.new_in.result (ap (λ (x : Plan). x.steps) (sym e.schedule)) e.ready (subst IsPlan (sym e.schedule) first-is);
     }

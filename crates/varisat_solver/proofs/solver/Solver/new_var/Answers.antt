@@ -17,7 +17,8 @@ use Rattle.varisat_solver.specs.promises.Calls.{with_naming, start, MakesVar}
 use Rattle.varisat_solver.specs.inside.Accepting.{AreBounded}
 use Rattle.varisat_solver.proofs.accepting.AcceptClause.{with_tables, ledger-free}
 use Rattle.varisat_search.proofs.variables.KeptNames.{given-keeps}
-use Rattle.varisat_solver.proofs.modes.TableMarks.{is-there, there-is, assumed-keeps, marked-keeps}
+use Rattle.varisat_search.proofs.variables.SolverVariables.{some-is, is-there}
+use Rattle.varisat_solver.proofs.modes.TableMarks.{assumed-keeps, marked-keeps}
 use Rattle.varisat_solver.proofs.modes.VariableMoves.{given-most, tables-in-use}
 use Rattle.varisat_solver.proofs.calls.CallStates.{Begins, begins, ledger-is, none-since, represents-valid, flags-started, like-varied, broken, broken-unlogged}
 use Rattle.varisat_solver.proofs.entries.OpenProofs.{goes-on-none, fits-alike, lines-of-entries, written-alike}
@@ -65,9 +66,9 @@ invariant_of-self-2 g c v =
       ready = k.ready;
       count = k.count ∙ ap (λ m. length m.backward) (sym t.solvers);
       decidable = tables-in-use old new (view c.self.inside.ctx) c.self.inside.ctx.vsids t.solvers k.decidable;
-      assumed = λ l h. let (y, e) = there-is (at old.users.forward (variable_of l)) (k.assumed l h) in
-          is-there (at new.users.forward (variable_of l)) y (keeps.named (variable_of l) y e);
-      marked = λ l y h f. let (z, e) = there-is (at old.users.forward (variable_of l)) (k.assumed l h) in
+      assumed = λ l h. let (y, e) = is-there (at old.users.forward (variable_of l)) (k.assumed l h) in
+          some-is (at new.users.forward (variable_of l)) y (keeps.named (variable_of l) y e);
+      marked = λ l y h f. let (z, e) = is-there (at old.users.forward (variable_of l)) (k.assumed l h) in
           marked-keeps old new (variable_of l) y z c.prove_linked.ensures keeps e (k.marked l z h e) f;
       working = λ l h. assumed-keeps old new (variable_of l) c.prove_linked.ensures keeps (k.working l h);
     }) i.logs (

@@ -1,6 +1,7 @@
 use Rattle.std.proofs.Common.{ap, sym, ◌∙◌}
+use Rattle.std.proofs.lemmas.Bool.{not-true}
 use Rattle.varisat_solver.specs.promises.States.{Ledger}
-use Rattle.varisat_solver.proofs.calls.SolverCalls.{counted-few, not-valid}
+use Rattle.varisat_solver.proofs.calls.SolverCalls.{counted-few}
 use Rattle.varisat_solver.proofs.entries.LoggedJournals.{journal-of}
 use Rattle.varisat_solver.proofs.solver.Solver.prove_journal.Goals as goal
 
@@ -11,4 +12,4 @@ pub returns-clause-few : goal.returns-clause-few
 returns-clause-few g c s st v =
     let q = rw (← c.self.view_is) at st in
     let ok = sym (ap (λ (x : Ledger). x.valid) q.ledger) ∙ v in
-    counted-few _ s q ok (λ n h. (c.self.invariant (not-valid c.self.inside.ctx.solver_state.state_is_invalid ok)).counts.few n h)
+    counted-few _ s q ok (λ n h. (c.self.invariant (not-true c.self.inside.ctx.solver_state.state_is_invalid ok)).counts.few n h)

@@ -3,7 +3,7 @@ use Rattle.std.proofs.lemmas.List.{set-set, set-get_or}
 use Rattle.std.specs.Option.{is_some}
 use Rattle.varisat_theory.specs.promises.Literals.{variable_of, literal_of}
 use Rattle.varisat_literals.specs.promises.Numbers.{polarity_of}
-use Rattle.varisat_search.proofs.stepping.StepOutcome.{variable-literal}
+use Rattle.varisat_theory.proofs.clauses.Values.{variable-literal}
 use Rattle.varisat_tests_search.proofs.tests.searches.prefer_value.Given.{Over}
 use Rattle.varisat_tests_search.proofs.tests.searches.prefer_value.Goals as goal
 use Rattle.varisat_tests_search.proofs.tests.searches.prefer_value.Goals.{After-lit-lit, then-is_none, else-is_none}

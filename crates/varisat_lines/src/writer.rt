@@ -155,10 +155,7 @@ fn write_units<W: ProofTarget, A: Allocator + Copy>(
     ensures { PutsLines encoding (W.taken target.old) result (plain_lines (unit_lines units.now)) (W.taken target.new) }
 {
     for unit in units {
-        match write_line(target, buffer, encoding, LineKind::Adds, &[*unit]) {
-            Ok(()) => {}
-            Err(error) => return Err(error),
-        }
+        write_line(target, buffer, encoding, LineKind::Adds, &[*unit])?;
     }
     Ok(())
 }

@@ -2,7 +2,7 @@
 use Rattle.std.proofs.Common.{◌≡◌, true, ℕ, zero, suc, ◌+◌, ◌≤◌, List, [], ◌∷◌, ◌++◌, length, take, refl, sym, ap, subst, ⊎_elim, inl, Ok, arith, take_all}
 use Rattle.varisat_theory.specs.promises.Membership.{◌∈◌}
 use Rattle.varisat_theory.specs.promises.Literals.{Literal, Clause, Assignment, SatisfiesAll, IsSatisfiable, IsSatisfiableWith}
-use Rattle.varisat_theory.proofs.clauses.Members.{∈-append_cases, ∈-append_left, ∈-append_right}
+use Rattle.varisat_theory.proofs.clauses.Members.{∈-append_cases, ∈-append_right}
 use Rattle.varisat_theory.proofs.clauses.Assigned.{satisfies_more, satisfies_fewer}
 use Rattle.varisat_theory.proofs.clauses.Sound.{conflicts_sound, follows_entails, takes_less}
 use Rattle.varisat_lines.specs.declared.format.LineKind.{LineKind}

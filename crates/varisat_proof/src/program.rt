@@ -114,10 +114,7 @@ fn verify_drat_in<A: Allocator + Copy, S: ByteSource, P: ByteSource, E: Write>(
         (FailsCheck (sources_of (S.input cnf.old) (P.input proof.old))
         (sources_of (S.input cnf.new) (P.input proof.new))) }
 {
-    match checker.add_dimacs_cnf(cnf) {
-        Ok(()) => {}
-        Err(error) => return Err(error),
-    }
+    checker.add_dimacs_cnf(cnf)?;
     let mut counts = DratCounts::new();
     let checked = checker.check_drat(proof, format, &mut counts);
     print_refusal(err, &checked, &counts, checker.stopper());
@@ -243,10 +240,7 @@ fn verify_marked_in<A: Allocator + Copy, S: ByteSource, P: ByteSource>(
         (FailsCheck (sources_of (S.input cnf.old) (P.input proof.old))
         (sources_of (S.input cnf.new) (P.input proof.new))) }
 {
-    match given.add_dimacs_cnf(cnf) {
-        Ok(()) => {}
-        Err(error) => return Err(error),
-    }
+    given.add_dimacs_cnf(cnf)?;
     match checker.check_marked(proof) {
         Ok(report) => Ok(is_refuted_by(given, &report)),
         Err(error) => {
@@ -338,10 +332,7 @@ fn verify_in<A: Allocator + Copy, S: ByteSource, P: ByteSource>(
         (FailsCheck (sources_of (S.input cnf.old) (P.input proof.old))
         (sources_of (S.input cnf.new) (P.input proof.new))) }
 {
-    match checker.add_dimacs_cnf(cnf) {
-        Ok(()) => {}
-        Err(error) => return Err(error),
-    }
+    checker.add_dimacs_cnf(cnf)?;
     let verified = is_verified(checker.check_proof(proof, format))?;
     Ok(verified)
 }

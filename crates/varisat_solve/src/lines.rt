@@ -63,10 +63,7 @@ pub fn write_history<W: ProofTarget, A: Allocator + Copy>(
         (W.taken target.new) }
 {
     for line in 0..history.line_count() {
-        match write_line(target, buffer, format, history, line) {
-            Ok(()) => {}
-            Err(error) => return Err(error),
-        }
+        write_line(target, buffer, format, history, line)?;
     }
     Ok(())
 }

@@ -53,25 +53,12 @@ pub trait PieceReader<A: Allocator + Copy>: Drop {
     {
         let mut parser = Self::begin_in(alloc);
         let mut buffer = [0; PIECE];
-        'pieces: loop {
-            match parser.take_piece(source, &mut buffer) {
-                Ok(true) => {}
-                Ok(false) => break,
-                Err(fault) => return Err(E::from(fault)),
-            }
-            match f(&mut parser) {
-                Ok(()) => {}
-                Err(error) => return Err(error),
-            }
+        'pieces: while parser.take_piece(source, &mut buffer)? {
+            f(&mut parser)?;
         }
-        match parser.end() {
-            Ok(()) => {}
-            Err(fault) => return Err(E::from(fault)),
-        }
-        match f(&mut parser) {
-            Ok(()) => Ok(parser),
-            Err(error) => Err(error),
-        }
+        parser.end()?;
+        f(&mut parser)?;
+        Ok(parser)
     }
 }
 

@@ -84,15 +84,10 @@ pub fn read_clauses<S: ByteSource, T: ClauseSink, A: Allocator + Copy>(
     let mut parser = DimacsParser::new_in(alloc);
     let mut buffer = [0; PIECE];
     'pieces: while let Ok(true) = parser.next_piece(source, &mut buffer) {
-        match sink.take_clauses(&parser.take_formula()) {
-            Ok(()) => {}
-            Err(error) => return Err(error),
-        }
+        sink.take_clauses(&parser.take_formula())?;
     }
     // After a fault the clauses are still here that ended before it.
     let end = parser.finish();
-    match sink.take_clauses(&parser.take_formula()) {
-        Ok(()) => Ok(end.err()),
-        Err(error) => Err(error),
-    }
+    sink.take_clauses(&parser.take_formula())?;
+    Ok(end.err())
 }

@@ -15,10 +15,7 @@ fn put_all<W: ProofTarget>(target: &mut W, parts: &[&[u8]]) -> io::Result<()>
     ensures { Puts (W.taken target.old) result (flat_map (λ p. p.now) parts.now) (W.taken target.new) }
 {
     for part in parts {
-        match target.put(part) {
-            Ok(()) => {}
-            Err(error) => return Err(error),
-        }
+        target.put(part)?;
     }
     Ok(())
 }
@@ -43,10 +40,7 @@ fn write_clause<W: ProofTarget>(target: &mut W, clause: &[Lit]) -> io::Result<()
     ensures { Puts (W.taken target.old) result (spaced_literals clause.now ++ 48 ∷ 10 ∷ []) (W.taken target.new) }
 {
     for literal in clause {
-        match write_literal(target, *literal) {
-            Ok(()) => {}
-            Err(error) => return Err(error),
-        }
+        write_literal(target, *literal)?;
     }
     put_all(target, &[b"0\n".as_slice()])
 }
@@ -87,15 +81,9 @@ pub fn write_dimacs<W: ProofTarget, A: Allocator + Copy>(
     ensures fault { OnErr result ((W.taken target.new).faults ≡ (W.taken target.old).faults + 1) }
     ensures read_back { formula.now.var_count ≤ variable_limit → ReadsBack formula.now }
 {
-    match write_header(target, formula.var_count(), formula.len()) {
-        Ok(()) => {}
-        Err(error) => return Err(error),
-    }
+    write_header(target, formula.var_count(), formula.len())?;
     for clause in formula.iter() {
-        match write_clause(target, clause) {
-            Ok(()) => {}
-            Err(error) => return Err(error),
-        }
+        write_clause(target, clause)?;
     }
     Ok(())
 }

@@ -67,10 +67,7 @@ pub fn new_vars<F: ExtendFormula, const N: usize>(formula: &mut F) -> Result<[Va
 {
     let mut vars = [Var::from_index(0); N];
     for i in 0..N {
-        match formula.new_var() {
-            Ok(var) => vars[i] = var,
-            Err(error) => return Err(error),
-        }
+        vars[i] = formula.new_var()?;
     }
     Ok(vars)
 }
@@ -82,10 +79,7 @@ pub fn new_lits<F: ExtendFormula, const N: usize>(formula: &mut F) -> Result<[Li
         × (ls ≡ map (λ v. literal_of v true) vs)) }
     ensures err { IfErr result (λ e. RefusesOneOf N F.makes_var formula.old e formula.new) }
 {
-    let vars = match new_vars::<F, N>(formula) {
-        Ok(vars) => vars,
-        Err(error) => return Err(error),
-    };
+    let vars = new_vars::<F, N>(formula)?;
     let mut lits = [Lit::from_code(0); N];
     for i in 0..N {
         lits[i] = vars[i].positive();

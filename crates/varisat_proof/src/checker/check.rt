@@ -410,17 +410,14 @@ impl<A: Allocator + Copy> Checker<A> {
                 Event::Fault => return Err(CheckerError::Parse { offset: start }),
                 Event::Ended => {
                     counts.end_line(reader.offset());
-                    match self.next_line(
+                    self.next_line(
                         rules,
                         builder,
                         counts,
                         count,
                         reader.kind(),
                         reader.clause(),
-                    ) {
-                        Ok(()) => {}
-                        Err(error) => return Err(error),
-                    }
+                    )?;
                 }
             }
         }
@@ -450,17 +447,14 @@ impl<A: Allocator + Copy> Checker<A> {
             Event::Fault => return Err(CheckerError::Parse { offset: last }),
             Event::Ended => {
                 counts.end_line(reader.offset());
-                match self.next_line(
+                self.next_line(
                     rules,
                     builder,
                     counts,
                     count,
                     reader.kind(),
                     reader.clause(),
-                ) {
-                    Ok(()) => {}
-                    Err(error) => return Err(error),
-                }
+                )?;
             }
         }
         verdict_at_end(reader, count)
@@ -495,22 +489,16 @@ impl<A: Allocator + Copy> Checker<A> {
             if size == 0 {
                 break;
             }
-            match self.read_piece(
+            self.read_piece(
                 rules,
                 builder,
                 counts,
                 &mut reader,
                 &mut count,
                 &buffer[..size],
-            ) {
-                Ok(()) => {}
-                Err(error) => return Err(error),
-            }
+            )?;
         }
-        match self.end_proof(rules, builder, counts, &mut reader, &mut count) {
-            Ok(verdict) => Ok(verdict),
-            Err(error) => Err(error),
-        }
+        self.end_proof(rules, builder, counts, &mut reader, &mut count)
     }
 
     /// Checks that the clause follows, as line number `step` of a step, and adds it.
@@ -540,10 +528,7 @@ impl<A: Allocator + Copy> Checker<A> {
         ensures { ChecksUnits self.old units.now result self.new }
     {
         for (i, unit) in units.iter().enumerate() {
-            match self.check_added(&[*unit], i as u64 + 1) {
-                Ok(()) => {}
-                Err(error) => return Err(error),
-            }
+            self.check_added(&[*unit], i as u64 + 1)?;
         }
         Ok(())
     }

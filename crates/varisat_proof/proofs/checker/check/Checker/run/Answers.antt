@@ -1,4 +1,5 @@
-use Rattle.std.proofs.Common.{refl, ap, subst, take, length, ◌<◌, rules, ◌∙◌, Ok, Err}
+use Rattle.std.proofs.lemmas.Result.{err_from_is_err_and}
+use Rattle.std.proofs.Common.{refl, ap, subst, take, length, ◌<◌, rules, ◌∙◌}
 use Rattle.varisat_proof.proofs.CheckedLines.{state_is}
 use Rattle.varisat_proof.proofs.CheckedSources.{Gave, underway_start, underway_more, breaks_inside, source_fails, ends_check, no_memory, gave_nothing, ended_here}
 use Rattle.varisat_proof.specs.promises.Marked.{state_of}
@@ -21,7 +22,7 @@ pieces-preserved g c = record {
       (record {
         reads = record { gave = c.in-Ok-fill.ensures.gives; consumed = c.in-Ok-fill.ensures.bytes.0; no_more = c.fill.ensures.no_more };
         quiet = c.in-Ok-fill.ensures.quiet;
-      }) c.in-Ok-read_piece.ensures.reads;
+      }) c.in_ok-read_piece.ensures.reads;
   spent = c.read_piece.ensures.spent ∙ c.pieces.invariant.spent;
 }
 
@@ -35,39 +36,24 @@ returns-in-Err-fill-clause-checks g c =
     c.pieces.reader _ c.pieces.invariant.so
     (gave_nothing _ _ c.in-Err-fill.ensures.gives c.in-Err-fill.ensures.bytes c.fill.ensures.no_more) c.in-Err-fill.ensures.fault refl
 
-pub returns-in-Err-read_piece-clause-checks : goal.returns-in-Err-read_piece-clause-checks
-returns-in-Err-read_piece-clause-checks g c =
-    breaks_inside (rules_of c.args.rules) c.args.encoding (state_of c.args.self.now.clauses c.args.builder.now) (state_of c.pieces.self.clauses c.pieces.builder)
+pub returns-in_err-read_piece-clause-checks : goal.returns-in_err-read_piece-clause-checks
+returns-in_err-read_piece-clause-checks g c =
+    let p = err_from_is_err_and c.from_residual.result c.from_residual.ensures.1 in rw (p.1, p.2)
+    (breaks_inside (rules_of c.args.rules) c.args.encoding (state_of c.args.self.now.clauses c.args.builder.now) (state_of c.pieces.self.clauses c.pieces.builder)
     (state_of c.read_piece.new.self.clauses c.read_piece.new.builder) (g.S.ByteSource.input c.args.source.now) (g.S.ByteSource.input c.pieces.source)
-    (g.S.ByteSource.input c.fill.new.self) c.pieces.count c.pieces.reader (take c.in-Ok-fill.size c.fill.new.buffer) c.in-Err-read_piece.error
+    (g.S.ByteSource.input c.fill.new.self) c.pieces.count c.pieces.reader (take c.in-Ok-fill.size c.fill.new.buffer) c.in_err-read_piece.field-0.0
     c.pieces.invariant.so
     (record {
       reads = record { gave = c.in-Ok-fill.ensures.gives; consumed = c.in-Ok-fill.ensures.bytes.0; no_more = c.fill.ensures.no_more };
       quiet = c.in-Ok-fill.ensures.quiet;
-    }) c.in-Err-read_piece.ensures.reads
-
-pub returns-in-Ok-end_proof-clause-checks : goal.returns-in-Ok-end_proof-clause-checks
-returns-in-Ok-end_proof-clause-checks g c =
-    let room : 0 < length c.fill.new.buffer = search rules in
-    ends_check (rules_of c.args.rules) c.args.encoding (state_of c.args.self.now.clauses c.args.builder.now) (state_of c.pieces.self.clauses c.pieces.builder)
-    (state_of c.end_proof.new.self.clauses c.end_proof.new.builder) (g.S.ByteSource.input c.args.source.now) (g.S.ByteSource.input c.pieces.source)
-    (g.S.ByteSource.input c.fill.new.self) c.pieces.count c.pieces.reader (Ok c.in-Ok-end_proof.verdict) c.pieces.invariant.so
-    (subst (λ n. Gave (g.S.ByteSource.input c.pieces.source) (take n c.fill.new.buffer) (g.S.ByteSource.input c.fill.new.self)) c.if-size-eq0.true
-    (record {
-      reads = record { gave = c.in-Ok-fill.ensures.gives; consumed = c.in-Ok-fill.ensures.bytes.0; no_more = c.fill.ensures.no_more };
-      quiet = c.in-Ok-fill.ensures.quiet;
-    }))
-    (record {
-      reported = c.in-Ok-fill.ensures.ends ∙ ended_here _ c.in-Ok-fill.size c.fill.new.buffer c.if-size-eq0.true room;
-      at_end = c.in-Ok-fill.ensures.bytes.1 c.if-size-eq0.true room;
-    }) c.in-Ok-end_proof.ensures.ends
+    }) c.in_err-read_piece.ensures.reads)
 
 pub returns-clause-checks : goal.returns-clause-checks
 returns-clause-checks g c =
     let room : 0 < length c.fill.new.buffer = search rules in
     ends_check (rules_of c.args.rules) c.args.encoding (state_of c.args.self.now.clauses c.args.builder.now) (state_of c.pieces.self.clauses c.pieces.builder)
     (state_of c.end_proof.new.self.clauses c.end_proof.new.builder) (g.S.ByteSource.input c.args.source.now) (g.S.ByteSource.input c.pieces.source)
-    (g.S.ByteSource.input c.fill.new.self) c.pieces.count c.pieces.reader (Err c.in-Err-end_proof.error) c.pieces.invariant.so
+    (g.S.ByteSource.input c.fill.new.self) c.pieces.count c.pieces.reader c.end_proof.result c.pieces.invariant.so
     (subst (λ n. Gave (g.S.ByteSource.input c.pieces.source) (take n c.fill.new.buffer) (g.S.ByteSource.input c.fill.new.self)) c.if-size-eq0.true
     (record {
       reads = record { gave = c.in-Ok-fill.ensures.gives; consumed = c.in-Ok-fill.ensures.bytes.0; no_more = c.fill.ensures.no_more };
@@ -76,4 +62,4 @@ returns-clause-checks g c =
     (record {
       reported = c.in-Ok-fill.ensures.ends ∙ ended_here _ c.in-Ok-fill.size c.fill.new.buffer c.if-size-eq0.true room;
       at_end = c.in-Ok-fill.ensures.bytes.1 c.if-size-eq0.true room;
-    }) c.in-Err-end_proof.ensures.ends
+    }) c.end_proof.ensures.ends

@@ -99,7 +99,7 @@ struct varisat {
     int (*write)(void *, const void *, size_t);
     void *write_data;
     int fd;
-    bool proof_failed;
+    bool proof_failed, is_lost;
 };
 
 const char *varisat_version(void) {
@@ -122,10 +122,12 @@ static const char *text_of(int error) {
     }
 }
 
+static bool is_valid(varisat *solver) { return caller_is_valid(&solver->handle) && !solver->proof_failed; }
+
 /* Ends a call with this answer. */
 static int leave(varisat *solver, int answer) {
     /* What made the solver invalid is returned from then on. */
-    if (answer < 0 && !(answer == VARISAT_INVALID && solver->error)) {
+    if (answer < 0 && !solver->is_lost) {
         const char *text = text_of(answer);
         memset(solver->text, 0, TEXT);
         if (text)
@@ -133,6 +135,7 @@ static int leave(varisat *solver, int answer) {
         else
             caller_refusal_copy(&solver->handle, (uint8_t *)solver->text, TEXT - 1);
         solver->error = answer;
+        solver->is_lost = !is_valid(solver);
     }
     return end(&solver->user, answer);
 }
@@ -208,7 +211,7 @@ const char *varisat_error_text(varisat *solver) { return solver ? solver->text :
 
 int varisat_is_valid(varisat *solver) {
     BEGIN(enter(solver, true));
-    return leave(solver, caller_is_valid(&solver->handle) && !solver->proof_failed);
+    return leave(solver, is_valid(solver));
 }
 
 /* Clauses. */
@@ -357,7 +360,7 @@ int varisat_hide_var(varisat *solver, int32_t variable) { return set_mode(solver
 /* Settings and counters. */
 
 int varisat_set(varisat *solver, enum varisat_setting setting, uint64_t value) {
-    BEGIN(enter(solver, setting <= VARISAT_RESTART_GLUE));
+    BEGIN(enter_change(solver, setting <= VARISAT_RESTART_GLUE));
     return leave(solver, -caller_config(&solver->handle, setting, value));
 }
 

@@ -3,7 +3,8 @@
  * Literals are the numbers v and -v of variables v from 1 to 2^28. Names come into use up to the highest one, and each takes memory.
  *
  * Each call that returns an int returns 0 or more, or one of the errors below, which are negative. After an error the solver is as
- * before, unless varisat_is_valid says that it is not: then each further call returns VARISAT_INVALID, and varisat_free alone is left.
+ * before, but for clauses of a list or a text that came before it, unless varisat_is_valid says that it is invalid: then calls that
+ * would change it return VARISAT_INVALID, it has no model and no core, and varisat_free is what is left to do.
  * A call that returns a list copies as many of its numbers as there is room for, and returns how many there are.
  *
  * Threads: solvers share nothing. One call at a time uses a solver, from whatever thread; a second one is refused as VARISAT_BUSY, and
@@ -30,7 +31,7 @@ enum {
 
 enum {
     VARISAT_PROOF_IO = -2,           /* what takes the proof failed; the solver is invalid */
-    VARISAT_OUT_OF_MEMORY = -3,      /* memory or the limit of the heap; the solver is invalid, unless a list was asked for */
+    VARISAT_OUT_OF_MEMORY = -3,      /* memory or the limit of the heap; varisat_is_valid says whether the solver can go on */
     VARISAT_INVALID = -4,            /* a call after one that left the solver invalid */
     VARISAT_STORE_FULL = -5,         /* the store of clauses is full; the solver is invalid */
     VARISAT_WITNESS_VAR = -6,        /* a clause or an assumption names a witness */
@@ -58,7 +59,8 @@ varisat *varisat_new(size_t heap_limit);
 /* Ends the solver. Refused from within its callbacks. NULL is fine. */
 int varisat_free(varisat *solver);
 
-/* What went wrong last, as a number and as text; 0 and "" where nothing did. What left the solver invalid is returned from then on. */
+/* What went wrong last, as a number and as text; 0 and "" where nothing did. What left the solver invalid is returned from then on. The
+ * text is the solver's, and lasts until its next call. */
 int varisat_error(varisat *solver);
 const char *varisat_error_text(varisat *solver);
 
@@ -127,7 +129,8 @@ int varisat_sample_var(varisat *solver, int32_t variable);
 /* Frees its name; the variable lives on in the clauses. */
 int varisat_hide_var(varisat *solver, int32_t variable);
 
-/* Brings hidden variables back as witnesses, and returns their names. */
+/* Brings hidden variables back as witnesses, and returns their names. Where a valid solver has no memory for that list they are back all
+ * the same, and the next model lists them. */
 int varisat_observe_internal_vars(varisat *solver, int32_t *variables, size_t room);
 
 /* Settings and counters. */

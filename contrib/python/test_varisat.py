@@ -76,6 +76,7 @@ class Calls(unittest.TestCase):
             self.assertRaises(OverflowError, solver.add_clause, [1 << 40])
             self.assertRaises(VarisatError, solver.add_clause, [1 << 29])
         self.assertRaises(VarisatError, Solver, vsids_decay=3)
+        self.assertRaises(TypeError, Solver, vsids_decai=900)
         with self.assertRaises(MemoryError):
             Solver(pigeons(20), heap_limit=10000)
 
@@ -113,6 +114,19 @@ class Calls(unittest.TestCase):
         with Solver(self_check=True) as solver:
             solver.read_dimacs(io.BytesIO(b"p cnf 4 2\n1 2 0 -1 0"))
             self.assertEqual(solver.nof_vars(), 4)
+            self.assertTrue(solver.solve())
+            self.assertEqual(solver.get_model()[:2], [-1, 2])
+
+    def test_a_text_that_cannot_be_read_further(self):
+        class Torn(io.BytesIO):
+            def read(self, size=-1):
+                if self.tell():
+                    raise OSError
+                return super().read(size)
+
+        with Solver() as solver:
+            self.assertRaises(OSError, solver.read_dimacs, Torn(b"1 2 0 3 "))
+            solver.read_dimacs(io.BytesIO(b"-1 0"))
             self.assertTrue(solver.solve())
             self.assertEqual(solver.get_model()[:2], [-1, 2])
 

@@ -20,7 +20,7 @@ _int, _size, _pointer, _text = ctypes.c_int, ctypes.c_size_t, ctypes.c_void_p, c
 _list = [_pointer, _pointer, _size]
 
 _UNKNOWN, _SAT, _UNSAT = 0, 10, 20
-_OUT_OF_MEMORY = -3
+_OUT_OF_MEMORY, _BUSY = -3, -18
 _FORMATS = {"drat": 0, "binary": 1, "marked": 2}
 # Between so many steps of a search Python looks at signals, interrupts and the function of set_terminate.
 _ROUND = 1000
@@ -123,6 +123,8 @@ class Solver:
         if for_file:
             self._done(_lib.varisat_set_for_file(self._solver))
         for name, value in settings.items():
+            if name not in SETTINGS:
+                raise TypeError(f"there is no setting {name}")
             self._done(_lib.varisat_set(self._solver, SETTINGS.index(name), value))
         if proof is not None:
             # The library writes here, and after each call what stands here goes on: Python code that it called could be interrupted.
@@ -141,6 +143,9 @@ class Solver:
             self._written.truncate()
 
     def _done(self, answer: int) -> int:
+        # The call of another thread is under way, and writes to the file.
+        if answer == _BUSY:
+            raise VarisatError(answer, "Another call of this solver is under way")
         if self._written:
             self._hand_on()
         if answer >= 0:
@@ -173,10 +178,15 @@ class Solver:
         self._add(numbers, count)
 
     def read_dimacs(self, file: BinaryIO) -> None:
-        """Accepts the clauses of a DIMACS CNF text, of a file that is open in binary."""
+        """Accepts the clauses of a DIMACS CNF text, of a file that is open in binary; after a fault, those before it."""
         self._status = None
-        while piece := file.read(1 << 16):
-            self._done(_lib.varisat_read_dimacs(self._solver, piece, len(piece)))
+        try:
+            while piece := file.read(1 << 16):
+                self._done(_lib.varisat_read_dimacs(self._solver, piece, len(piece)))
+        except BaseException:
+            # Else the next text would go on where this one ends.
+            _lib.varisat_end_dimacs(self._solver)
+            raise
         self._top = max(self._top, self._done(_lib.varisat_end_dimacs(self._solver)))
 
     def solve(self, assumptions: Iterable[int] = (), steps: Optional[int] = None) -> Optional[bool]:
@@ -267,7 +277,7 @@ class Solver:
         return self._listed(_lib.varisat_observe_internal_vars)
 
     def nof_vars(self) -> int:
-        """The highest variable that was given."""
+        """The highest variable of clauses, headers of texts and new_var."""
         return self._top
 
     def nof_clauses(self) -> int:

@@ -196,6 +196,7 @@ static void proofs(void) {
     add_pigeons(s, 7);
     CHECK(varisat_solve(s) == VARISAT_PROOF_IO && varisat_is_valid(s) == 0);
     CHECK(varisat_solve(s) == VARISAT_INVALID && varisat_add_clause(s, LITS(1)) == VARISAT_INVALID && varisat_value(s, 1) == VARISAT_NOTHING);
+    CHECK(varisat_set(s, VARISAT_VSIDS_DECAY, 900) == VARISAT_INVALID && varisat_error(s) == VARISAT_PROOF_IO);
     CHECK(varisat_free(s) == 0);
     /* a file */
     int ends[2];

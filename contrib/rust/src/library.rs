@@ -10,6 +10,7 @@ use std::ptr::{null_mut, NonNull};
 pub const SATISFIABLE: c_int = 10;
 pub const UNSATISFIABLE: c_int = 20;
 pub const PROOF_IO: c_int = -2;
+pub const INVALID: c_int = -4;
 pub const WITNESS_VAR: c_int = -6;
 pub const ASSUMED_VAR: c_int = -8;
 pub const CLAUSE_AFTER_SOLVE: c_int = -9;
@@ -67,7 +68,8 @@ unsafe extern "C" fn take(data: *mut c_void, bytes: *const c_void, size: usize) 
 /// A solver of the library. Numbers of answers are those of `varisat.h`.
 pub struct Library<'a> {
     at: NonNull<Opaque>,
-    target: Option<Box<Target<'a>>>,
+    // A box, as the pointer that `take` is given.
+    target: Option<NonNull<Target<'a>>>,
 }
 
 impl<'a> Library<'a> {
@@ -142,11 +144,12 @@ impl<'a> Library<'a> {
 
     /// Opens a proof that goes to the writer.
     pub fn write_proof(&mut self, format: c_int, writer: Box<dyn Write + 'a>) -> c_int {
-        let mut target = Box::new(Target { writer, error: None });
-        let data = &mut *target as *mut Target<'a> as *mut c_void;
-        let answer = unsafe { varisat_write_proof(self.at.as_ptr(), format, Some(take), data) };
+        let target = NonNull::from(Box::leak(Box::new(Target { writer, error: None })));
+        let answer = unsafe { varisat_write_proof(self.at.as_ptr(), format, Some(take), target.as_ptr() as *mut c_void) };
         if answer == 0 {
             self.target = Some(target);
+        } else {
+            drop(unsafe { Box::from_raw(target.as_ptr()) });
         }
         answer
     }
@@ -163,17 +166,28 @@ impl<'a> Library<'a> {
 
     /// Flushes the writer of a closed proof, and lets go of it.
     pub fn flush(&mut self) -> io::Result<()> {
-        self.target.take().map_or(Ok(()), |mut target| target.writer.flush())
+        match self.target.take() {
+            Some(target) => unsafe { Box::from_raw(target.as_ptr()) }.writer.flush(),
+            None => Ok(()),
+        }
+    }
+
+    /// Whether the writer failed, which was not told yet.
+    pub fn has_error(&self) -> bool {
+        self.target.is_some_and(|target| unsafe { target.as_ref() }.error.is_some())
     }
 
     /// Why the writer failed, if it did.
     pub fn take_error(&mut self) -> Option<io::Error> {
-        self.target.as_mut()?.error.take()
+        unsafe { self.target?.as_mut() }.error.take()
     }
 }
 
 impl Drop for Library<'_> {
     fn drop(&mut self) {
         unsafe { varisat_free(self.at.as_ptr()) };
+        if let Some(target) = self.target {
+            drop(unsafe { Box::from_raw(target.as_ptr()) });
+        }
     }
 }

@@ -218,6 +218,8 @@ impl<'a> Solver<'a> {
         self.core = OnceCell::new();
         match answer {
             PROOF_IO | 0.. => {}
+            // `solve` tells that the writer failed.
+            INVALID if self.library.has_error() => {}
             WITNESS_VAR => panic!("witness variables cannot be constrained"),
             ASSUMED_VAR => panic!("cannot change sampling mode of assumption variable"),
             CLAUSE_AFTER_SOLVE => panic!("incremental clause additions not supported by DRAT proofs"),

@@ -97,6 +97,8 @@ impl Write for Full {
 fn a_writer_that_fails() {
     let mut solver = Solver::new();
     solver.write_proof(Full, ProofFormat::Drat);
+    // A clause that is true makes a line of the proof, and what comes behind meets a solver that is invalid.
+    solver.add_formula(&formula(&[&[3], &[4, 3, 4]]));
     solver.add_formula(&square());
     match solver.solve() {
         Err(SolverError::ProofIoError { cause }) => assert_eq!(cause.to_string(), "full"),

@@ -271,6 +271,8 @@ impl<'a> ExtendFormula for Solver<'a> {
     fn new_var(&mut self) -> Var {
         let answer = self.library.new_var();
         self.changed(answer);
+        // What waits for `solve` has no variable to return.
+        assert!(answer > 0, "{}", self.library.error_text());
         Var::from_dimacs(answer as isize)
     }
 }

@@ -108,6 +108,15 @@ fn a_writer_that_fails() {
 }
 
 #[test]
+#[should_panic(expected = "Error writing proof file")]
+fn a_variable_behind_a_writer_that_fails() {
+    let mut solver = Solver::new();
+    solver.write_proof(Full, ProofFormat::Drat);
+    solver.add_formula(&formula(&[&[3], &[4, 3, 4]]));
+    solver.new_var();
+}
+
+#[test]
 #[should_panic(expected = "witness variables cannot be constrained")]
 fn a_witness() {
     let mut solver = Solver::new();

@@ -12,7 +12,8 @@ use Rattle.varisat_solver.specs.promises.ClauseCalls.{AddsDimacs}
 use Rattle.varisat_solver.specs.promises.Calls.{by_state, IsValid, IsRefuted, ReturnsVerdict}
 use Rattle.varisat_solver.specs.promises.Additions.{AddsAll, NoFault, MemoryFault, Fault, ClauseRefused, ClausesAdded, RefusedEarly, Read, Unread}
 use Rattle.varisat.specs.promises.Decided.{Conclusion, allowed_steps}
-use Rattle.varisat.specs.promises.Proven.{Concludes, prepared, Reports, IsProven, IsProvenIf, DecidesProven, Fails, AsSearched, AsListed}
+use Rattle.varisat.specs.declared.deciding.SolveOptions.{SolveOptions}
+use Rattle.varisat.specs.promises.Proven.{Concludes, prepared, Reports, IsProven, IsProvenIf, DecidesProven, SpendsSteps, Fails, AsSearched, AsListed}
 use Rattle.varisat_solver.proofs.calls.CallStates.{same-clauses, same-naming, same-assumptions, same-hidden, same-ledger}
 use Rattle.varisat.proofs.NameLaws.{stay-in-order, none-in-order}
 use Rattle.varisat.proofs.ProgramDecides.{done, Carries, prepared-begun, unsearched, found}
@@ -296,7 +297,12 @@ proven {W = W} taken format check limit old new target back t u c opened adds fi
             proven-bytes taken format target back u bytes P c e h has unassumed carries f.given f.rest f.begins
             ((asks t u c finds).clauses ∙ f.joined) (λ some. finds-refuted t u c finds (f.refuted some)) (finds-none t u c format finds before) closed
 
--- 4. Errors.
+-- 4. Steps that are spent, and errors.
+
+pub spends : {W : Type 0} (taken : W → Taken) (o : SolveOptions) (target : Option W) (old new : Input) (c : Conclusion) (t u : State) →
+    AddsDimacs (prepared taken o.format o.check o.max_steps target) old done new t → Concludes t c u → SpendsSteps taken o target old new c
+spends taken o target old new (conclusion.Decided outcome) t u a f = tt
+spends taken o target old new conclusion.Unknown t u a f = (t, u, a, f)
 
 pub fails-reported : (A : Type 0) {W : Type 0} (taken : W → Taken) (s : State) (old new : Input) (t u : State) (e : SolverError) →
     AddsDimacs s old done new t → Reports {A = A} t (Err e) u → Fails taken s old new e

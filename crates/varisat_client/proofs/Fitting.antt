@@ -21,7 +21,7 @@ use Rattle.varisat_solver.proofs.calls.CallStates.{same-assumptions, same-clause
 use Rattle.varisat.proofs.NameLaws.{stay-in-order, count-above, count-within, names-are-identities, crowded-is-past-limit}
 use Rattle.varisat_solver.proofs.calls.Counted.{join-more, join-has, join-only, join-once}
 use Rattle.varisat_solver.proofs.steps.SearchVerdicts.{reopened-not-unsat, assumed-unsat}
-use Rattle.varisat_client.specs.promises.Pasts.{IsFoundModel}
+use Rattle.varisat_client.specs.promises.Pasts.{Past, IsFoundModel, MakesFew}
 use Rattle.varisat_client.specs.inside.Clients.{WasGiven, CountsAmong}
 
 -- 1. Names are in range.
@@ -222,27 +222,38 @@ counts-begun s t P A n most known d B (v, none, may, like) e f k =
 pub counts-limited : (s t : State) (known : List ℕ) (u : SolverConfigUpdate) → Configures s u (Ok tt) t → CountsAmong s known → CountsAmong t known
 counts-limited s t known u (v, good, e) k = counts-same s t known (ap (λ (x : State). x.counted) e) k
 
-counts-few : (s : State) (known : List ℕ) (own since before after : ℕ) (answer : Result Bool SolverError) → CountsAmong s known →
-    CountsSteps (length s.counted) own since before after answer → after < before + 2 ^ (2 * length known + 3)
-counts-few s known own since before after answer k c =
-    let fewer = length-distinct s.counted known k.once k.within in
-    let power : 2 ^ (2 * length s.counted + 3) ≤ 2 ^ (2 * length known + 3) = pow_mono (omega (arith, fewer)) in
-    omega (arith, c.bounded.1, c.count, power)
+makes-few : (p q : Past) (s : State) (own since before : ℕ) (answer : Result Bool SolverError) → CountsAmong s p.counted →
+    CountsSteps (length s.counted) own since before q.steps answer → before ≡ p.steps → own ≡ p.limit → MakesFew p q
+makes-few p q s own since before answer k c e o =
+    let fewer = length-distinct s.counted p.counted k.once k.within in
+    let power : 2 ^ (2 * length s.counted + 3) ≤ 2 ^ (2 * length p.counted + 3) = pow_mono (omega (arith, fewer)) in record {
+      made = c.made;
+      count = c.count ∙ ap (λ n. n + c.made) e;
+      budget = subst (λ m. c.made ≤ m) o c.budget;
+      few = omega (arith, c.bounded.1, power);
+    }
 
 -- a search that came to an answer, or made none since it is known
-pub decided-few : (s t : State) (b : Bool) (known : List ℕ) (n : ℕ) → Solves by_state s (Ok b) t → CountsAmong s known → s.ledger.steps ≡ n →
-    t.ledger.steps < n + 2 ^ (2 * length known + 3)
-decided-few s t b known n r k e = go r.steps
+pub decided-few : (p q : Past) (s t : State) (b : Bool) → Solves by_state s (Ok b) t → CountsAmong s p.counted → s.ledger.steps ≡ p.steps →
+    s.ledger.settings.max_steps ≡ p.limit → t.ledger.steps ≡ q.steps → MakesFew p q
+decided-few p q s t b r k e o w = go r.steps
   where
-    go : CountsIf by_state (once_searched s) (Ok b) t → t.ledger.steps < n + 2 ^ (2 * length known + 3)
+    go : CountsIf by_state (once_searched s) (Ok b) t → MakesFew p q
     go (Decided h same told) =
-        let any : 0 ≤ 2 * length known + 3 = omega arith in
-        let some : 2 ^ 0 ≤ 2 ^ (2 * length known + 3) = pow_mono any in omega (arith, same, e, some)
-    go (Searched u c) = let few = counts-few s known _ _ _ _ _ k c in omega (arith, few, e)
+        let any : 0 ≤ 2 * length p.counted + 3 = omega arith in
+        let some : 2 ^ 0 ≤ 2 ^ (2 * length p.counted + 3) = pow_mono any in record {
+          made = 0;
+          count = omega (arith, same, e, w);
+          budget = omega arith;
+          few = omega (arith, some);
+        }
+    go (Searched u c) = makes-few p q s s.ledger.settings.max_steps s.ledger.since s.ledger.steps (Ok b) k
+        (subst (λ n. CountsSteps (length s.counted) s.ledger.settings.max_steps s.ledger.since s.ledger.steps n (Ok b)) w c) e o
 
-pub spent-few : (s t : State) (known : List ℕ) (n : ℕ) → Solves by_state s (Err Interrupted) t → CountsAmong s known → s.ledger.steps ≡ n →
-    t.ledger.steps < n + 2 ^ (2 * length known + 3)
-spent-few s t known n r k e = let few = counts-few s known _ _ _ _ _ k r.steps in omega (arith, few, e)
+pub spent-few : (p q : Past) (s t : State) → Solves by_state s (Err Interrupted) t → CountsAmong s p.counted → s.ledger.steps ≡ p.steps →
+    s.ledger.settings.max_steps ≡ p.limit → t.ledger.steps ≡ q.steps → MakesFew p q
+spent-few p q s t r k e o w = makes-few p q s s.ledger.settings.max_steps s.ledger.since s.ledger.steps (Err Interrupted) k
+    (subst (λ n. CountsSteps (length s.counted) s.ledger.settings.max_steps s.ledger.since s.ledger.steps n (Err Interrupted)) w r.steps) e o
 
 -- 6. Models and cores.
 

@@ -285,7 +285,7 @@ finds-model r g m h e q call (client.Kept list found tells set o) = λ p st.
     let to : Past = record p { model = list; steps = t.ledger.steps } in (
       to,
       past.Satisfiable found free (fitting.is-model t p.clauses p.assumed t.ledger.steps p.limit list fits (tells t stands))
-          (fitting.decided-few k.state t true p.counted p.steps solves k.counted k.fits.steps) refl,
+          (fitting.decided-few p to k.state t true solves k.counted k.fits.steps k.fits.limit refl) refl,
       stands-free h to (ap (λ (x : Client). x.refusal) o ∙ ap (λ (x : Client). x.refusal) q ∙ st.refusal) free (record {
         state = t;
         stands = subst (λ (x : Client). Represents x.solver t) (sym o) stands;
@@ -311,7 +311,7 @@ finds-core r g m h e q call (client.Kept core found tells set o) = λ p st.
     let to : Past = record p { core = core; steps = t.ledger.steps } in (
       to,
       past.Unsatisfiable found free (fitting.is-core t p.clauses p.assumed t.ledger.steps p.limit core fits named fails)
-          (fitting.decided-few k.state t false p.counted p.steps solves k.counted k.fits.steps) refl,
+          (fitting.decided-few p to k.state t false solves k.counted k.fits.steps k.fits.limit refl) refl,
       stands-free h to (ap (λ (x : Client). x.refusal) o ∙ ap (λ (x : Client). x.refusal) q ∙ st.refusal) free (record {
         state = t;
         stands = subst (λ (x : Client). Represents x.solver t) (sym o) stands;
@@ -335,7 +335,7 @@ spends-steps g h e q call p st =
     let to : Past = record p { steps = t.ledger.steps } in (
       to,
       past.Interrupted refl free (fitting.all-spent k.state t p.clauses p.assumed p.steps p.limit solves k.fits)
-          (fitting.spent-few k.state t p.counted p.steps solves k.counted k.fits.steps) refl,
+          (fitting.spent-few p to k.state t solves k.counted k.fits.steps k.fits.limit refl) refl,
       stands-free h to (ap (λ (x : Client). x.refusal) q ∙ st.refusal) free (record {
         state = t;
         stands = stands;

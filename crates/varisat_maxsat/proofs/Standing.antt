@@ -1,5 +1,6 @@
 -- How a problem that is brought down moves on.
-use Rattle.std.proofs.Common.{◌≡◌, ℕ, ◌+◌, ◌*◌, ◌<◌, ◌≤◌, max, Bool, true, false, not, if◌then◌else◌, List, [], ◌∷◌, ◌++◌, take, drop, length, get_or, append_assoc, refl, sym, ap, ◌∙◌, subst, arith}
+use Rattle.std.proofs.Common.{◌≡◌, ℕ, ◌+◌, ◌*◌, ◌^◌, ◌<◌, ◌≤◌, ◌⊎◌, ⊎_elim, max, Bool, true, false, not, if◌then◌else◌, List, [], ◌∷◌, ◌++◌, take, drop, length, get_or, append_assoc, refl, sym, ap, ◌∙◌, subst, arith}
+use Rattle.std.proofs.lemmas.Bool.{cases_lt}
 use Rattle.std.specs.Prelude.{Option, IfSome, Result, Ok, Err, IfOk}
 use Rattle.std.proofs.lemmas.List.{take_more, length-take-le, length-append}
 use Rattle.varisat_formula.specs.promises.Formulas.{Formula, with_one_more, variables_of}
@@ -257,6 +258,23 @@ pub cost-next : (a : Assignment) (ws : List ℕ) (i : ℕ) (cs ds : List Clause)
 cost-next a ws i cs ds c k m s h e f g o q =
     subst (λ x. k ≡ cost a (paired (take (i + 1) ws) x)) (sym f) (subst (λ x. k ≡ cost a x) (sym (paired-next ws i cs c h e))
     (let z = cost-append a (paired (take i ws) cs) (record { weight = get_or ws i 0; clause = c } ∷ []) in omega arith))
+
+-- with one clause more it is at most the cost of all
+pub cost-reaches : (a : Assignment) (ws : List ℕ) (cs ds : List Clause) (c : Clause) → length ws ≡ length (cs ++ c ∷ ds) →
+    cost a (paired (take (length cs) ws) cs) + (if is_satisfied a c then 0 else get_or ws (length cs) 0) ≤ cost a (paired ws (cs ++ c ∷ ds))
+cost-reaches a [] cs ds c l = absurd (let k = length-append cs (c ∷ ds) in omega arith)
+cost-reaches a (w ∷ ws) [] ds c l = omega arith
+cost-reaches a (w ∷ ws) (d ∷ cs) ds c l = let h = cost-reaches a ws cs ds c (omega arith) in omega arith
+
+pub cost-past : (a : Assignment) (ws : List ℕ) (i : ℕ) (cs ds all : List Clause) (c : Clause) (m s : ℕ) → i ≡ length cs → cs ++ (c ∷ ds) ≡ all →
+    length ws ≡ length all → s ≡ cost a (paired (take i ws) cs) → m ≡ (if is_satisfied a c then 0 else get_or ws i 0) → (s + m < 2 ^ 64 → ⊥) →
+    2 ^ 64 ≤ cost a (paired ws all)
+cost-past a ws i cs ds all c m s e f g o q n =
+    subst (λ x. 2 ^ 64 ≤ cost a (paired ws x)) f
+    (let h = cost-reaches a ws cs ds c (g ∙ ap length (sym f)) in
+    let before = o ∙ ap (λ j. cost a (paired (take j ws) cs)) e in
+    let more = q ∙ ap (λ j. if is_satisfied a c then 0 else get_or ws j 0) e in
+    ⊎_elim (λ b. absurd (n b)) (λ b. omega arith) (cases_lt (s + m) (2 ^ 64)))
 
 pub soft-next : (p : Problem) (r : Reduction) (ws : List ℕ) (i : ℕ) (cs ds : List Clause) (c : Clause) → i < length ws → i ≡ length cs → ds ≡ cs ++ c ∷ [] →
     ReducesTo (with_soft (get_or ws i 0) c (record p { soft = p.soft ++ paired (take i ws) cs })) r →

@@ -1,6 +1,7 @@
 //! Problems.
-ghost use Rattle.std.specs.Prelude.{◌≡◌, ◌++◌, ◌∷◌, [], ◌+◌, max, OnOk, OnErr, IfOk, IfSome, ◌≤◌, ◌^◌, length, if◌then◌else◌};
+ghost use Rattle.std.specs.Prelude.{◌≡◌, ◌++◌, ◌∷◌, [], ◌+◌, max, OnOk, IfOk, IfErr, IfSome, IfNone, ◌≤◌, ◌^◌, length, if◌then◌else◌};
 ghost use Rattle.varisat_formula.specs.promises.Formulas.{variables_of};
+ghost use Rattle.varisat_formula.specs.declared.formula.cnf.FormulaError.TheVariants.{Memory};
 ghost use Rattle.varisat_formula.specs.promises.Values.{assignment_of, is_satisfied};
 ghost use Rattle.varisat_maxsat.specs.promises.Problems.{Problem as Asked, starting, paired, with_hard, with_soft, cost};
 ghost use Rattle.varisat_maxsat.specs.inside.Reductions.{ReducesTo};
@@ -84,8 +85,10 @@ fn cost_of<A: Allocator + Copy>(
     values: &[bool],
 ) -> Option<u64>
     requires { length weights.now ≡ length formula.now.clauses }
-    ensures { IfSome result
+    ensures some { IfSome result
         (λ sum. sum ≡ cost (assignment_of values.now) (paired weights.now formula.now.clauses)) }
+    ensures none { IfNone result
+        (2 ^ 64 ≤ cost (assignment_of values.now) (paired weights.now formula.now.clauses)) }
 {
     let mut sum: u64 = 0;
     let mut index = 0;
@@ -124,24 +127,24 @@ impl<A: Allocator + Copy> Problem<A> {
         self.hard.set_var_count(count);
     }
 
-    /// Takes a hard clause.
+    /// Takes a hard clause. An error comes where there is no memory for it, and then nothing changes.
     pub fn add_hard(&mut self, clause: &[Lit]) -> Result<(), FormulaError>
         ensures ok { OnOk result
             (self.new
             ≡ record (with_hard clause.now self.old) { variables = max self.old.variables (variables_of clause.now) }) }
-        ensures refused { OnErr result (self.new ≡ self.old) }
+        ensures refused { IfErr result (λ e. (e ≡ Memory) × (self.new ≡ self.old)) }
     {
         self.hard.add_clause(clause)?;
         Ok(())
     }
 
-    /// Takes a soft clause with its weight.
+    /// Takes a soft clause with its weight. An error comes where there is no memory for it, and then nothing changes.
     pub fn add_soft(&mut self, weight: u64, clause: &[Lit]) -> Result<(), FormulaError>
         ensures ok { OnOk result
             (self.new
             ≡ record
             (with_soft weight clause.now self.old) { variables = max self.old.variables (variables_of clause.now) }) }
-        ensures refused { OnErr result (self.new ≡ self.old) }
+        ensures refused { IfErr result (λ e. (e ≡ Memory) × (self.new ≡ self.old)) }
     {
         self.weights.reserve(1)?;
         self.soft.add_clause(clause)?;
@@ -151,7 +154,8 @@ impl<A: Allocator + Copy> Problem<A> {
 
     /// What the values cost, if it is below 2^64.
     pub fn cost(&self, values: &[bool]) -> Option<u64>
-        ensures { IfSome result (λ sum. cost (assignment_of values.now) self.now.soft ≡ sum) }
+        ensures some { IfSome result (λ sum. cost (assignment_of values.now) self.now.soft ≡ sum) }
+        ensures none { IfNone result (2 ^ 64 ≤ cost (assignment_of values.now) self.now.soft) }
     {
         let sum = cost_of(&self.soft, &self.weights, values)?;
         Some(sum)

@@ -7,6 +7,7 @@ use Rattle.varisat_formula.specs.promises.Streams.{Input}
 use Rattle.varisat_rat.specs.declared.present.Deletion.{Deletion}
 use Rattle.varisat_rat.specs.declared.present.Deletion.TheVariants as deletion
 use Rattle.varisat_rat.specs.promises.Resolving.{IsDeletionOf}
+use Rattle.varisat_rat.proofs.RatPlaces.{pivot_is_rat}
 use Rattle.varisat_lines.specs.declared.format.Encoding.{Encoding}
 use Rattle.varisat_lines.specs.declared.format.LineKind.{LineKind}
 use Rattle.varisat_lines.specs.declared.format.LineKind.TheVariants.{Adds, Deletes, Accepts, Assumes, Fails}
@@ -32,7 +33,7 @@ follows_added P Q c r e h q = (inl (subst (IsRedundancyOf P c) e h), q)
 
 pub rat_added : (P Q : List Clause) (c : Clause) (r : Redundancy) (place : ℕ) → r ≡ why.Rat place → IsRedundancyOf P c r → Q ≡ P ++ (c ∷ []) →
     TakesDratKind P Adds c Q
-rat_added P Q c r place e h q = (inr (subst (IsRedundancyOf P c) e h), q)
+rat_added P Q c r place e h q = (inr (pivot_is_rat P c place (subst (IsRedundancyOf P c) e h)), q)
 
 pub neither_added : (P Q : List Clause) (c : Clause) (r : Redundancy) → r ≡ why.Neither → IsRedundancyOf P c r → Q ≡ P →
     IsDratStatusOf P Adds c Unproved Q

@@ -7,7 +7,7 @@ use Rattle.varisat_theory.specs.promises.Propagation.{Conflicts, Follows, IsFals
 use Rattle.varisat_theory.specs.promises.Rat.{put_unless, but_for, ResolventsFollow}
 use Rattle.varisat_theory.specs.promises.Derivations.{TakesOut}
 use Rattle.varisat_theory.proofs.clauses.Members.{∈-append_cases, ∈-append_right}
-use Rattle.varisat_theory.proofs.clauses.Places.{∈-take_more, ∈-take_all}
+use Rattle.varisat_theory.proofs.clauses.Places.{∈-take_more, ∈-take_all, ∈-get_or}
 use Rattle.varisat_plain.specs.promises.Checking.{IsAbsent, IsClauseStatus}
 use Rattle.varisat_plain.specs.declared.propagation.ClauseStatus.TheVariants.{Open}
 use Rattle.varisat_theory.proofs.clauses.Growth.{conflicts_known}
@@ -15,7 +15,7 @@ use Rattle.varisat_plain.proofs.Scans.{opposites_append, answers_true, answers_f
 use Rattle.varisat_present.specs.Places.{present, present_at}
 use Rattle.varisat_present.specs.Knowing.{AreImplied}
 use Rattle.varisat_rat.specs.inside.Asking.{Asks, IsPropagatedTo}
-use Rattle.varisat_rat.specs.promises.Resolving.{IsForced, IsRatOnSome, IsDeletionOf, ConflictsBut, AllConflict, IsResolventFound}
+use Rattle.varisat_rat.specs.promises.Resolving.{IsForced, IsRatOnSome, IsPivotPlace, IsDeletionOf, ConflictsBut, AllConflict, IsResolventFound}
 use Rattle.varisat_rat.specs.declared.present.Deletion.TheVariants.{Taken}
 use Rattle.varisat_present.proofs.KnownGrowth.{cut_back}
 use Rattle.varisat_rat.proofs.KeptLiterals.{implied_is_known}
@@ -146,8 +146,16 @@ no_pivot_more P Q c i l e f n w = λ m j r.
 pub no_pivot_all : (P : List Clause) (c : Clause) (i : ℕ) → length c ≤ i → HasNoPivot P c (take i c) → IsRatOnSome P c → ⊥
 no_pivot_all P c i h w (l, j, r) = w l (∈-take_all l c i h j) r
 
-pub pivot_found : (P Q : List Clause) (c : Clause) (l : Literal) → P ≡ Q → l ∈ c → ResolventsFollow P c l → IsRatOnSome Q c
-pivot_found P Q c l e i r = (l, i, subst (λ (x : List Clause). ResolventsFollow x c l) e r)
+pub pivot_found : (P Q : List Clause) (c : Clause) (i l : ℕ) → P ≡ Q → i < length c → l ≡ get_or c i 0 → ResolventsFollow P c l →
+    HasNoPivot Q c (take i c) → IsPivotPlace Q c i
+pivot_found P Q c i l e h f r w = record {
+  inside = h;
+  rat = subst (λ (x : List Clause). ResolventsFollow x c (get_or c i 0)) e (subst (ResolventsFollow P c) f r);
+  first = w;
+}
+
+pub pivot_is_rat : (P : List Clause) (c : Clause) (i : ℕ) → IsPivotPlace P c i → IsRatOnSome P c
+pivot_is_rat P c i p = (get_or c i 0, ∈-get_or c i 0 p.inside, p.rat)
 
 -- 5. Deletions.
 pub forced : (P Q : List Clause) (known : List Literal) (c : Clause) → P ≡ Q → AreImplied P [] known →

@@ -12,7 +12,7 @@ ghost use Rattle.varisat_present.specs.Places.{present, present_at};
 ghost use Rattle.varisat_present.specs.Pairs.{HaveLiterals};
 ghost use Rattle.varisat_present.specs.Knowing.{AreImplied};
 ghost use Rattle.varisat_rat.specs.inside.Asking.{IsSpare, Asks, Sees, Keeps, IsPropagatedTo};
-ghost use Rattle.varisat_rat.specs.promises.Resolving.{AllConflict, IsForced, IsRatOnSome, IsDeletionOf, IsResolventFound};
+ghost use Rattle.varisat_rat.specs.promises.Resolving.{AllConflict, IsForced, IsRatOnSome, IsPivotPlace, IsDeletionOf, IsResolventFound};
 
 use crate::firsts::{UNSEEN, first_of, note_all};
 use crate::index::{ClauseIndex, key_of};
@@ -610,7 +610,7 @@ impl<A: Allocator + Copy> PresentClauses<A> {
     /// The place of the first literal of the clause on which it is RAT, if there is one.
     pub fn find_pivot(&mut self, clause: &[Lit]) -> Result<Option<usize>, AllocError>
         ensures found { IfOk result
-            (λ found. MatchOption found (IsRatOnSome self.old clause.now → ⊥) (λ i. IsRatOnSome self.old clause.now)) }
+            (λ found. MatchOption found (IsRatOnSome self.old clause.now → ⊥) (IsPivotPlace self.old clause.now)) }
         ensures frame { self.new ≡ self.old }
     {
         self.stopper = UNSEEN;

@@ -21,13 +21,13 @@ use Rattle.varisat_solver.specs.promises.Calls.{by_state}
 use Rattle.varisat_solver.specs.promises.ClauseCalls.{AddsFormula, AddsDimacs}
 use Rattle.varisat_solver.specs.promises.OpenProofs.{opened_state}
 use Rattle.varisat_solver.specs.promises.ProofCalls.{IsProofIfOpen}
-use Rattle.varisat.specs.promises.Decided.{Conclusion, IsConclusion, allowed_steps}
+use Rattle.varisat.specs.promises.Decided.{Conclusion, Decided, Unknown, IsConclusion, allowed_steps}
 use Rattle.varisat.specs.promises.Proven.{prepared, Concludes, Reports, IsProvenIf, DecidesProven}
 use Rattle.varisat_solver.specs.declared.solver.SolverError.{SolverError}
 use Rattle.varisat_solver.specs.declared.solver.SolverError.TheVariants.{Interrupted, ProofIoError, OutOfMemory, Invalid, ClauseStoreFull, WitnessVar, VariableLimit, AssumedVar, ClauseAfterSolve, ProofOpen, ProofTooLate, ConfigOutOfRange, Dimacs}
 use Rattle.varisat.proofs.ProgramProves.{proven}
 use Rattle.varisat_solve.specs.inside.Extending.{named_count, conclusion_of_all}
-use Rattle.varisat_solve.specs.promises.Solving.{TakesLead, AreLow, Concluded, FailsOver, AsSearched, AsListed}
+use Rattle.varisat_solve.specs.promises.Solving.{TakesLead, AreLow, Concluded, SpendsOver, FailsOver, AsSearched, AsListed}
 use Rattle.varisat_solve.proofs.TextLiterals.{text-low}
 use Rattle.varisat_solve.proofs.LeadBehind.{proven-behind}
 use Rattle.varisat_solve.proofs.ExtendedModels.{concludes-all, none-of-all}
@@ -117,7 +117,11 @@ decides-text taken format max_steps old new f g stack lines c d target led back 
           (led-proven taken format f g stack lines c d target led back plain (parsed-low old new f p) made e takes k.proven);
     }
 
--- 4. Errors.
+-- 4. Steps that are spent, and errors.
+pub spends-over : (s : State) (P : List Clause) (c : Conclusion) (t u : State) → AddsFormula s P (Ok tt) t → Concludes t c u → SpendsOver s P c
+spends-over s P (Decided outcome) t u a f = tt
+spends-over s P Unknown t u a f = (t, u, a, f)
+
 pub fails-reported : (A : Type 0) {W : Type 0} (taken : W → Taken) (s : State) (P : List Clause) (t u : State) (e : SolverError) →
     AddsFormula s P (Ok tt) t → Reports {A = A} t (Err e) u → FailsOver taken s P e
 fails-reported A taken s P t u OutOfMemory a (inl f) = AsSearched t u a f (λ e. cc)

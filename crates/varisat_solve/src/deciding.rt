@@ -7,7 +7,7 @@ ghost use Rattle.varisat_solver.specs.inside.Representations.{Represents};
 ghost use Rattle.varisat.specs.promises.Decided.{Decided, concluded, allowed_steps};
 ghost use Rattle.varisat.specs.promises.Proven.{CanCountFault, prepared, DecidesBy};
 ghost use Rattle.varisat_solve.specs.inside.Extending.{conclusion_of_all};
-ghost use Rattle.varisat_solve.specs.promises.Solving.{AreLow, Concluded, IsRefusedText, line_refusal, TakesLead, FailsOver, FailsSimplified, FailsFirst};
+ghost use Rattle.varisat_solve.specs.promises.Solving.{AreLow, Concluded, IsRefusedText, line_refusal, TakesLead, SpendsOver, SpendsSimplified, SpendsFirst, FailsOver, FailsSimplified, FailsFirst};
 
 use crate::lines::write_history;
 use crate::models::{extend_model, named_count};
@@ -50,6 +50,9 @@ pub fn decide<W: ProofTarget, A: Allocator + Copy, S: ByteSource, E: Write, C: C
     ensures decided { IfOk result
         (λ report.
         DecidesBy W.taken options.search (S.input cnf.old) (S.input cnf.new) target.old target.new (concluded report)) }
+    ensures spent { IfOk result
+        (λ report.
+        SpendsFirst W.taken options target.old (S.input cnf.old) (S.input cnf.new) (concluded report)) }
     ensures fails { IfErr result
         (λ error. FailsFirst W.taken options target.old (S.input cnf.old) (S.input cnf.new) error) }
 {
@@ -95,6 +98,9 @@ fn decide_simplified<W: ProofTarget, A: Allocator + Copy, S: ByteSource, E: Writ
     ensures decided { IfOk result
         (λ report.
         DecidesBy W.taken options (S.input cnf.old) (S.input cnf.new) target.old target.new (concluded report)) }
+    ensures spent { IfOk result
+        (λ report.
+        SpendsSimplified W.taken options target.old (S.input cnf.old) (S.input cnf.new) (concluded report)) }
     ensures fails { IfErr result
         (λ error. FailsSimplified W.taken options target.old (S.input cnf.old) (S.input cnf.new) error) }
 {
@@ -213,6 +219,10 @@ fn decide_formula<W: ProofTarget, A: Allocator + Copy, E: Write>(
         (λ report.
         Concluded W.taken options.format (allowed_steps options.max_steps) formula.clauses target.old target.new
         (concluded report)) }
+    ensures spent { IfOk result
+        (λ report.
+        SpendsOver
+        (prepared W.taken options.format options.check options.max_steps target.old) formula.clauses (concluded report)) }
     ensures fails { IfErr result
         (λ error.
         FailsOver W.taken
@@ -249,6 +259,10 @@ fn decide_in<W: ProofTarget, A: Allocator + Copy, E: Write>(
         (λ report.
         Concluded W.taken options.format (allowed_steps options.max_steps) formula.clauses target.old target.new
         (concluded report)) }
+    ensures spent { IfOk result
+        (λ report.
+        SpendsOver
+        (prepared W.taken options.format options.check options.max_steps target.old) formula.clauses (concluded report)) }
     ensures fails { IfErr result
         (λ error.
         FailsOver W.taken

@@ -7,7 +7,7 @@ use Rattle.varisat_theory.specs.promises.Literals.{IsSatisfiable}
 use Rattle.varisat_formula.specs.promises.Streams.{Taken}
 use Rattle.varisat_formula.proofs.TargetParts.{begin_part}
 use Rattle.varisat_maxsat.specs.promises.Problems.{Problem, IsOptimumOrSolution, Found, Improve, last_found}
-use Rattle.varisat_wcnf.specs.inside.Printed.{value_digits, solution_status, solution_text, cost_line, cost_lines, PrintsText, PrintsAnswer, Solved, Unsatisfiable, Unknown}
+use Rattle.varisat_wcnf.specs.promises.Printed.{value_digits, solution_status, solution_text, cost_line, cost_lines, PrintsText, PrintsAnswer, Solved, Unsatisfiable, Unknown}
 use Rattle.varisat_wcnf.specs.inside.Costs.{PrintsCosts}
 
 digits-more : (vs : List Bool) (i : ℕ) (d : Bool) → i < length vs →
@@ -75,10 +75,10 @@ prints-no-more (Some e) f fs old new some (n, b) =
     let (m, l) = begin_part n (cost_lines fs) (cost_line f.cost) in (m, b ∙ ap (λ x. old.bytes ++ x) l)
 
 -- a text behind another one
-pub prints-behind : (before text : List ℕ) (status : ℕ) (old mid new : Taken) (r : ℕ) → mid.bytes ≡ old.bytes ++ before → PrintsText text status mid new r →
-    PrintsText (before ++ text) status old new r
-prints-behind before text status old mid new r e (inl (b, q)) = inl (b ∙ ap (λ x. x ++ text) e ∙ append_assoc old.bytes before text, q)
-prints-behind before text status old mid new r e (inr (n, b, q)) = inr (
+pub prints-behind : (before text : List ℕ) (status : ℕ) (old mid new : Taken) (r : ℕ) → mid.bytes ≡ old.bytes ++ before → mid.faults ≡ old.faults →
+    PrintsText text status mid new r → PrintsText (before ++ text) status old new r
+prints-behind before text status old mid new r e f (inl (b, g, q)) = inl (b ∙ ap (λ x. x ++ text) e ∙ append_assoc old.bytes before text, g ∙ f, q)
+prints-behind before text status old mid new r e f (inr (n, b, q)) = inr (
   length before + n,
   b ∙ ap (λ x. x ++ take n text) e ∙ append_assoc old.bytes before (take n text) ∙ ap (λ x. old.bytes ++ x) (sym (take-append-add before text n)),
   q,
@@ -90,21 +90,21 @@ found-last (g ∷ gs) f e = let h : g ≡ f = cc in (gs, ap (λ x. x ∷ gs) h)
 
 pub solved : (p : Problem) (is_optimum : Bool) (k : ℕ) (values : List Bool) (found : List Found) (old mid new : Taken) (r : ℕ) → Improve p found →
     last_found found ≡ Some (record { cost = k; values = values }) → IsOptimumOrSolution is_optimum p k values → mid.bytes ≡ old.bytes ++ cost_lines found →
-    PrintsText (solution_text is_optimum values) (solution_status is_optimum) mid new r → PrintsAnswer p old new r
-solved p is_optimum k values found old mid new r i l a e h =
+    mid.faults ≡ old.faults → PrintsText (solution_text is_optimum values) (solution_status is_optimum) mid new r → PrintsAnswer p old new r
+solved p is_optimum k values found old mid new r i l a e g h =
     let (gs, s) = found-last found (record { cost = k; values = values }) l in
     Solved is_optimum (record { cost = k; values = values }) gs (subst (Improve p) s i) a
     (prints-behind (cost_lines (record { cost = k; values = values } ∷ gs)) (solution_text is_optimum values) (solution_status is_optimum) old mid new r
-    (subst (λ fs. mid.bytes ≡ old.bytes ++ cost_lines fs) s e) h)
+    (subst (λ fs. mid.bytes ≡ old.bytes ++ cost_lines fs) s e) g h)
 
 pub unsatisfied : (p : Problem) (found : List Found) (old mid new : Taken) (r : ℕ) → (IsSatisfiable p.hard → ⊥) → found ≡ [] →
-    mid.bytes ≡ old.bytes ++ cost_lines found → PrintsText (codes "s UNSATISFIABLE\n") 20 mid new r → PrintsAnswer p old new r
-unsatisfied p found old mid new r n s e h =
-    Unsatisfiable n (prints-behind [] (codes "s UNSATISFIABLE\n") 20 old mid new r (subst (λ fs. mid.bytes ≡ old.bytes ++ cost_lines fs) s e) h)
+    mid.bytes ≡ old.bytes ++ cost_lines found → mid.faults ≡ old.faults → PrintsText (codes "s UNSATISFIABLE\n") 20 mid new r → PrintsAnswer p old new r
+unsatisfied p found old mid new r n s e g h =
+    Unsatisfiable n (prints-behind [] (codes "s UNSATISFIABLE\n") 20 old mid new r (subst (λ fs. mid.bytes ≡ old.bytes ++ cost_lines fs) s e) g h)
 
 pub unknown : (p : Problem) (found : List Found) (old mid new : Taken) (r : ℕ) → Improve p found → mid.bytes ≡ old.bytes ++ cost_lines found →
-    PrintsText (codes "s UNKNOWN\n") 0 mid new r → PrintsAnswer p old new r
-unknown p found old mid new r i e h = Unknown found i (prints-behind (cost_lines found) (codes "s UNKNOWN\n") 0 old mid new r e h)
+    mid.faults ≡ old.faults → PrintsText (codes "s UNKNOWN\n") 0 mid new r → PrintsAnswer p old new r
+unknown p found old mid new r i e g h = Unknown found i (prints-behind (cost_lines found) (codes "s UNKNOWN\n") 0 old mid new r e g h)
 
 -- printing failed
 pub broken-off : (p : Problem) (found : List Found) (old new : Taken) (r : ℕ) → Improve p found →
@@ -130,19 +130,19 @@ part-printed fault d found old new e h = subst (λ f. PrintsCosts f found old ne
 
 -- what is known by what was returned
 pub when-some : {X E F : Type 0} (r : Result (Result (Option X) E) F) (q : Result (Option X) E) (o : Option X) (x : X) (A B U : Type 0) (P : X → Type 0)
-    (Z : F → Type 0) → r ≡ Ok q → q ≡ Ok o → o ≡ Some x → MatchResult r (λ s. A × B × IfOk s (λ t. MatchOption t U P)) Z → A × P x
+    (Z : F → Type 0) → r ≡ Ok q → q ≡ Ok o → o ≡ Some x → MatchResult r (λ s. A × B × IfOk s (λ t. MatchOption t U P)) Z → A × B × P x
 when-some r q o x A B U P Z e f h m =
     let k = subst (λ y. MatchResult y (λ s. A × B × IfOk s (λ t. MatchOption t U P)) Z) e m in
-    (k.0, subst (λ y. MatchOption y U P) h (subst (λ y. IfOk y (λ t. MatchOption t U P)) f k.2))
+    (k.0, k.1, subst (λ y. MatchOption y U P) h (subst (λ y. IfOk y (λ t. MatchOption t U P)) f k.2))
 
 pub when-none : {X E F : Type 0} (r : Result (Result (Option X) E) F) (q : Result (Option X) E) (o : Option X) (A B U : Type 0) (P : X → Type 0)
-    (Z : F → Type 0) → r ≡ Ok q → q ≡ Ok o → o ≡ None → MatchResult r (λ s. A × B × IfOk s (λ t. MatchOption t U P)) Z → A × U
+    (Z : F → Type 0) → r ≡ Ok q → q ≡ Ok o → o ≡ None → MatchResult r (λ s. A × B × IfOk s (λ t. MatchOption t U P)) Z → A × B × U
 when-none r q o A B U P Z e f h m =
     let k = subst (λ y. MatchResult y (λ s. A × B × IfOk s (λ t. MatchOption t U P)) Z) e m in
-    (k.0, subst (λ y. MatchOption y U P) h (subst (λ y. IfOk y (λ t. MatchOption t U P)) f k.2))
+    (k.0, k.1, subst (λ y. MatchOption y U P) h (subst (λ y. IfOk y (λ t. MatchOption t U P)) f k.2))
 
-pub when-ok : {X F : Type 0} (r : Result X F) (q : X) (A B : Type 0) (P : X → Type 0) (Z : F → Type 0) → r ≡ Ok q → MatchResult r (λ s. A × B × P s) Z → A
-when-ok r q A B P Z e m = let k = subst (λ y. MatchResult y (λ s. A × B × P s) Z) e m in k.0
+pub when-ok : {X F : Type 0} (r : Result X F) (q : X) (A B : Type 0) (P : X → Type 0) (Z : F → Type 0) → r ≡ Ok q → MatchResult r (λ s. A × B × P s) Z → A × B
+when-ok r q A B P Z e m = let k = subst (λ y. MatchResult y (λ s. A × B × P s) Z) e m in (k.0, k.1)
 
 pub when-err : {X F : Type 0} (r : Result X F) (e : F) (P : X → Type 0) (Z : F → Type 0) → r ≡ Err e → MatchResult r P Z → Z e
 when-err r e P Z h m = subst (λ y. MatchResult y P Z) h m

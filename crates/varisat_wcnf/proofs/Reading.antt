@@ -15,7 +15,7 @@ use Rattle.varisat_formula.specs.inside.Machine.{after_digit, digits_from, says,
 use Rattle.varisat_formula.proofs.TokenBytes.{number_agrees, meaning_agrees, capped}
 use Rattle.varisat_wcnf.specs.declared.wcnf.WcnfFault.{WcnfFault}
 use Rattle.varisat_wcnf.specs.declared.wcnf.WcnfError.{WcnfError}
-use Rattle.varisat_wcnf.specs.inside.Texts.{WcnfReading, words, below_limit, clause_from, after_line, at_line, after_lines}
+use Rattle.varisat_wcnf.specs.promises.Texts.{WcnfReading, words, below_limit, clause_from, after_line, at_line, after_lines}
 
 -- a text is cut at the first picked byte
 pub cut_at : (p : ℕ → Bool) (text : List ℕ) (i : ℕ) → i < length text → HoldsAt (λ b. p b ≡ true) text i → AllWithin (λ b. p b ≡ false) text 0 i →

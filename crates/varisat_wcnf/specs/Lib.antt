@@ -1,1 +1,2 @@
+pub mod promises
 pub mod inside

@@ -1,4 +1,2 @@
--- What contracts cite of texts. No promise to users rests on these definitions.
-pub mod Texts
-pub mod Printed
+-- What contracts inside of the program cite. No promise to users rests on these definitions.
 pub mod Costs

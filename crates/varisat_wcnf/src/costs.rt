@@ -1,7 +1,7 @@
 //! Prints the cost of each solution as it is found.
 ghost use Rattle.std.specs.Prelude.{◌≡◌, ℕ, ◌-◌, ◌<◌, ◌^◌, ◌++◌, List, Some, take, OnOk, OnErr, MatchResult};
 ghost use Rattle.varisat_maxsat.specs.promises.Problems.{Found, Improve};
-ghost use Rattle.varisat_wcnf.specs.inside.Printed.{cost_line, cost_lines};
+ghost use Rattle.varisat_wcnf.specs.promises.Printed.{cost_line, cost_lines};
 ghost use Rattle.varisat_wcnf.specs.inside.Costs.{PrintsCosts, ReturnsLast};
 
 use itoa::Buffer;

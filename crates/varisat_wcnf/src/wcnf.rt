@@ -3,7 +3,7 @@ ghost use Rattle.std.specs.Prelude.{◌≡◌, ◌≤◌, ◌<◌, ◌^◌, ◌�
 ghost use Rattle.std.specs.List.{slice_split};
 ghost use Rattle.varisat_formula.specs.promises.Dimacs.{is_line_feed, is_blank, meaning, number};
 ghost use Rattle.varisat_maxsat.specs.promises.Problems.{Problem as Asked, with_hard, with_soft};
-ghost use Rattle.varisat_wcnf.specs.inside.Texts.{WcnfReading, words, below_limit, clause_of, heading_by, top_of, heading_of, after_heading, after_clause, after_weight, after_line, is_hard, wcnf};
+ghost use Rattle.varisat_wcnf.specs.promises.Texts.{WcnfReading, words, below_limit, clause_of, heading_by, top_of, heading_of, after_heading, after_clause, after_weight, after_line, is_hard, wcnf};
 ghost use Rattle.varisat_wcnf.specs.declared.wcnf.WcnfFault.TheVariants.{OutOfMemory, End};
 
 use std::alloc::Allocator;
@@ -60,7 +60,7 @@ struct Reader<A: Allocator + Copy> {
 }
 
 impl<A: Allocator + Copy> Model for Reader<A> {
-    ghost use Rattle.varisat_wcnf.specs.inside.Texts as texts;
+    ghost use Rattle.varisat_wcnf.specs.promises.Texts as texts;
 
     ghost Value = { texts.WcnfReading };
 

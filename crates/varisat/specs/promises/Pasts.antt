@@ -74,8 +74,8 @@ MayReturnModel p None = p.verdict.has_model ≡ false
 MayReturnModel p (Some model) =
     (p.verdict.has_model ≡ true) × IsCompletable p.naming p.clauses p.assumptions p.counted model
 
--- A core is returned where `solve` returned false last: literals of names in use, which these carry to some of the assumptions that no
--- assignment makes true together with the clauses.
+-- None is returned only where `solve` did not return false last, and a core only where a model was not found last: literals of names in
+-- use, which these carry to some of the assumptions that no assignment makes true together with the clauses.
 abbrev pub MayReturnCore : Past → Option (List Literal) → Type 0
 MayReturnCore p None = p.verdict.has_core ≡ false
 MayReturnCore p (Some core) =

@@ -128,6 +128,14 @@ DecidesWithStatus taken o old new target back status =
     (conclusion : Conclusion) × DecidesBy taken o old new target back conclusion
     × (status ≡ conclusion_status conclusion)
 
+-- Nothing is found out only where the search of the text's clauses made all its steps, in a new solver that has settings, a checker and a
+-- proof as the options ask.
+abbrev pub SpendsSteps : {W : Type 0} → (W → Taken) → SolveOptions → Option W → Input → Input → Conclusion → Type 0
+SpendsSteps taken o target old new (Decided outcome) = Unit {0}
+SpendsSteps taken o target old new Unknown =
+    (t : State) × (u : State) × AddsDimacs (prepared taken o.format o.check o.max_steps target) old (Ok tt) new t
+    × Solves by_state t (Err Interrupted) u
+
 -- deciding the text fails with the error, by a new solver that has settings, a checker and a proof as the options ask
 abbrev pub FailsBy : {W : Type 0} → (W → Taken) → SolveOptions → Option W → Input → Input → SolverError → Type 0
 FailsBy taken o target old new e = Fails taken (prepared taken o.format o.check o.max_steps target) old new e
@@ -144,4 +152,4 @@ abbrev pub SolvesText : {W : Type 0} → (W → Taken) → SolveOptions → Inpu
 SolvesText taken o old new target back before printed status =
     ((error : SolverError) × FailsBy taken o target old new error × (status ≡ fault_status) × (printed ≡ before))
     ⊎ ((conclusion : Conclusion) × DecidesBy taken o old new target back conclusion
-    × Prints conclusion status before printed)
+    × SpendsSteps taken o target old new conclusion × Prints conclusion status before printed)

@@ -1,5 +1,5 @@
 -- What the calls of a client and their answers say so far, and how a call moves it: no state of the solver is spoken of.
-use Rattle.std.specs.Prelude.{◌≡◌, ◌≢◌, ◌⊎◌, ℕ, ◌+◌, ◌-◌, ◌*◌, ◌^◌, ◌<◌, ℤ, pos, negsuc, ◌-ℤ◌, Bool, true, false, Option, Some, None, List, [], ◌∷◌, ◌++◌, length, map}
+use Rattle.std.specs.Prelude.{◌≡◌, ◌≢◌, ◌⊎◌, ℕ, ◌+◌, ◌-◌, ◌*◌, ◌^◌, ◌<◌, ◌≤◌, ℤ, pos, negsuc, ◌-ℤ◌, Bool, true, false, Option, Some, None, List, [], ◌∷◌, ◌++◌, length, map}
 use Rattle.varisat_theory.specs.promises.Membership.{◌∈◌, ◌⊆◌}
 use Rattle.varisat_theory.specs.promises.Literals.{Literal, Clause, Assignment, variable_of, opposite, SatisfiesAll, MakesTrue, IsFailedCore}
 use Rattle.varisat_literals.specs.promises.Numbers.{literal_numbered}
@@ -96,9 +96,12 @@ pub record IsFoundModel (clauses : List Clause) (assumed model : List Literal) :
   pub whole : (c : Clause) (l : Literal) → c ∈ clauses → l ∈ c → (l ∈ model) ⊎ (opposite l ∈ model)
   pub assumed_too : assumed ⊆ model
 
--- a search makes few steps for so many variables
-abbrev pub MakesFew : Past → Past → Type 0
-MakesFew p q = q.steps < p.steps + 2 ^ (2 * length p.counted + 3)
+-- A search makes no more steps than it may, and few for so many variables.
+pub record MakesFew (p q : Past) : Type 0 where
+  pub made : ℕ
+  pub count : q.steps ≡ p.steps + made
+  pub budget : made ≤ p.limit
+  pub few : made < 2 ^ (2 * length p.counted + 3)
 
 -- How a search ends: Satisfiable with a model of the clauses that makes the assumptions true; Unsatisfiable where no assignment
 -- satisfies the clauses and makes them true, with some of them for which it is so already; Interrupted where it made all the steps

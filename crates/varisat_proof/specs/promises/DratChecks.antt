@@ -4,7 +4,7 @@ use Rattle.varisat_theory.specs.promises.Literals.{Clause}
 use Rattle.varisat_theory.specs.promises.Propagation.{Follows}
 use Rattle.varisat_theory.specs.promises.Derivations.{TakesOut}
 use Rattle.varisat_plain.specs.promises.Checking.{IsAbsent}
-use Rattle.varisat_rat.specs.promises.Resolving.{IsForced, IsRatOnSome}
+use Rattle.varisat_rat.specs.promises.Resolving.{IsForced, IsRatOnSome, IsPivotPlace}
 use Rattle.varisat_lines.specs.declared.format.LineKind.{LineKind}
 use Rattle.varisat_lines.specs.declared.format.LineKind.TheVariants.{Adds, Deletes}
 use Rattle.varisat_lines.specs.declared.format.ProofFormat.{ProofFormat}
@@ -62,7 +62,7 @@ rules_of mode.Drat = drat_rules
 -- why a clause may be added, or that it may not
 abbrev pub IsRedundancyOf : List Clause → Clause → Redundancy → Type 0
 IsRedundancyOf P c why.Follows = Follows P c
-IsRedundancyOf P c (why.Rat place) = IsRatOnSome P c
+IsRedundancyOf P c (why.Rat place) = IsPivotPlace P c place
 IsRedundancyOf P c why.Neither = IsNeither P c
 
 -- a line is taken, or it is wrong and nothing changes

@@ -1,5 +1,5 @@
 -- What questions of RAT find, and what becomes of deletions that may be passed over.
-use Rattle.std.specs.Prelude.{◌≡◌, ◌⊎◌, ℕ, Bool, true, false, List, [], ◌++◌, Option, Some, Vec, ◌<◌, ◌≤◌, slice_index_or}
+use Rattle.std.specs.Prelude.{◌≡◌, ◌⊎◌, ℕ, Bool, true, false, List, [], ◌++◌, Option, Some, Vec, ◌<◌, ◌≤◌, length, take, slice_index_or}
 use Rattle.varisat_theory.specs.promises.Membership.{◌∈◌, SameSet}
 use Rattle.varisat_theory.specs.promises.Literals.{Literal, Clause, opposite, opposites}
 use Rattle.varisat_theory.specs.promises.Propagation.{Conflicts}
@@ -24,6 +24,12 @@ IsDeletionOf P c Absent Q = IsAbsent P c × (Q ≡ P)
 -- RAT on one of its literals
 abbrev pub IsRatOnSome : List Clause → Clause → Type 0
 IsRatOnSome P c = (l : Literal) × (l ∈ c) × ResolventsFollow P c l
+
+-- The place is that of the first literal of the clause on which it is RAT.
+pub record IsPivotPlace (P : List Clause) (c : Clause) (place : ℕ) : Type 0 where
+  pub inside : place < length c
+  pub rat : ResolventsFollow P c (slice_index_or c place 0)
+  pub first : (l : Literal) → l ∈ take place c → ResolventsFollow P c l → ⊥
 
 -- propagation from the base conflicts, with the other literals of the clause taken as false
 abbrev pub ConflictsBut : List Clause → List Literal → Literal → Clause → Type 0

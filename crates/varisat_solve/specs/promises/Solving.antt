@@ -19,8 +19,8 @@ use Rattle.varisat_solver.specs.promises.States.{State}
 use Rattle.varisat_solver.specs.promises.Calls.{Solves, by_state}
 use Rattle.varisat_solver.specs.promises.ClauseCalls.{AddsFormula}
 use Rattle.varisat_solver.specs.promises.ProofCalls.{ClosesProof}
-use Rattle.varisat.specs.promises.Decided.{Conclusion, IsConclusion, IsModel}
-use Rattle.varisat.specs.promises.Proven.{prepared, Concludes, IsProvenIf, DecidesBy, FailsBy, Prints}
+use Rattle.varisat.specs.promises.Decided.{Conclusion, Decided, Unknown, IsConclusion, IsModel}
+use Rattle.varisat.specs.promises.Proven.{prepared, Concludes, IsProvenIf, DecidesBy, SpendsSteps, FailsBy, Prints}
 use Rattle.varisat.specs.declared.deciding.SolveOptions.{SolveOptions}
 use Rattle.varisat_solver.specs.declared.solver.SolverError.{SolverError}
 use Rattle.varisat_solver.specs.declared.solver.SolverError.TheVariants.{Interrupted, OutOfMemory, ProofIoError, Dimacs}
@@ -64,6 +64,11 @@ pub record Concluded {W : Type 0} (taken : W → Taken) (format : ProofFormat) (
   pub found : IsConclusion max_steps P conclusion
   pub proven : IsProvenIf taken format P conclusion target back
 
+-- Nothing is found out only where a solver in the state s took the clauses in, and its search made all its steps.
+abbrev pub SpendsOver : State → List Clause → Conclusion → Type 0
+SpendsOver s P (Decided outcome) = Unit {0}
+SpendsOver s P Unknown = (t : State) × (u : State) × AddsFormula s P (Ok tt) t × Solves by_state t (Err Interrupted) u
+
 -- When deciding clauses fails with the error, where the solver was in the state s before: as it takes them in; as it searches, or
 -- as a model is listed; or as its proof is closed.
 pub data FailsOver {W : Type 0} (taken : W → Taken) (s : State) (P : List Clause) (e : SolverError) : Type 0 where
@@ -94,11 +99,25 @@ pub data FailsSimplified {W : Type 0} (taken : W → Taken) (o : SolveOptions) (
       (model : List Literal) →
       IsModel m.into.clauses model → e ≡ OutOfMemory → FailsSimplified taken o target old new e
 
+-- Nothing is found out of a text whose formula is simplified first only where the search of what that is made into made all its steps, in a
+-- new solver behind the lines that lead to it.
+abbrev pub SpendsSimplified : {W : Type 0} → (W → Taken) → SolveOptions → Option W → Input → Input → Conclusion → Type 0
+SpendsSimplified taken o target old new (Decided outcome) = Unit {0}
+SpendsSimplified {W} taken o target old new Unknown =
+    (m : Made old new) × (led : Option W) × TakesLead taken o.format target m.lines (Ok tt) led
+    × SpendsOver (prepared taken o.format o.check o.max_steps led) m.into.clauses Unknown
+
 -- The formula is simplified first, if that is wanted, and unless a proof has lines for the clauses of the text.
 abbrev pub FailsFirst : {W : Type 0} → (W → Taken) → ProgramOptions → Option W → Input → Input → SolverError → Type 0
 FailsFirst taken o target old new e =
     FailsBy taken o.search target old new e
     ⊎ ((o.simplify ≡ true) × (has_marks o.search.format ≡ false) × FailsSimplified taken o.search target old new e)
+
+-- the steps are spent where nothing is found out, on the text's formula or on what it is made into
+abbrev pub SpendsFirst : {W : Type 0} → (W → Taken) → ProgramOptions → Option W → Input → Input → Conclusion → Type 0
+SpendsFirst taken o target old new conclusion =
+    SpendsSteps taken o.search target old new conclusion
+    ⊎ ((o.simplify ≡ true) × (has_marks o.search.format ≡ false) × SpendsSimplified taken o.search target old new conclusion)
 
 -- What the program's `solve` comes to: deciding fails, nothing is printed, and the status is that of a fault; or the text is decided, with a
 -- proof from its own clauses, and the conclusion for these is printed.
@@ -107,4 +126,4 @@ abbrev pub SolvesFirst : {W : Type 0} → (W → Taken) → ProgramOptions → I
 SolvesFirst taken o old new target back before printed status =
     ((error : SolverError) × FailsFirst taken o target old new error × (status ≡ fault_status) × (printed ≡ before))
     ⊎ ((conclusion : Conclusion) × DecidesBy taken o.search old new target back conclusion
-    × Prints conclusion status before printed)
+    × SpendsFirst taken o target old new conclusion × Prints conclusion status before printed)

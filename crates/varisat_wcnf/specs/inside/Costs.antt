@@ -4,7 +4,7 @@ use Rattle.std.proofs.Common.{sym, append-nil}
 use Rattle.varisat_formula.specs.promises.Streams.{Taken}
 use Rattle.varisat_theory.specs.promises.Literals.{IsSatisfiable}
 use Rattle.varisat_maxsat.specs.promises.Problems.{Problem, Found, IsOptimumOrSolution, last_found}
-use Rattle.varisat_wcnf.specs.inside.Printed.{cost_lines}
+use Rattle.varisat_wcnf.specs.promises.Printed.{cost_lines}
 
 -- they were printed; or a beginning of them, once there was a fault
 abbrev pub PrintsCosts : {E : Type 0} → Option E → List Found → Taken → Taken → Type 0

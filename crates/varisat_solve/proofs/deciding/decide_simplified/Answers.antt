@@ -2,7 +2,7 @@
 use Rattle.varisat_steps.proofs.Broken.{passed-on}
 use Rattle.varisat.specs.promises.Decided.{concluded}
 use Rattle.varisat_solve.specs.promises.Solving.{FailsSimplified, AsParsed, AsSimplified, AsLed, AsDecided}
-use Rattle.varisat_solve.proofs.SimplifiedTexts.{low-made, made-of, decided-by, extended-fails}
+use Rattle.varisat_solve.proofs.SimplifiedTexts.{low-made, made-of, decided-by, spends-simplified, extended-fails}
 use Rattle.varisat_solve.proofs.deciding.decide_simplified.Goals as goal
 
 pub returns-in-Err-clause-fails : goal.returns-in-Err-clause-fails
@@ -47,3 +47,9 @@ returns-clause-decided g c =
     (concluded c.in_ok-report-2.report) c.args.target.now c.write_lead.new.target c.decide_formula.new.target c.requires.plain c.in-Ok.ensures
     c.in_ok-made.ensures.made c.named_count-count.ensures.count c.in_ok-report-2.ensures.extended c.in_ok-write_lead.ensures.led
     c.in_ok-report.ensures.decided
+
+pub returns-clause-spent : goal.returns-clause-spent
+returns-clause-spent g c =
+    spends-simplified g.W.ProofTarget.taken c.args.options _ _ _ _ _ _ _ (concluded c.in_ok-report.report) (concluded c.in_ok-report-2.report)
+    c.args.target.now c.write_lead.new.target c.in-Ok.ensures c.in_ok-made.ensures.made c.in_ok-report-2.ensures.extended
+    c.in_ok-write_lead.ensures.led c.in_ok-report.ensures.spent

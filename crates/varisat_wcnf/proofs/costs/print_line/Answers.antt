@@ -1,6 +1,6 @@
 use Rattle.std.proofs.Common.{◌∙◌, ◌++◌, ap}
 use Rattle.std.specs.Prelude.{codes, decimal}
-use Rattle.varisat_wcnf.specs.inside.Printed.{cost_line}
+use Rattle.varisat_wcnf.specs.promises.Printed.{cost_line}
 use Rattle.varisat_wcnf.proofs.Printing.{begun-first, begun-second, begun-whole, begun-so, on-err, joins}
 use Rattle.varisat_wcnf.proofs.costs.print_line.Goals as goal
 

@@ -1,5 +1,5 @@
 use Rattle.std.proofs.Common.{◌≡◌, ◌++◌, take}
-use Rattle.varisat_wcnf.specs.inside.Printed.{value_digits}
+use Rattle.varisat_wcnf.specs.promises.Printed.{value_digits}
 use Rattle.varisat_wcnf.proofs.program.put_values.Given as goal
 
 abbrev pub invariant-loop-value : goal.invariant-loop-value

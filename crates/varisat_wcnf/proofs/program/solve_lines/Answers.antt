@@ -1,5 +1,5 @@
 use Rattle.std.proofs.Common.{refl, subst}
-use Rattle.varisat_wcnf.specs.inside.Printed.{PrintsAnswer, Read, Refused}
+use Rattle.varisat_wcnf.specs.promises.Printed.{PrintsAnswer, Read, Refused}
 use Rattle.varisat_wcnf.proofs.program.solve_lines.Goals as goal
 
 pub returns-in-Ok : goal.returns-in-Ok

@@ -1,5 +1,5 @@
 use Rattle.std.proofs.Common.{◌≡◌, ◌+◌, ◌≤◌, length, Ok}
-use Rattle.varisat_wcnf.specs.inside.Texts.{after_lines, wcnf}
+use Rattle.varisat_wcnf.specs.promises.Texts.{after_lines, wcnf}
 use Rattle.varisat_wcnf.proofs.Reading.{lines_left, bytes_left}
 use Rattle.varisat_wcnf.proofs.wcnf.parse.Given as goal
 

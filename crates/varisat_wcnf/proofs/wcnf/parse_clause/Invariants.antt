@@ -1,6 +1,6 @@
 use Rattle.std.proofs.Common.{◌≡◌, map, length}
 use Rattle.varisat_formula.specs.promises.Dimacs.{meaning}
-use Rattle.varisat_wcnf.specs.inside.Texts.{words, clause_from, clause_of}
+use Rattle.varisat_wcnf.specs.promises.Texts.{words, clause_from, clause_of}
 use Rattle.varisat_wcnf.proofs.wcnf.parse_clause.Given as goal
 
 abbrev pub decreases-words : goal.decreases-words

@@ -5,7 +5,7 @@ use Rattle.varisat_formula.specs.promises.Streams.{Taken}
 use Rattle.varisat_maxsat.specs.promises.Problems.{Problem, IsOptimumOrSolution, Found, Improve}
 use Rattle.varisat_wcnf.specs.declared.wcnf.WcnfFault.TheVariants.{OutOfMemory}
 use Rattle.varisat_wcnf.specs.declared.wcnf.WcnfError.{WcnfError}
-use Rattle.varisat_wcnf.specs.inside.Texts.{WcnfReading, wcnf}
+use Rattle.varisat_wcnf.specs.promises.Texts.{WcnfReading, wcnf}
 
 -- a digit for each value
 abbrev pub value_digits : List Bool → List ℕ
@@ -33,10 +33,10 @@ abbrev pub cost_lines : List Found → List ℕ
 cost_lines [] = []
 cost_lines (f ∷ fs) = cost_lines fs ++ cost_line f.cost
 
--- The text was printed, with this status; or a beginning of it, with the status of a fault.
+-- The text was printed, with this status, and no call of the target failed; or a beginning of it, with the status of a fault.
 abbrev pub PrintsText : List ℕ → ℕ → Taken → Taken → ℕ → Type 0
 PrintsText text status old new result =
-    ((new.bytes ≡ old.bytes ++ text) × (result ≡ status))
+    ((new.bytes ≡ old.bytes ++ text) × (new.faults ≡ old.faults) × (result ≡ status))
     ⊎ ((n : ℕ) × (new.bytes ≡ old.bytes ++ take n text) × (result ≡ 2))
 
 -- What is printed of a problem: the costs of solutions, each less than the one before it, and the last one as an optimum, or as

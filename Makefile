@@ -15,7 +15,9 @@ COMPLETIONS = $(PREFIX)/share/bash-completion/completions
 # Prints the file of the program that is to be installed, built where that is due.
 WHICH = ./varisat $(if $(UNPROVED),,--prove) --which
 
-LIBRARY = $(MAKE) -C contrib/c UNPROVED='$(UNPROVED)' PREFIX='$(PREFIX)' DESTDIR='$(DESTDIR)'
+# It works in another folder, where a relative DESTDIR would be another one.
+LIBRARY = $(MAKE) -C contrib/c UNPROVED='$(UNPROVED)' PREFIX='$(PREFIX)' \
+  DESTDIR='$(if $(filter-out /%,$(firstword $(DESTDIR))),$(CURDIR)/)$(DESTDIR)'
 
 # What is installed, each part by a target of its own.
 PARTS = program library
@@ -42,12 +44,14 @@ uninstall-program:
 	-rmdir '$(DESTDIR)$(LIBEXEC)'
 
 build-library:
-	$(LIBRARY) all
+	+$(LIBRARY) all
 
 install-library:
-	$(LIBRARY) install
+	+$(LIBRARY) install
 
 uninstall-library:
-	$(LIBRARY) uninstall
+	+$(LIBRARY) uninstall
 
+# Both would prove the crates below at once.
+.NOTPARALLEL:
 .PHONY: all install uninstall $(PARTS:%=build-%) $(PARTS:%=install-%) $(PARTS:%=uninstall-%)

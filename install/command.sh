@@ -5,8 +5,8 @@ cat <<END
 set -eu
 END
 sed 1d install/start.sh
-case $2 in
-  */unproved-*)
+case ${2##*/} in
+  unproved-*)
     cat <<'END'
 
 case ${1-} in

@@ -83,6 +83,13 @@ is_newest() {
   [ -z "$newer" ]
 }
 
+# Puts the file $1 to $2 in one step, as it may come from another file system. What was edited since the file $3 is newer.
+put_built() {
+  cp "$1" "$2.new" && touch -r "$3" "$2.new" && mv "$2.new" "$2" && return
+  rm -f "$2.new"
+  stop "no place for $2"
+}
+
 # Of the crates that the crate $1 is built from, the search and those above it. Each of them uses most that come before.
 last_crates() {
   crates "$1" | grep -xF "$(awk '
@@ -166,6 +173,8 @@ tell_progress() {
 # Proves the crate $1 and those below it in the new folder $2. What is printed by that goes to the file $3.
 prove_target() {
   exec </dev/null >/dev/null
+  # It works behind the terminal, which may stop those that write from there.
+  trap '' TTOU
   set_jobs
   mkdir "$2" && cd "$2" || return
   prove_all "$1" 2>&1 | tee "$3" | tell_progress "$1"

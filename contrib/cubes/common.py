@@ -14,6 +14,13 @@ def stop(why):
     sys.exit(2)
 
 
+def positive(text):
+    """A number above 0; argparse ends with 2 where it is none."""
+    if int(text) < 1:
+        raise ValueError
+    return int(text)
+
+
 def program():
     """The program varisat: what VARISAT names, or what stands beside the scripts, or what the checkout built."""
     built = HERE.parent.parent / "crates/varisat_cli/out/varisat_cli"
@@ -89,7 +96,10 @@ def split(folder, count, cube=()):
 
 
 def write_cubes(path, cubes):
-    path.write_text("".join(f"a {write_line(cube)}\n" for cube in cubes))
+    # In one step: where this is interrupted the file before stays.
+    part = path.with_name(path.name + ".part")
+    part.write_text("".join(f"a {write_line(cube)}\n" for cube in cubes))
+    os.replace(part, path)
 
 
 def write_batches(folder, cubes, size):

@@ -75,6 +75,12 @@ class Calls(unittest.TestCase):
             self.assertRaises(TypeError, solver.add_clause, ["a"])
             self.assertRaises(OverflowError, solver.add_clause, [1 << 40])
             self.assertRaises(VarisatError, solver.add_clause, [1 << 29])
+            # Numbers that ctypes would cut.
+            for call in (solver.hide_var, solver.witness_var, solver.sample_var):
+                self.assertRaises(OverflowError, call, (1 << 32) + 1)
+            self.assertRaises(OverflowError, solver.solve, steps=-1)
+        self.assertRaises(OverflowError, Solver, reduce_locals_interval=-1)
+        self.assertRaises(OverflowError, Simplifier, frozen=[(1 << 32) + 1])
         self.assertRaises(VarisatError, Solver, vsids_decay=3)
         self.assertRaises(TypeError, Solver, vsids_decai=900)
         with self.assertRaises(MemoryError):
@@ -107,8 +113,20 @@ class Calls(unittest.TestCase):
                 solver.close_proof()
             self.assertTrue(check_proof(text, target.getvalue(), format))
             self.assertRaises(VarisatError, check_proof, b"1 2 0", target.getvalue(), format)
+            self.assertEqual(self.proof_in_pieces(clauses, format), target.getvalue())
         with open("/dev/full", "wb", buffering=0) as target, Solver(proof=target) as solver:
             self.assertRaises(OSError, solver.append_formula, [[1], [2, 1, 2]])
+
+    def proof_in_pieces(self, clauses, format):
+        """The proof by a target that takes a few bytes at a time."""
+        class Slow(io.BytesIO):
+            def write(self, piece):
+                return super().write(piece[:1000])
+
+        with Solver(clauses, proof=(target := Slow()), format=format) as solver:
+            solver.solve()
+            solver.close_proof()
+        return target.getvalue()
 
     def test_texts(self):
         with Solver(self_check=True) as solver:

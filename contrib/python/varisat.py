@@ -104,6 +104,11 @@ def _numbers_of(formula: Iterable[Iterable[int]]) -> tuple[array, int]:
     return numbers, count
 
 
+def _fit(kind: str, value: int) -> int:
+    """The number, where C's type holds it, else OverflowError: ctypes would cut it."""
+    return array(kind, [value])[0]
+
+
 class Solver:
     """A solver of growing formulas. MemoryError and VarisatError are refusals."""
 
@@ -111,10 +116,12 @@ class Solver:
                  proof: Optional[_Writer] = None, format: str = "drat", self_check: bool = False, **settings: int):
         """bootstrap_with: clauses. heap_limit: bytes of memory that it may take. for_file: settings for one long search, else those of
         SETTINGS. proof: what has a method `write` gets a proof, in the format drat, binary or marked. self_check: a checker runs inside."""
-        self._solver = _lib.varisat_new(heap_limit)
+        self._solver = _lib.varisat_new(_fit("Q", heap_limit))
         if not self._solver:
             raise MemoryError
         self._target, self._written = proof, None
+        # How many of the bytes that are written the target took.
+        self._handed = 0
         self._status: Optional[bool] = None
         self._clauses = self._top = 0
         self._budget: Optional[int] = None
@@ -125,7 +132,7 @@ class Solver:
         for name, value in settings.items():
             if name not in SETTINGS:
                 raise TypeError(f"there is no setting {name}")
-            self._done(_lib.varisat_set(self._solver, SETTINGS.index(name), value))
+            self._done(_lib.varisat_set(self._solver, SETTINGS.index(name), _fit("Q", value)))
         if proof is not None:
             # The library writes here, and after each call what stands here goes on: Python code that it called could be interrupted.
             self._written = tempfile.TemporaryFile(buffering=0)
@@ -137,10 +144,15 @@ class Solver:
 
     def _hand_on(self) -> None:
         size = self._written.tell()
+        # A file without a buffer may take a part.
+        while self._handed < size:
+            piece = os.pread(self._written.fileno(), size - self._handed, self._handed)
+            taken = self._target.write(piece)
+            self._handed += len(piece) if taken is None else taken
         if size:
-            self._target.write(os.pread(self._written.fileno(), size, 0))
             self._written.seek(0)
             self._written.truncate()
+            self._handed = 0
 
     def _done(self, answer: int) -> int:
         # The call of another thread is under way, and writes to the file.
@@ -193,6 +205,7 @@ class Solver:
         """Are the clauses satisfiable under the assumptions? None where so many steps are spent, interrupt() was called, or the function
         of set_terminate said so: the next call goes on. Ctrl-C ends it too, and the solver stays as it is."""
         numbers = array("i", assumptions)
+        steps = None if steps is None else _fit("Q", steps)
         address, size = numbers.buffer_info()
         self._status = None
         self._done(_lib.varisat_assume(self._solver, address, size))
@@ -262,15 +275,15 @@ class Solver:
 
     def witness_var(self, variable: int) -> None:
         """Makes it a witness, which no clause and no assumption names."""
-        self._done(_lib.varisat_witness_var(self._solver, variable))
+        self._done(_lib.varisat_witness_var(self._solver, _fit("i", variable)))
 
     def sample_var(self, variable: int) -> None:
         """Lets clauses and assumptions name it again."""
-        self._done(_lib.varisat_sample_var(self._solver, variable))
+        self._done(_lib.varisat_sample_var(self._solver, _fit("i", variable)))
 
     def hide_var(self, variable: int) -> None:
         """Frees its name; the variable lives on in the clauses."""
-        self._done(_lib.varisat_hide_var(self._solver, variable))
+        self._done(_lib.varisat_hide_var(self._solver, _fit("i", variable)))
 
     def observe_internal_vars(self) -> List[int]:
         """Brings hidden variables back as witnesses, and returns their names."""
@@ -290,11 +303,13 @@ class Solver:
 
     def delete(self) -> None:
         """Frees the memory, as the end of a `with` does."""
-        if self._solver:
-            _lib.varisat_free(self._solver)
-            self._solver = None
+        # While another thread's call is under way it writes to the file.
+        if self._solver and _lib.varisat_free(self._solver) == _BUSY:
+            raise VarisatError(_BUSY, "Another call of this solver is under way")
+        self._solver = None
         if self._written:
             self._written.close()
+            self._written = None
 
     def __del__(self) -> None:
         # What was not begun has no solver.
@@ -314,7 +329,7 @@ class Simplifier:
 
     def __init__(self, clauses: Iterable[Iterable[int]] = (), frozen: Iterable[int] = (), heap_limit: int = 0):
         """clauses: as of append_formula. frozen: variables. heap_limit: bytes of memory that it may take."""
-        self._simplifier = _lib.varisat_simplifier_new(heap_limit)
+        self._simplifier = _lib.varisat_simplifier_new(_fit("Q", heap_limit))
         if not self._simplifier:
             raise MemoryError
         self.append_formula(clauses)
@@ -339,7 +354,7 @@ class Simplifier:
 
     def freeze(self, variable: int) -> None:
         """Has the variable stay."""
-        self._done(_lib.varisat_simplifier_freeze(self._simplifier, variable))
+        self._done(_lib.varisat_simplifier_freeze(self._simplifier, _fit("i", variable)))
 
     def simplify(self) -> List[List[int]]:
         """Simplifies all clauses, once, and returns those that are left."""

@@ -2,6 +2,8 @@
 #include "../varisat.h"
 
 #include <pthread.h>
+#include <stdatomic.h>
+#include <stdbool.h>
 #include <stdio.h>
 #include <stdlib.h>
 #include <string.h>
@@ -268,14 +270,17 @@ static void *solve_own(void *data) {
     return NULL;
 }
 
+/* Whether the search has ended, and whether a call was refused in it. */
+static atomic_bool searched;
+static bool disturbed;
+
 static void *disturb(void *solver) {
-    int *busy = calloc(1, sizeof *busy);
-    for (int i = 0; i < 100000; i++) {
+    while (!searched) {
         int answer = varisat_is_valid(solver);
         CHECK(answer == 1 || answer == VARISAT_BUSY);
-        *busy += answer == VARISAT_BUSY;
+        disturbed |= answer == VARISAT_BUSY;
     }
-    return busy;
+    return NULL;
 }
 
 static void threads(void) {
@@ -284,12 +289,13 @@ static void threads(void) {
     for (int i = 0; i < 4; i++) pthread_join(thread[i], NULL);
     varisat *s = varisat_new(0);
     add_pigeons(s, 9);
-    void *busy;
     CHECK(!pthread_create(&thread[0], NULL, disturb, s));
-    int answer = varisat_solve(s);
-    CHECK(answer == VARISAT_UNSATISFIABLE || answer == VARISAT_BUSY);
-    pthread_join(thread[0], &busy);
-    free(busy);
+    int answer;
+    while ((answer = varisat_solve(s)) == VARISAT_BUSY) {
+    }
+    searched = true;
+    pthread_join(thread[0], NULL);
+    CHECK(answer == VARISAT_UNSATISFIABLE && disturbed);
     CHECK(varisat_free(s) == 0);
 }
 

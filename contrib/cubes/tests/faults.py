@@ -106,6 +106,7 @@ def try_faults(folder):
         shutil.copytree(folder / "right", copy)
         fault(copy / "batch 4.marked")
         expect((1, "s NOT VERIFIED", *told), ("check", PIGEONS, copy))
+    expect((2, "invalid positive value"), ("check", PIGEONS, folder / "right", "--jobs", "0"))
     other = folder / "other.cnf"
     other.write_text(PIGEONS.read_text().replace("p cnf 56 204\n1 2 ", "p cnf 56 204\n"))
     expect((1, "batch 0.marked: `varisat", "s NOT VERIFIED"), ("check", other, folder / "right"))

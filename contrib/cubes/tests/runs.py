@@ -78,6 +78,11 @@ def try_limits(folder):
     (full / "000002.marked").unlink()
     expect((0, MISSED, "s UNKNOWN"), ("run", PIGEONS, "--dir", full, "--jobs", "2"))
     expect((0, "do not cover", "s UNKNOWN"), ("run", PIGEONS, "--dir", full, "--jobs", "2", "--unchecked"))
+    # A check that comes to no end leaves the model where it is.
+    (full / "model").mkdir()
+    expect((2, "check ended with status 2"), ("run", PIGEONS, "--dir", full, "--jobs", "2"))
+    assert (full / "model").exists()
+    expect((2, "invalid positive value"), ("run", PIGEONS, "--dir", full, "--batch", "0"))
 
 
 def try_document(folder):

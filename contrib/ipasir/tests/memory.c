@@ -1,10 +1,10 @@
 /* Runs a client with the n-th allocation refused, and all after it, for each n: it does not crash, and no answer is wrong. Link
- * it with -Wl,--wrap=malloc,--wrap=realloc. */
+ * it with -Wl,--wrap=calloc,--wrap=realloc. */
 #include "check.h"
 
 #include "../../c/varisat.h"
 
-void *__real_malloc(size_t size);
+void *__real_calloc(size_t count, size_t size);
 void *__real_realloc(void *at, size_t size);
 
 /* How many allocations are left; below 0: any number. */
@@ -14,8 +14,8 @@ static int is_refused(void) {
     return left == 0 || (left > 0 && left-- == 0);
 }
 
-void *__wrap_malloc(size_t size) {
-    return is_refused() ? NULL : __real_malloc(size);
+void *__wrap_calloc(size_t count, size_t size) {
+    return is_refused() ? NULL : __real_calloc(count, size);
 }
 
 void *__wrap_realloc(void *at, size_t size) {
@@ -58,6 +58,7 @@ int main(void) {
         refused++;
     }
     left = -1;
+    CHECK(unopened > 0 && refused > 20);
     printf("allocations refused in turn: %d without a solver, %d without an answer: all right\n", unopened, refused);
     return 0;
 }

@@ -1,5 +1,5 @@
 -- A state of the solver goes on fitting what was given, call by call.
-use Rattle.std.proofs.Common.{◌≡◌, ◌⊎◌, ℕ, ◌+◌, ◌-◌, ◌*◌, ◌^◌, ◌<◌, ◌≤◌, Bool, true, length, Result, List, [], ◌∷◌, ◌++◌, inl, inr, ⊎_elim, sym, ap, ◌∙◌, subst, refl, Ok, Err, Option, Some, unwrap_or, map, arith}
+use Rattle.std.proofs.Common.{◌≡◌, ◌⊎◌, ℕ, ◌+◌, ◌-◌, ◌*◌, ◌^◌, ◌<◌, ◌≤◌, Bool, true, length, Result, List, [], ◌∷◌, ◌++◌, inl, inr, ⊎_elim, sym, ap, ◌∙◌, subst, refl, Ok, Err, Option, Some, None, unwrap_or, map, arith}
 use Rattle.std.proofs.lemmas.Bool.{cases_lt}
 use Rattle.std.proofs.Math.Pow.{pow_mono}
 use Rattle.varisat_theory.specs.promises.Membership.{◌∈◌, ◌⊆◌, IsDistinct}
@@ -10,6 +10,7 @@ use Rattle.varisat_theory.proofs.clauses.Values.{same_true, true_or_opposite, va
 use Rattle.varisat_literals.specs.promises.Numbers.{variable_limit}
 use Rattle.varisat_solver.specs.promises.States.{State, join_counted, Verdict, Unsat, IsRight}
 use Rattle.varisat_solver.specs.promises.Names.{Naming, name_all, through_names, AreInOrder}
+use Rattle.varisat_solver.specs.promises.OpenProofs.{OpenProof, GoesOnWriting, searched_under}
 use Rattle.varisat_solver.specs.promises.Models.{IsCompletable, AreNamesInUse}
 use Rattle.varisat.specs.inside.Counts.{count_with}
 use Rattle.varisat_solver.specs.promises.Calls.{IsPastLimit, IsCrowded, AddsClause, Ignored, Accepted, VerdictAfter, Refuted, Reopened, Assumes, Solves, Configures, CountsIf, Decided, Searched, once_searched, by_state}
@@ -39,6 +40,10 @@ stays-in-range d n m o h none =
     (λ few. few)
     (cases_lt variable_limit (count_with n d))
 
+-- No proof is opened.
+stays-unopened : (before after : Option OpenProof) → before ≡ None → GoesOnWriting before after → after ≡ None
+stays-unopened before after none g = subst (λ (o : Option OpenProof). GoesOnWriting o after) none g
+
 -- 2. A clause is taken.
 
 -- what one more clause makes of the state
@@ -47,6 +52,7 @@ taken : (s t : State) (P : List Clause) (A : List Literal) (n most : ℕ) (d : C
 taken s t P A n most d (v, Ignored u e) f =
     subst (λ x. WasGiven x (P ++ d ∷ []) A n most) (sym e) (record {
       valid = f.valid;
+      proof = f.proof;
       count = f.count;
       order = f.order;
       in_range = f.in_range;
@@ -66,6 +72,7 @@ taken s t P A n most d (v, Accepted ext may (w, after, like)) f =
     let more = count-above d f.count in
     record {
       valid = ap (λ l. l.valid) (same-ledger like) ∙ f.valid;
+      proof = stays-unopened s.proof t.proof f.proof like.proof;
       count = count_with f.count d;
       order = subst (AreInOrder (count_with f.count d)) (sym (same-naming like)) order;
       in_range = stays-in-range d f.count s.naming f.order f.in_range may.in_range;
@@ -105,6 +112,7 @@ supposed s t P A n most d (v, none, may, like) f =
     let e : t.assumptions ≡ d = (same-assumptions like) ∙ own in
     record {
       valid = ap (λ l. l.valid) (same-ledger like) ∙ f.valid;
+      proof = stays-unopened s.proof t.proof f.proof like.proof;
       count = count_with f.count d;
       order = subst (AreInOrder (count_with f.count d)) (sym (same-naming like)) order;
       in_range = stays-in-range d f.count s.naming f.order f.in_range may.in_range;
@@ -128,6 +136,7 @@ pub limited : (s t : State) (P : List Clause) (A : List Literal) (n most steps :
 limited s t P A n most steps u (v, good, e) q f =
     subst (λ x. WasGiven x P A n steps) (sym e) (record {
       valid = f.valid;
+      proof = f.proof;
       count = f.count;
       order = f.order;
       in_range = f.in_range;
@@ -144,11 +153,12 @@ limited s t P A n most steps u (v, good, e) q f =
 -- 4. A search.
 
 -- a state with the same clauses, assumptions and names, after further steps
-searched : (s t : State) (P : List Clause) (A : List Literal) (n most : ℕ) → t.ledger.valid ≡ true → t.naming ≡ s.naming → t.clauses ≡ s.clauses →
+searched : (s t : State) (P : List Clause) (A : List Literal) (n most : ℕ) → t.ledger.valid ≡ true → t.proof ≡ None → t.naming ≡ s.naming → t.clauses ≡ s.clauses →
     t.assumptions ≡ s.assumptions → t.ledger.settings ≡ s.ledger.settings → (t.verdict ≡ Unsat → IsSatisfiable t.clauses → ⊥) → WasGiven s P A n most →
     WasGiven t P A t.ledger.steps most
-searched s t P A n most v m c a l u f = record {
+searched s t P A n most v o m c a l u f = record {
   valid = v;
+  proof = o;
   count = f.count;
   order = subst (AreInOrder f.count) (sym m) f.order;
   in_range = f.in_range;
@@ -165,13 +175,15 @@ searched s t P A n most v m c a l u f = record {
 pub decided : (s t : State) (b : Bool) (P : List Clause) (A : List Literal) (n most : ℕ) → Solves by_state s (Ok b) t → WasGiven s P A n most →
     WasGiven t P A t.ledger.steps most
 decided s t b P A n most r f =
-    searched s t P A n most (ap (λ l. l.valid) (same-ledger r.rest) ∙ f.valid) (same-naming r.rest) (same-clauses r.rest) (same-assumptions r.rest)
+    searched s t P A n most (ap (λ l. l.valid) (same-ledger r.rest) ∙ f.valid)
+    (stays-unopened (searched_under s.proof) t.proof (ap searched_under f.proof) r.rest.proof) (same-naming r.rest) (same-clauses r.rest) (same-assumptions r.rest)
     (ap (λ l. l.settings) (same-ledger r.rest)) (λ u h. subst (IsRight t.clauses t.assumptions t.counted) u r.right.right h) f
 
 pub interrupted : (s t : State) (P : List Clause) (A : List Literal) (n most : ℕ) → Solves by_state s (Err Interrupted) t → WasGiven s P A n most →
     WasGiven t P A t.ledger.steps most
 interrupted s t P A n most r f =
-    searched s t P A n most (ap (λ l. l.valid) (same-ledger r.rest) ∙ f.valid) (same-naming r.rest) (same-clauses r.rest) (same-assumptions r.rest)
+    searched s t P A n most (ap (λ l. l.valid) (same-ledger r.rest) ∙ f.valid)
+    (stays-unopened (searched_under s.proof) t.proof (ap searched_under f.proof) r.rest.proof) (same-naming r.rest) (same-clauses r.rest) (same-assumptions r.rest)
     (ap (λ l. l.settings) (same-ledger r.rest)) (λ u h. f.refuted (sym (same-verdict r.rest) ∙ u) (subst IsSatisfiable (same-clauses r.rest) h)) f
 
 -- the steps are spent

@@ -41,9 +41,9 @@ after-again p q g h e r = absurd (h (sym (ap (λ (x : Past). x.refusal) e) ∙ r
 -- a call that is refused
 refused-agrees : (given : List Literal) (stores : Bool) (p q : Past) (g : Given) → Refuses given stores p q → Agrees q g
 refused-agrees given stores p q g (past.Again h e) = after-again p q g h e
-refused-agrees given stores p q g (past.Memory h e) = after-refusal refusal.OutOfMemory p q g e
+refused-agrees given stores p q g (past.Memory h within e) = after-refusal refusal.OutOfMemory p q g e
 refused-agrees given stores p q g (past.Limit h l e) = after-refusal refusal.VariableLimit p q g e
-refused-agrees given stores p q g (past.Full h s e) = after-refusal refusal.ClauseStoreFull p q g e
+refused-agrees given stores p q g (past.Full h within s e) = after-refusal refusal.ClauseStoreFull p q g e
 
 agree-by : (q r : Past) (g h : Given) → q ≡ r → given_in r ≡ h → h ≡ g → Agrees q g
 agree-by q r g h e f i _ = ap given_in e ∙ f ∙ i

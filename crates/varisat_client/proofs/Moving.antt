@@ -28,7 +28,7 @@ use Rattle.varisat_client.specs.promises.Pasts as past
 use Rattle.varisat_client.specs.inside.Clients.{first_state, Client, HoldsPast, RepresentsPast, Moves, KeepsModel, KeepsCore}
 use Rattle.varisat_client.specs.inside.Clients as client
 use Rattle.varisat_client.proofs.Fitting as fitting
-use Rattle.varisat_client.proofs.Refusing.{is-full, clause-refused, list-refused, list-stored, search-refused, never-refused}
+use Rattle.varisat_client.proofs.Refusing.{none-past-limit, is-full, clause-refused, list-refused, list-stored, search-refused, never-refused}
 
 -- 1. A new client.
 
@@ -44,6 +44,7 @@ is-new g r s c a m k = stands-free g empty_past r refl (record {
   stands = s;
   fits = record {
     valid = refl;
+    proof = refl;
     count = 0;
     order = none-in-order;
     in_range = omega arith;
@@ -98,11 +99,11 @@ runs-out R g h e f r = refused-now R g h OutOfMemory e f (λ p st free. (r p fre
 
 -- so it did for a number
 pub put-refused : (n : ℤ) (g h : Client) → n ≢ pos 0 → is_some g.refusal ≡ false → h.refusal ≡ Some OutOfMemory → Moves (AddsNumber n) g h
-put-refused n g h z e f = runs-out (AddsNumber n) g h e f (λ p free. past.PutRefused z (Memory free refl))
+put-refused n g h z e f = runs-out (AddsNumber n) g h e f (λ p free. past.PutRefused z (Memory free none-past-limit refl))
 
 -- also for one that is assumed
 pub assumption-refused : (n : ℤ) (g h : Client) → n ≢ pos 0 → is_some g.refusal ≡ false → h.refusal ≡ Some OutOfMemory → Moves (AssumesNumber n) g h
-assumption-refused n g h z e f = runs-out (AssumesNumber n) g h e f (λ p free. past.Refused z (Memory free refl))
+assumption-refused n g h z e f = runs-out (AssumesNumber n) g h e f (λ p free. past.Refused z (Memory free none-past-limit refl))
 
 -- a number after a refusal
 pub add-stays : (n : ℤ) (g : Client) → is_some g.refusal ≡ true → Moves (AddsNumber n) g g
@@ -276,7 +277,7 @@ limit-refused steps u g h after e free given call p st =
 -- a search that found a model
 pub finds-model : (r : SearchEnd) (g m h : Client) → is_some g.refusal ≡ false → m ≡ record g { solver = m.solver } →
     ((s : State) → Represents g.solver s → (t : State) × Solves by_state s (Ok true) t × Represents m.solver t) → KeepsModel r m h → Moves (IsSearchEnd r) g h
-finds-model r g m h e q call (client.Refused x) = runs-out (IsSearchEnd r) g h e x.refusal (λ p free. past.Refused x.answer (Memory free refl))
+finds-model r g m h e q call (client.Refused x) = runs-out (IsSearchEnd r) g h e x.refusal (λ p free. past.Refused x.answer (Memory free none-past-limit refl))
 finds-model r g m h e q call (client.Kept list found tells set o) = λ p st.
     let free = not-refused g p st e in
     let k = st.holds free in
@@ -301,7 +302,7 @@ finds-model r g m h e q call (client.Kept list found tells set o) = λ p st.
 -- a search that found that there is none
 pub finds-core : (r : SearchEnd) (g m h : Client) → is_some g.refusal ≡ false → m ≡ record g { solver = m.solver } →
     ((s : State) → Represents g.solver s → (t : State) × Solves by_state s (Ok false) t × Represents m.solver t) → KeepsCore r m h → Moves (IsSearchEnd r) g h
-finds-core r g m h e q call (client.Refused x) = runs-out (IsSearchEnd r) g h e x.refusal (λ p free. past.Refused x.answer (Memory free refl))
+finds-core r g m h e q call (client.Refused x) = runs-out (IsSearchEnd r) g h e x.refusal (λ p free. past.Refused x.answer (Memory free none-past-limit refl))
 finds-core r g m h e q call (client.Kept core found tells set o) = λ p st.
     let free = not-refused g p st e in
     let k = st.holds free in

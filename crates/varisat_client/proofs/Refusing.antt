@@ -1,10 +1,11 @@
 -- Why calls of a client are refused.
-use Rattle.std.proofs.Common.{◌≡◌, ◌⊎◌, inl, inr, ⊎_elim, ℕ, Bool, true, false, Some, None, List, [], refl, ap, sym, ◌∙◌, subst, Err}
+use Rattle.std.proofs.Common.{◌≡◌, ◌≢◌, ◌⊎◌, inl, inr, ⊎_elim, ℕ, Bool, true, false, Option, Some, None, List, [], refl, ap, sym, ◌∙◌, subst, Err}
 use Rattle.varisat_theory.specs.promises.Literals.{Literal, Clause}
 use Rattle.varisat_names.specs.promises.Settings.{first_bad}
 use Rattle.varisat_names.specs.declared.config.SolverConfigUpdate.{SolverConfigUpdate}
 use Rattle.varisat_solver.specs.promises.States.{State}
-use Rattle.varisat_solver.specs.promises.Calls.{IsPastLimit, AddsClause, Assumes, Solves, Configures, by_state}
+use Rattle.varisat_solver.specs.promises.OpenProofs.{OpenProof, BarsClauses, BarsAssumptions}
+use Rattle.varisat_solver.specs.promises.Calls.{IsPastLimit, RefusesNames, MayAccept, AddsClause, Assumes, Solves, Configures, by_state}
 use Rattle.varisat_solver.specs.declared.solver.SolverError.{SolverError}
 use Rattle.varisat_solver.specs.declared.solver.SolverError.TheVariants as error
 use Rattle.varisat_client.specs.declared.refusal.Refusal.TheVariants.{OutOfMemory, VariableLimit, ClauseStoreFull}
@@ -12,6 +13,10 @@ use Rattle.varisat_client.specs.inside.Refusals.{refusal_for}
 use Rattle.varisat_client.specs.promises.Pasts.{Past, refuse, Refuses, Memory, Limit, Full}
 use Rattle.varisat_client.specs.inside.Clients.{WasGiven}
 use Rattle.varisat_client.proofs.Fitting.{past-limit}
+
+-- of no literals none is past the limit
+pub none-past-limit : IsPastLimit [] → ⊥
+none-past-limit (l, i, past) = i
 
 -- what errors are returned as
 cases-refusal : (e : SolverError) → (e ≡ error.VariableLimit) ⊎ ((e ≡ error.ClauseStoreFull) ⊎ (refusal_for e ≡ OutOfMemory))
@@ -39,15 +44,74 @@ is-full e q =
 
 -- the reason of an error is one for which the call may be refused
 reason : (e : SolverError) (given : List Literal) (stores : Bool) (p : Past) → p.refusal ≡ None → (e ≡ error.VariableLimit → IsPastLimit given) →
-    (e ≡ error.ClauseStoreFull → stores ≡ true) → Refuses given stores p (refuse (refusal_for e) p)
-reason e given stores p free limit store =
+    (e ≢ error.VariableLimit → IsPastLimit given → ⊥) → (e ≡ error.ClauseStoreFull → stores ≡ true) → Refuses given stores p (refuse (refusal_for e) p)
+reason e given stores p free limit within store =
     ⊎_elim
     (λ v. Limit free (limit v) (ap (λ x. refuse (refusal_for x) p) v))
     (λ w. ⊎_elim
-    (λ f. Full free (store f) (ap (λ x. refuse (refusal_for x) p) f))
-    (λ m. Memory free (ap (λ why. refuse why p) m))
+    (λ f. Full free (within (λ v. let z : error.ClauseStoreFull ≡ error.VariableLimit = sym f ∙ v in cc)) (store f)
+    (ap (λ x. refuse (refusal_for x) p) f))
+    (λ m. Memory free (within (λ v. let z : OutOfMemory ≡ VariableLimit = sym m ∙ ap refusal_for v in cc)) (ap (λ why. refuse why p) m))
     w)
     (cases-refusal e)
+
+-- a proof bars nothing where none is open
+none-bars-clauses : (o : Option OpenProof) → o ≡ None → BarsClauses o → ⊥
+none-bars-clauses o none (p, e, searched, marks) = let z : None ≡ Some p = sym none ∙ e in absurd cc
+
+none-bars-assumptions : (o : Option OpenProof) → o ≡ None → BarsAssumptions o → ⊥
+none-bars-assumptions o none (p, e, marks) = let z : None ≡ Some p = sym none ∙ e in absurd cc
+
+-- a list is refused for another reason only where none of its names is past the limit
+names-within : (e : SolverError) (unbarred : Type 0) (s t : State) (d : List Literal) → RefusesNames unbarred s d e t → s.ledger.valid ≡ true →
+    e ≢ error.VariableLimit → IsPastLimit d → ⊥
+names-within error.VariableLimit u s t d r v other = absurd (other refl)
+names-within error.ClauseStoreFull u s t d r v other = absurd r
+names-within error.Interrupted u s t d r v other = absurd r
+names-within (error.ProofIoError cause) u s t d (o, free, may, gone) v other = may.in_range
+names-within error.OutOfMemory u s t d (free, may, gone) v other = may.in_range
+names-within error.Invalid u s t d (invalid, same) v other = let z : true ≡ false = sym v ∙ invalid in absurd cc
+names-within (error.WitnessVar w) u s t d (valid, free, within, first, same) v other = within
+names-within (error.AssumedVar w) u s t d r v other = absurd r
+names-within error.ClauseAfterSolve u s t d r v other = absurd r
+names-within error.ProofOpen u s t d r v other = absurd r
+names-within error.ProofTooLate u s t d r v other = absurd r
+names-within (error.ConfigOutOfRange field) u s t d r v other = absurd r
+names-within (error.Dimacs cause) u s t d r v other = absurd r
+
+-- so is a clause
+clause-within : (e : SolverError) (s t : State) (d : Clause) → AddsClause s d (Err e) t → s.ledger.valid ≡ true → s.proof ≡ None →
+    e ≢ error.VariableLimit → IsPastLimit d → ⊥
+clause-within error.ClauseAfterSolve s t d (valid, unrefuted, bars, same) v o other = absurd (none-bars-clauses s.proof o bars)
+clause-within error.ClauseStoreFull s t d (free, may, gone, full) v o other = may.in_range
+clause-within error.VariableLimit s t d r v o other = absurd (other refl)
+clause-within error.Interrupted s t d r v o other = names-within error.Interrupted (MayAccept by_state s) s t d r v other
+clause-within (error.ProofIoError cause) s t d r v o other = names-within (error.ProofIoError cause) (MayAccept by_state s) s t d r v other
+clause-within error.OutOfMemory s t d r v o other = names-within error.OutOfMemory (MayAccept by_state s) s t d r v other
+clause-within error.Invalid s t d r v o other = names-within error.Invalid (MayAccept by_state s) s t d r v other
+clause-within (error.WitnessVar u) s t d r v o other = names-within (error.WitnessVar u) (MayAccept by_state s) s t d r v other
+clause-within (error.AssumedVar u) s t d r v o other = absurd r
+clause-within error.ProofOpen s t d r v o other = absurd r
+clause-within error.ProofTooLate s t d r v o other = absurd r
+clause-within (error.ConfigOutOfRange field) s t d r v o other = absurd r
+clause-within (error.Dimacs cause) s t d r v o other = absurd r
+
+-- and a list of assumptions
+list-within : (e : SolverError) (s t : State) (d : List Literal) → Assumes s d (Err e) t → s.ledger.valid ≡ true → s.proof ≡ None →
+    e ≢ error.VariableLimit → IsPastLimit d → ⊥
+list-within error.ProofOpen s t d (valid, bars, same) v o other = absurd (none-bars-assumptions s.proof o bars)
+list-within error.VariableLimit s t d r v o other = absurd (other refl)
+list-within error.Interrupted s t d r v o other = absurd r
+list-within error.ClauseStoreFull s t d r v o other = absurd r
+list-within (error.ProofIoError cause) s t d r v o other = names-within (error.ProofIoError cause) (BarsAssumptions s.proof → ⊥) s t d r v other
+list-within error.OutOfMemory s t d r v o other = names-within error.OutOfMemory (BarsAssumptions s.proof → ⊥) s t d r v other
+list-within error.Invalid s t d r v o other = names-within error.Invalid (BarsAssumptions s.proof → ⊥) s t d r v other
+list-within (error.WitnessVar u) s t d r v o other = names-within (error.WitnessVar u) (BarsAssumptions s.proof → ⊥) s t d r v other
+list-within (error.AssumedVar u) s t d r v o other = absurd r
+list-within error.ClauseAfterSolve s t d r v o other = absurd r
+list-within error.ProofTooLate s t d r v o other = absurd r
+list-within (error.ConfigOutOfRange field) s t d r v o other = absurd r
+list-within (error.Dimacs cause) s t d r v o other = absurd r
 
 -- a clause that is not taken
 pub clause-refused : (e : SolverError) (s t : State) (P : List Clause) (A : List Literal) (n most : ℕ) (d c : Clause) (p : Past) →
@@ -56,6 +120,7 @@ clause-refused e s t P A n most d c p adds own f free =
     reason e c true p free
     (λ v. let (valid, may, past, same) = subst (λ x. AddsClause s d (Err x) t) v adds in
     subst IsPastLimit own (past-limit d f.count s.naming f.order f.in_range past))
+    (λ other h. clause-within e s t d adds f.valid f.proof other (subst IsPastLimit (sym own) h))
     (λ _. refl)
 
 -- a list that is not assumed
@@ -65,6 +130,7 @@ list-refused e s t P A n most d B p assumes own f free =
     reason e B false p free
     (λ v. let (valid, none, past, same) = subst (λ x. Assumes s d (Err x) t) v assumes in
     subst IsPastLimit own (past-limit d f.count s.naming f.order f.in_range past))
+    (λ other h. list-within e s t d assumes f.valid f.proof other (subst IsPastLimit (sym own) h))
     (λ k. absurd (subst (λ x. Assumes s d (Err x) t) k assumes))
 
 -- which is never for a full store
@@ -74,7 +140,7 @@ list-stored e s t d assumes q = subst (λ x. Assumes s d (Err x) t) (is-full e q
 -- a search that comes to no end
 pub search-refused : (e : SolverError) (s t : State) (p : Past) → Solves by_state s (Err e) t → p.refusal ≡ None → Refuses [] true p (refuse (refusal_for e) p)
 search-refused e s t p solves free =
-    reason e [] true p free (λ v. absurd (subst (λ x. Solves by_state s (Err x) t) v solves)) (λ _. refl)
+    reason e [] true p free (λ v. absurd (subst (λ x. Solves by_state s (Err x) t) v solves)) (λ _. none-past-limit) (λ _. refl)
 
 -- a limit of steps is never refused
 pub never-refused : (e : SolverError) (s t : State) (u : SolverConfigUpdate) → Configures s u (Err e) t → s.ledger.valid ≡ true → first_bad u ≡ None → ⊥

@@ -19,9 +19,9 @@ use Rattle.varisat_maxsat.proofs.Taking.{take-item, assumes-none, assumes-one, a
 -- what is not refused was not refused before
 not-refused : (given : List Literal) (stores : Bool) (p q : Past) → Refuses given stores p q → q.refusal ≡ None → ⊥
 not-refused given stores p q (past.Again h e) r = h (sym (ap (λ (x : Past). x.refusal) e) ∙ r)
-not-refused given stores p q (past.Memory h e) r = let z = sym (ap (λ (x : Past). x.refusal) e) ∙ r in absurd cc
+not-refused given stores p q (past.Memory h within e) r = let z = sym (ap (λ (x : Past). x.refusal) e) ∙ r in absurd cc
 not-refused given stores p q (past.Limit h l e) r = let z = sym (ap (λ (x : Past). x.refusal) e) ∙ r in absurd cc
-not-refused given stores p q (past.Full h s e) r = let z = sym (ap (λ (x : Past). x.refusal) e) ∙ r in absurd cc
+not-refused given stores p q (past.Full h within s e) r = let z = sym (ap (λ (x : Past). x.refusal) e) ∙ r in absurd cc
 
 put-accepted : (n : ℤ) (p q : Past) → AddsNumber n p q → n ≢ pos 0 → q.refusal ≡ None →
     (p.refusal ≡ None) × (q ≡ record p { clause = p.clause ++ literal_numbered n ∷ [] })

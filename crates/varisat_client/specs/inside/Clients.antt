@@ -37,9 +37,10 @@ pub record Client : Type 0 where
   pub refusal : Option Refusal
 
 -- The state of the solver has the clauses P that were given to their end, and the assumptions A; it made so many steps in all, and may
--- make `most` in one call. As no name is ever freed, names are in order, and each literal stands for itself.
+-- make `most` in one call. No proof is open. As no name is ever freed, names are in order, and each literal stands for itself.
 pub record WasGiven (s : State) (P : List Clause) (A : List Literal) (made most : ℕ) : Type 0 where
   pub valid : s.ledger.valid ≡ true
+  pub proof : s.proof ≡ None
   pub count : ℕ
   pub order : AreInOrder count s.naming
   pub in_range : count ≤ variable_limit

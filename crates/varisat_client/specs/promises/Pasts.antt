@@ -50,13 +50,14 @@ empty_past =
 abbrev pub refuse : Refusal → Past → Past
 refuse why p = record p { refusal = Some why }
 
--- Why a call may be refused that gives these literals to the solver: one was refused before, and then nothing changes; memory ran
--- out; a variable of the literals is past the limit; or, in a call that stores clauses, their store is full.
+-- Why a call may be refused that gives these literals to the solver: one was refused before, and then nothing changes; a variable of
+-- the literals is past the limit; or none is, and memory ran out or, in a call that stores clauses, their store is full.
 pub data Refuses (given : List Literal) (stores : Bool) (p q : Past) : Type 0 where
   Again : p.refusal ≢ None → q ≡ p → Refuses given stores p q
-  Memory : p.refusal ≡ None → q ≡ refuse OutOfMemory p → Refuses given stores p q
+  Memory : p.refusal ≡ None → (IsPastLimit given → ⊥) → q ≡ refuse OutOfMemory p → Refuses given stores p q
   Limit : p.refusal ≡ None → IsPastLimit given → q ≡ refuse VariableLimit p → Refuses given stores p q
-  Full : p.refusal ≡ None → stores ≡ true → q ≡ refuse ClauseStoreFull p → Refuses given stores p q
+  Full : p.refusal ≡ None → (IsPastLimit given → ⊥) → stores ≡ true → q ≡ refuse ClauseStoreFull p →
+      Refuses given stores p q
 
 -- the variables of the literals are counted, too
 abbrev pub count : List Literal → Past → Past

@@ -1,9 +1,12 @@
 -- A state of the solver goes on fitting what was given, call by call.
 use Rattle.std.proofs.Common.{◌≡◌, ◌⊎◌, ℕ, ◌+◌, ◌-◌, ◌*◌, ◌^◌, ◌<◌, ◌≤◌, Bool, true, length, Result, List, [], ◌∷◌, ◌++◌, inl, inr, ⊎_elim, sym, ap, ◌∙◌, subst, refl, Ok, Err, Option, Some, None, unwrap_or, map, arith}
 use Rattle.std.proofs.lemmas.Bool.{cases_lt}
+use Rattle.std.proofs.lemmas.Nat.{mul-le}
 use Rattle.std.proofs.Math.Pow.{pow_mono}
 use Rattle.varisat_theory.specs.promises.Membership.{◌∈◌, ◌⊆◌, IsDistinct}
 use Rattle.varisat_theory.specs.promises.Literals.{Literal, Clause, Assignment, variable_of, opposite, value, SatisfiesAll, MakesTrue, IsSatisfiable, IsFailedCore}
+use Rattle.varisat_theory.specs.promises.CallBounds.{AreFew}
+use Rattle.varisat_theory.proofs.bounds.CallBounds.{few_none}
 use Rattle.varisat_theory.proofs.bounds.Count.{length-distinct}
 use Rattle.varisat_theory.proofs.clauses.Members.{∈-append_left, ∈-append_right, ∈-append_cases}
 use Rattle.varisat_theory.proofs.clauses.Values.{same_true, true_or_opposite, variable-opposite}
@@ -13,17 +16,16 @@ use Rattle.varisat_solver.specs.promises.Names.{Naming, name_all, through_names,
 use Rattle.varisat_solver.specs.promises.OpenProofs.{OpenProof, GoesOnWriting, searched_under}
 use Rattle.varisat_solver.specs.promises.Models.{IsCompletable, AreNamesInUse}
 use Rattle.varisat.specs.inside.Counts.{count_with}
-use Rattle.varisat_solver.specs.promises.Calls.{IsPastLimit, IsCrowded, AddsClause, Ignored, Accepted, VerdictAfter, Refuted, Reopened, Assumes, Solves, Configures, CountsIf, Decided, Searched, once_searched, by_state}
+use Rattle.varisat_solver.specs.promises.Calls.{IsPastLimit, IsCrowded, AddsClause, Ignored, Accepted, VerdictAfter, Refuted, Reopened, Assumes, Solves, Configures, CountsIf, CountsCall, Decided, Searched, once_searched, by_state}
 use Rattle.varisat_names.specs.declared.config.SolverConfigUpdate.{SolverConfigUpdate}
 use Rattle.varisat_solver.specs.declared.solver.SolverError.TheVariants.{Interrupted}
-use Rattle.varisat_solver.specs.promises.Budgets.{CountsSteps}
 use Rattle.varisat_solver.specs.declared.solver.SolverError.{SolverError}
 use Rattle.varisat_solver.proofs.calls.CallStates.{same-assumptions, same-clauses, same-counted, same-ledger, same-naming, same-verdict}
 use Rattle.varisat.proofs.NameLaws.{stay-in-order, count-above, count-within, names-are-identities, crowded-is-past-limit}
 use Rattle.varisat_solver.proofs.calls.Counted.{join-more, join-has, join-only, join-once}
 use Rattle.varisat_solver.proofs.steps.SearchVerdicts.{reopened-not-unsat, assumed-unsat}
 use Rattle.varisat_client.specs.promises.Pasts.{Past, IsFoundModel, MakesFew}
-use Rattle.varisat_client.specs.inside.Clients.{WasGiven, CountsAmong}
+use Rattle.varisat_client.specs.inside.Clients.{WasGiven, CountsAmong, MadeFewSince}
 
 -- 1. Names are in range.
 
@@ -234,38 +236,101 @@ counts-begun s t P A n most known d B (v, none, may, like) e f k =
 pub counts-limited : (s t : State) (known : List ℕ) (u : SolverConfigUpdate) → Configures s u (Ok tt) t → CountsAmong s known → CountsAmong t known
 counts-limited s t known u (v, good, e) k = counts-same s t known (ap (λ (x : State). x.counted) e) k
 
-makes-few : (p q : Past) (s : State) (own since before : ℕ) (answer : Result Bool SolverError) → CountsAmong s p.counted →
-    CountsSteps (length s.counted) own since before q.steps answer → before ≡ p.steps → own ≡ p.limit → MakesFew p q
-makes-few p q s own since before answer k c e o =
-    let fewer = length-distinct s.counted p.counted k.once k.within in
-    let power : 2 ^ (2 * length s.counted + 3) ≤ 2 ^ (2 * length p.counted + 3) = pow_mono (omega (arith, fewer)) in record {
+-- few for some variables are few for more
+few-more : (m n k : ℕ) → m ≤ n → AreFew m k → AreFew n k
+few-more m n k h (near, wide) =
+    let power : 2 ^ (m + 2) ≤ 2 ^ (n + 2) = pow_mono (omega (arith, h)) in
+    let product : (m + 2) * 2 ^ (m + 2) ≤ (n + 2) * 2 ^ (n + 2) = mul-le (m + 2) (2 ^ (m + 2)) (n + 2) (2 ^ (n + 2)) (omega (arith, h)) power in
+    let wider : 2 ^ (2 * m + 3) ≤ 2 ^ (2 * n + 3) = pow_mono (omega (arith, h)) in
+    (omega (arith, near, product), omega (arith, wide, wider))
+
+-- steps were just counted anew
+anew : (t : State) → t.ledger.since ≡ 0 → MadeFewSince t 0
+anew t e = record { same = e; few = few_none (length t.counted) }
+
+pub since-added : (s t : State) (d : Clause) → AddsClause s d (Ok tt) t → MadeFewSince t 0
+since-added s t d (v, Ignored u e) = anew t (ap (λ (x : State). x.ledger.since) e)
+since-added s t d (v, Accepted ext may (w, after, like)) = anew t (ap (λ l. l.since) (same-ledger like))
+
+pub since-begun : (s t : State) (d : List Literal) → Assumes s d (Ok tt) t → MadeFewSince t 0
+since-begun s t d (v, none, may, like) = anew t (ap (λ l. l.since) (same-ledger like))
+
+pub since-limited : (s t : State) (u : SolverConfigUpdate) → Configures s u (Ok tt) t → MadeFewSince t 0
+since-limited s t u (v, good, e) = anew t (ap (λ (x : State). x.ledger.since) e)
+
+-- The steps of a search join those before it.
+record JoinSteps (s t : State) : Type 0 where
+  made : ℕ
+  count : t.ledger.steps ≡ s.ledger.steps + made
+  budget : made ≤ s.ledger.settings.max_steps
+  since : t.ledger.since ≡ s.ledger.since + made
+  same : t.counted ≡ s.counted
+  few : AreFew (length s.counted) t.ledger.since
+
+join-counted : (s t : State) (answer : Result Bool SolverError) → CountsCall s answer t → t.ledger.since ≡ s.ledger.since + (t.ledger.steps - s.ledger.steps) →
+    t.counted ≡ s.counted → JoinSteps s t
+join-counted s t answer c e same =
+    let k = c.count in
+    let now : t.ledger.since ≡ s.ledger.since + c.made = omega (arith, e, k) in record {
       made = c.made;
-      count = c.count ∙ ap (λ n. n + c.made) e;
-      budget = subst (λ m. c.made ≤ m) o c.budget;
-      few = omega (arith, c.bounded.1, power);
+      count = k;
+      budget = c.budget;
+      since = now;
+      same = same;
+      few = subst (AreFew (length s.counted)) (sym now) c.bounded;
     }
 
 -- a search that came to an answer, or made none since it is known
-pub decided-few : (p q : Past) (s t : State) (b : Bool) → Solves by_state s (Ok b) t → CountsAmong s p.counted → s.ledger.steps ≡ p.steps →
-    s.ledger.settings.max_steps ≡ p.limit → t.ledger.steps ≡ q.steps → MakesFew p q
-decided-few p q s t b r k e o w = go r.steps
+join-decided : (s t : State) (b : Bool) (since : ℕ) → Solves by_state s (Ok b) t → MadeFewSince s since → JoinSteps s t
+join-decided s t b since r m = go r.steps
   where
-    go : CountsIf by_state (once_searched s) (Ok b) t → MakesFew p q
-    go (Decided h same told) =
-        let any : 0 ≤ 2 * length p.counted + 3 = omega arith in
-        let some : 2 ^ 0 ≤ 2 ^ (2 * length p.counted + 3) = pow_mono any in record {
-          made = 0;
-          count = omega (arith, same, e, w);
-          budget = omega arith;
-          few = omega (arith, some);
-        }
-    go (Searched u c) = makes-few p q s s.ledger.settings.max_steps s.ledger.since s.ledger.steps (Ok b) k
-        (subst (λ n. CountsSteps (length s.counted) s.ledger.settings.max_steps s.ledger.since s.ledger.steps n (Ok b)) w c) e o
+    later : t.ledger.since ≡ s.ledger.since + (t.ledger.steps - s.ledger.steps)
+    later = ap (λ l. l.since) (same-ledger r.rest)
 
-pub spent-few : (p q : Past) (s t : State) → Solves by_state s (Err Interrupted) t → CountsAmong s p.counted → s.ledger.steps ≡ p.steps →
-    s.ledger.settings.max_steps ≡ p.limit → t.ledger.steps ≡ q.steps → MakesFew p q
-spent-few p q s t r k e o w = makes-few p q s s.ledger.settings.max_steps s.ledger.since s.ledger.steps (Err Interrupted) k
-    (subst (λ n. CountsSteps (length s.counted) s.ledger.settings.max_steps s.ledger.since s.ledger.steps n (Err Interrupted)) w r.steps) e o
+    go : CountsIf by_state (once_searched s) (Ok b) t → JoinSteps s t
+    go (Decided h same told) =
+        let e = later in
+        let now : t.ledger.since ≡ s.ledger.since + 0 = omega (arith, e, same) in record {
+          made = 0;
+          count = omega (arith, same);
+          budget = omega arith;
+          since = now;
+          same = same-counted r.rest;
+          few = let before = m.same in let z : since ≡ t.ledger.since = omega (arith, now, before) in subst (AreFew (length s.counted)) z m.few;
+        }
+    go (Searched u c) = join-counted s t (Ok b) c later (same-counted r.rest)
+
+-- or one whose steps are spent
+join-spent : (s t : State) → Solves by_state s (Err Interrupted) t → JoinSteps s t
+join-spent s t r = join-counted s t (Err Interrupted) r.steps (ap (λ l. l.since) (same-ledger r.rest)) (same-counted r.rest)
+
+since-joined : (s t : State) → JoinSteps s t → MadeFewSince t t.ledger.since
+since-joined s t j = record { same = refl; few = subst (λ (xs : List ℕ). AreFew (length xs) t.ledger.since) (sym j.same) j.few }
+
+makes-few : (p q : Past) (s t : State) → JoinSteps s t → CountsAmong s p.counted → MadeFewSince s p.since → s.ledger.steps ≡ p.steps →
+    s.ledger.settings.max_steps ≡ p.limit → t.ledger.steps ≡ q.steps → t.ledger.since ≡ q.since → MakesFew p q
+makes-few p q s t j k m e o w v = record {
+  made = j.made;
+  count = sym w ∙ j.count ∙ ap (λ n. n + j.made) e;
+  since = sym v ∙ j.since ∙ ap (λ n. n + j.made) m.same;
+  budget = subst (λ n. j.made ≤ n) o j.budget;
+  few = subst (AreFew (length p.counted)) v
+      (few-more (length s.counted) (length p.counted) t.ledger.since (length-distinct s.counted p.counted k.once k.within) j.few);
+}
+
+pub since-decided : (s t : State) (b : Bool) (since : ℕ) → Solves by_state s (Ok b) t → MadeFewSince s since → MadeFewSince t t.ledger.since
+since-decided s t b since r m = since-joined s t (join-decided s t b since r m)
+
+pub decided-few : (p q : Past) (s t : State) (b : Bool) → Solves by_state s (Ok b) t → CountsAmong s p.counted → MadeFewSince s p.since → s.ledger.steps ≡ p.steps →
+    s.ledger.settings.max_steps ≡ p.limit → t.ledger.steps ≡ q.steps → t.ledger.since ≡ q.since → MakesFew p q
+decided-few p q s t b r k m = makes-few p q s t (join-decided s t b p.since r m) k m
+
+pub since-spent : (s t : State) → Solves by_state s (Err Interrupted) t → MadeFewSince t t.ledger.since
+since-spent s t r = since-joined s t (join-spent s t r)
+
+pub spent-few : (p q : Past) (s t : State) → Solves by_state s (Err Interrupted) t → CountsAmong s p.counted → MadeFewSince s p.since →
+    s.ledger.steps ≡ p.steps → s.ledger.settings.max_steps ≡ p.limit → t.ledger.steps ≡ q.steps → t.ledger.since ≡ q.since → MakesFew p q
+spent-few p q s t r k m = makes-few p q s t (join-spent s t r) k m
 
 -- 6. Models and cores.
 

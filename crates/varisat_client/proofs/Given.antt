@@ -84,13 +84,13 @@ begin-agrees p q g (past.Begun r e) a =
 
 limit-agrees : (n : ℕ) (p q : Past) (g : Given) → LimitsSteps n p q → Agrees p g → Agrees q g
 limit-agrees n p q g (past.Refused h e) a = after-again p q g h e
-limit-agrees n p q g (past.Limited r e) a = agree-by q (record p { limit = n }) g g e (a r) refl
+limit-agrees n p q g (past.Limited r e) a = agree-by q (record p { limit = n; since = 0 }) g g e (a r) refl
 
 search-agrees : (end : SearchEnd) (p q : Past) (g : Given) → IsSearchEnd end p q → Agrees p g → Agrees q g
 search-agrees end p q g (past.Refused o r) a = refused-agrees [] true p q g r
-search-agrees end p q g (past.Satisfiable o r m few e) a = agree-by q (record p { model = q.model; steps = q.steps }) g g e (a r) refl
-search-agrees end p q g (past.Unsatisfiable o r m few e) a = agree-by q (record p { core = q.core; steps = q.steps }) g g e (a r) refl
-search-agrees end p q g (past.Interrupted o r m few e) a = agree-by q (record p { steps = q.steps }) g g e (a r) refl
+search-agrees end p q g (past.Satisfiable o r m few e) a = agree-by q (record p { model = q.model; steps = q.steps; since = q.since }) g g e (a r) refl
+search-agrees end p q g (past.Unsatisfiable o r m few e) a = agree-by q (record p { core = q.core; steps = q.steps; since = q.since }) g g e (a r) refl
+search-agrees end p q g (past.Interrupted o r m few e) a = agree-by q (record p { steps = q.steps; since = q.since }) g g e (a r) refl
 
 same-agrees : (p q : Past) (g : Given) → q ≡ p → Agrees p g → Agrees q g
 same-agrees p q g e a = subst (λ x. Agrees x g) (sym e) a

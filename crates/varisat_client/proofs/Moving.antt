@@ -4,6 +4,7 @@ use Rattle.std.specs.Prelude.{is_some}
 use Rattle.std.specs.Option.{unwrap_or}
 use Rattle.varisat_theory.specs.promises.Membership.{◌∈◌}
 use Rattle.varisat_theory.specs.promises.Literals.{Literal}
+use Rattle.varisat_theory.proofs.bounds.CallBounds.{few_none}
 use Rattle.varisat_literals.specs.promises.Numbers.{literal_numbered}
 use Rattle.varisat_names.specs.promises.Settings.{update_of, first_bad}
 use Rattle.varisat_names.proofs.Maps.{is_none-none}
@@ -58,6 +59,7 @@ is-new g r s c a m k = stands-free g empty_past r refl (record {
     limit = refl;
   };
   counted = record { within = λ i m. m; once = tt };
+  since = record { same = refl; few = few_none 0 };
   clause = c;
   assumptions = a;
   model = m;
@@ -160,6 +162,7 @@ put-literal n g h z e put q p st =
         stands = subst (λ (x : Client). Represents x.solver k.state) (sym q) k.stands;
         fits = k.fits;
         counted = k.counted;
+        since = k.since;
         clause = put ∙ ap (λ (ls : List Literal). ls ++ literal_numbered n ∷ []) k.clause;
         assumptions = ap (λ (x : Client). x.assumptions) q ∙ k.assumptions;
         model = subst (λ (x : Client). IsSetOf p.model x.model) (sym q) k.model;
@@ -181,6 +184,7 @@ put-assumption n g h z e put q p st =
         stands = subst (λ (x : Client). Represents x.solver k.state) (sym q) k.stands;
         fits = k.fits;
         counted = k.counted;
+        since = k.since;
         clause = ap (λ (x : Client). x.clause) q ∙ k.clause;
         assumptions = put ∙ ap (λ (ls : List Literal). ls ++ literal_numbered n ∷ []) k.assumptions;
         model = subst (λ (x : Client). IsSetOf p.model x.model) (sym q) k.model;
@@ -210,6 +214,7 @@ ends-clause n g h d z e own call none q p st =
         stands = stands;
         fits = fitting.added k.state t p.clauses p.assumed p.steps p.limit d p.clause adds (own ∙ k.clause) k.fits;
         counted = fitting.counts-added k.state t p.clauses p.assumed p.steps p.limit p.counted d p.clause adds (own ∙ k.clause) k.fits k.counted;
+        since = fitting.since-added k.state t d adds;
         clause = none;
         assumptions = ap (λ (x : Client). x.assumptions) q ∙ k.assumptions;
         model = subst (λ (x : Client). IsSetOf p.model x.model) (sym q) k.model;
@@ -233,6 +238,7 @@ begins-search g h d e own call none q p st =
         stands = stands;
         fits = fitting.begun k.state t p.clauses p.assumed p.steps p.limit d p.assumptions assumes (own ∙ k.assumptions) k.fits;
         counted = fitting.counts-begun k.state t p.clauses p.assumed p.steps p.limit p.counted d p.assumptions assumes (own ∙ k.assumptions) k.fits k.counted;
+        since = fitting.since-begun k.state t d assumes;
         clause = ap (λ (x : Client). x.clause) q ∙ k.clause;
         assumptions = none;
         model = subst (λ (x : Client). IsSetOf p.model x.model) (sym q) k.model;
@@ -248,7 +254,7 @@ limits-steps steps u g h e given call q p st =
     let r = not-refused g p st e in
     let k = st.holds r in
     let (t, configures, stands) = call k.state k.stands in
-    let to : Past = record p { limit = steps } in (
+    let to : Past = record p { limit = steps; since = 0 } in (
       to,
       past.Limited r refl,
       stands-free h to (ap (λ (x : Client). x.refusal) q ∙ st.refusal) r (record {
@@ -256,6 +262,7 @@ limits-steps steps u g h e given call q p st =
         stands = stands;
         fits = fitting.limited k.state t p.clauses p.assumed p.steps p.limit steps u configures (ap (λ (v : SolverConfigUpdate). v.max_steps) given) k.fits;
         counted = fitting.counts-limited k.state t p.counted u configures k.counted;
+        since = fitting.since-limited k.state t u configures;
         clause = ap (λ (x : Client). x.clause) q ∙ k.clause;
         assumptions = ap (λ (x : Client). x.assumptions) q ∙ k.assumptions;
         model = subst (λ (x : Client). IsSetOf p.model x.model) (sym q) k.model;
@@ -283,15 +290,16 @@ finds-model r g m h e q call (client.Kept list found tells set o) = λ p st.
     let k = st.holds free in
     let (t, solves, stands) = call k.state k.stands in
     let fits = fitting.decided k.state t true p.clauses p.assumed p.steps p.limit solves k.fits in
-    let to : Past = record p { model = list; steps = t.ledger.steps } in (
+    let to : Past = record p { model = list; steps = t.ledger.steps; since = t.ledger.since } in (
       to,
       past.Satisfiable found free (fitting.is-model t p.clauses p.assumed t.ledger.steps p.limit list fits (tells t stands))
-          (fitting.decided-few p to k.state t true solves k.counted k.fits.steps k.fits.limit refl) refl,
+          (fitting.decided-few p to k.state t true solves k.counted k.since k.fits.steps k.fits.limit refl refl) refl,
       stands-free h to (ap (λ (x : Client). x.refusal) o ∙ ap (λ (x : Client). x.refusal) q ∙ st.refusal) free (record {
         state = t;
         stands = subst (λ (x : Client). Represents x.solver t) (sym o) stands;
         fits = fits;
         counted = fitting.counts-same k.state t p.counted (same-counted solves.rest) k.counted;
+        since = fitting.since-decided k.state t true p.since solves k.since;
         clause = ap (λ (x : Client). x.clause) o ∙ ap (λ (x : Client). x.clause) q ∙ k.clause;
         assumptions = ap (λ (x : Client). x.assumptions) o ∙ ap (λ (x : Client). x.assumptions) q ∙ k.assumptions;
         model = set;
@@ -309,15 +317,16 @@ finds-core r g m h e q call (client.Kept core found tells set o) = λ p st.
     let (t, solves, stands) = call k.state k.stands in
     let fits = fitting.decided k.state t false p.clauses p.assumed p.steps p.limit solves k.fits in
     let (named, fails) = tells t stands in
-    let to : Past = record p { core = core; steps = t.ledger.steps } in (
+    let to : Past = record p { core = core; steps = t.ledger.steps; since = t.ledger.since } in (
       to,
       past.Unsatisfiable found free (fitting.is-core t p.clauses p.assumed t.ledger.steps p.limit core fits named fails)
-          (fitting.decided-few p to k.state t false solves k.counted k.fits.steps k.fits.limit refl) refl,
+          (fitting.decided-few p to k.state t false solves k.counted k.since k.fits.steps k.fits.limit refl refl) refl,
       stands-free h to (ap (λ (x : Client). x.refusal) o ∙ ap (λ (x : Client). x.refusal) q ∙ st.refusal) free (record {
         state = t;
         stands = subst (λ (x : Client). Represents x.solver t) (sym o) stands;
         fits = fits;
         counted = fitting.counts-same k.state t p.counted (same-counted solves.rest) k.counted;
+        since = fitting.since-decided k.state t false p.since solves k.since;
         clause = ap (λ (x : Client). x.clause) o ∙ ap (λ (x : Client). x.clause) q ∙ k.clause;
         assumptions = ap (λ (x : Client). x.assumptions) o ∙ ap (λ (x : Client). x.assumptions) q ∙ k.assumptions;
         model = subst (λ (x : Client). IsSetOf p.model x.model) (sym (o ∙ ap (λ (x : Client). record x { core = h.core }) q)) k.model;
@@ -333,15 +342,16 @@ spends-steps g h e q call p st =
     let free = not-refused g p st e in
     let k = st.holds free in
     let (t, solves, stands) = call k.state k.stands in
-    let to : Past = record p { steps = t.ledger.steps } in (
+    let to : Past = record p { steps = t.ledger.steps; since = t.ledger.since } in (
       to,
       past.Interrupted refl free (fitting.all-spent k.state t p.clauses p.assumed p.steps p.limit solves k.fits)
-          (fitting.spent-few p to k.state t solves k.counted k.fits.steps k.fits.limit refl) refl,
+          (fitting.spent-few p to k.state t solves k.counted k.since k.fits.steps k.fits.limit refl refl) refl,
       stands-free h to (ap (λ (x : Client). x.refusal) q ∙ st.refusal) free (record {
         state = t;
         stands = stands;
         fits = fitting.interrupted k.state t p.clauses p.assumed p.steps p.limit solves k.fits;
         counted = fitting.counts-same k.state t p.counted (same-counted solves.rest) k.counted;
+        since = fitting.since-spent k.state t solves;
         clause = ap (λ (x : Client). x.clause) q ∙ k.clause;
         assumptions = ap (λ (x : Client). x.assumptions) q ∙ k.assumptions;
         model = subst (λ (x : Client). IsSetOf p.model x.model) (sym q) k.model;

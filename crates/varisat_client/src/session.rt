@@ -79,9 +79,9 @@ pub fn run<A: Allocator + Copy>(
 
 /// The answers of a new client to the calls. Each is true of what the calls and answers before it say. Of the calls
 /// alone: for each search that is satisfiable some assignment satisfies the clauses that were given until then and
-/// makes the assumptions true under which it was begun, and for each that is unsatisfiable none does. A search makes
-/// fewer than 2^(2n+3) steps, where n variables were given so far: so it is interrupted only where it may make fewer, or
-/// where no more steps can be counted.
+/// makes the assumptions true under which it was begun, and for each that is unsatisfiable none does. All searches since
+/// a clause ended, a search was begun or a limit was given make fewer than 2^(2n+3) steps together, where n variables
+/// were given so far: so where each may make some they come to an end, or no more steps can be counted.
 pub fn answers_of<A: Allocator + Copy>(calls: Vec<Call, A>) -> Result<Vec<Answer, A>, AllocError>
     ensures truth { IfOk result (λ answers. (q : Past) × MakeInTurn empty_past calls.items answers.items q) }
     ensures decided { IfOk result (λ answers. AreDecided none_given calls.items answers.items) }

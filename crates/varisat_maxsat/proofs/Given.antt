@@ -190,10 +190,10 @@ begun-fails t cs p g h r e b moves =
     search-fails r (record (count b.assumed p) { assumed = b.assumed }) q t cs h b.assumed e m st b.from refl b.ready.clause b.ready.assumptions
 
 -- a limit of steps
-pub limited : (n : ℕ) (g h : Client) → Moves (LimitsSteps n) g h → (p : Past) → IsReady g p → (m : ℕ) × IsReady h (record p { limit = m })
+pub limited : (n : ℕ) (g h : Client) → Moves (LimitsSteps n) g h → (p : Past) → IsReady g p → (m : ℕ) × IsReady h (record p { limit = m; since = 0 })
 limited n g h moves p r = let (q, m, s) = moves p r.stands in go q m s
   where
-    go : (q : Past) → LimitsSteps n p q → RepresentsPast h q → (m : ℕ) × IsReady h (record p { limit = m })
+    go : (q : Past) → LimitsSteps n p q → RepresentsPast h q → (m : ℕ) × IsReady h (record p { limit = m; since = 0 })
     go q (past.Refused z e) s = absurd (z r.refusal)
     go q (past.Limited z e) s = (n, record { stands = subst (RepresentsPast h) e s; refusal = r.refusal; clause = r.clause; assumptions = r.assumptions })
 

@@ -101,7 +101,7 @@ fn left_of<A: Allocator + Copy>(client: &Client<A>, steps: Option<u64>) -> u64 {
 
 /// Lets a search make what is left of so many steps in all.
 fn limit_search<A: Allocator + Copy>(client: &mut Client<A>, steps: Option<u64>)
-    ensures { (p : Past) → IsReady client.old p → (n : ℕ) × IsReady client.new (record p { limit = n }) }
+    ensures { (p : Past) → IsReady client.old p → (n : ℕ) × IsReady client.new (record p { limit = n; since = 0 }) }
 {
     let left = left_of(client, steps);
     client.limit_steps(left);

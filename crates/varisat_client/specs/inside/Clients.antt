@@ -1,7 +1,8 @@
 -- What a client holds, and what of the calls and answers so far it stands for.
-use Rattle.std.specs.Prelude.{◌≡◌, ℕ, ◌<◌, ◌≤◌, Bool, true, false, Option, Some, None, List, map}
+use Rattle.std.specs.Prelude.{◌≡◌, ℕ, ◌<◌, ◌≤◌, Bool, true, false, Option, Some, None, List, length, map}
 use Rattle.varisat_theory.specs.promises.Membership.{◌∈◌, ◌⊆◌, IsDistinct}
 use Rattle.varisat_theory.specs.promises.Literals.{Literal, Clause, variable_of, IsSatisfiable, IsFailedCore}
+use Rattle.varisat_theory.specs.promises.CallBounds.{AreFew}
 use Rattle.varisat_literals.specs.promises.Numbers.{variable_limit}
 use Rattle.varisat_solver.specs.promises.States.{State, Unsat, new_state}
 use Rattle.varisat_solver.specs.promises.Names.{through_names, AreInOrder}
@@ -59,12 +60,18 @@ pub record CountsAmong (s : State) (known : List ℕ) : Type 0 where
   pub within : s.counted ⊆ known
   pub once : IsDistinct s.counted
 
+-- So many steps were made since the last change, which are few for the variables that are counted.
+pub record MadeFewSince (s : State) (since : ℕ) : Type 0 where
+  pub same : s.ledger.since ≡ since
+  pub few : AreFew (length s.counted) since
+
 -- What is held stands for the past, where no call was refused.
 pub record HoldsPast (g : Client) (p : Past) : Type 0 where
   pub state : State
   pub stands : Represents g.solver state
   pub fits : WasGiven state p.clauses p.assumed p.steps p.limit
   pub counted : CountsAmong state p.counted
+  pub since : MadeFewSince state p.since
   pub clause : g.clause ≡ p.clause
   pub assumptions : g.assumptions ≡ p.assumptions
   pub model : IsSetOf p.model g.model

@@ -1,7 +1,8 @@
 -- What the calls of a client and their answers say so far, and how a call moves it: no state of the solver is spoken of.
-use Rattle.std.specs.Prelude.{◌≡◌, ◌≢◌, ◌⊎◌, ℕ, ◌+◌, ◌-◌, ◌*◌, ◌^◌, ◌<◌, ◌≤◌, ℤ, pos, negsuc, ◌-ℤ◌, Bool, true, false, Option, Some, None, List, [], ◌∷◌, ◌++◌, length, map}
+use Rattle.std.specs.Prelude.{◌≡◌, ◌≢◌, ◌⊎◌, ℕ, ◌+◌, ◌-◌, ◌^◌, ◌≤◌, ℤ, pos, negsuc, ◌-ℤ◌, Bool, true, false, Option, Some, None, List, [], ◌∷◌, ◌++◌, length, map}
 use Rattle.varisat_theory.specs.promises.Membership.{◌∈◌, ◌⊆◌}
 use Rattle.varisat_theory.specs.promises.Literals.{Literal, Clause, Assignment, variable_of, opposite, SatisfiesAll, MakesTrue, IsFailedCore}
+use Rattle.varisat_theory.specs.promises.CallBounds.{AreFew}
 use Rattle.varisat_literals.specs.promises.Numbers.{literal_numbered}
 use Rattle.varisat_solver.specs.promises.Calls.{IsPastLimit}
 use Rattle.varisat_solver.specs.promises.States.{join_counted}
@@ -16,7 +17,8 @@ use Rattle.varisat_client.specs.declared.refusal.Refusal.TheVariants.{OutOfMemor
 -- one. `assumptions`: those for the next search. `assumed`: those of the search that was begun last. `model`: the literals that are
 -- true in the model of the last search that was satisfiable. `core`: those of the core of the last one that was unsatisfiable.
 -- `counted`: the variables of the clauses that were given to their end, and of the assumptions under which a search was begun, each once.
--- `steps`: how many steps all searches made that were not refused. `limit`: how many one of them may make.
+-- `steps`: how many steps all searches made that were not refused. `since`: how many of them since the last change, which is the last
+-- clause that ended, search that began or limit that was given. `limit`: how many one search may make.
 pub record Past : Type 0 where
   pub refusal : Option Refusal
   pub clauses : List Clause
@@ -27,6 +29,7 @@ pub record Past : Type 0 where
   pub core : List Literal
   pub counted : List ℕ
   pub steps : ℕ
+  pub since : ℕ
   pub limit : ℕ
 
 -- before the first call
@@ -43,6 +46,7 @@ empty_past =
       counted =
           [];
       steps = 0;
+      since = 0;
       limit = 2 ^ 64 - 1;
     }
 
@@ -59,9 +63,9 @@ pub data Refuses (given : List Literal) (stores : Bool) (p q : Past) : Type 0 wh
   Full : p.refusal ≡ None → (IsPastLimit given → ⊥) → stores ≡ true → q ≡ refuse ClauseStoreFull p →
       Refuses given stores p q
 
--- the variables of the literals are counted, too
+-- the variables of the literals are counted, too, and steps are counted anew
 abbrev pub count : List Literal → Past → Past
-count ls p = record p { counted = join_counted p.counted (map variable_of ls) }
+count ls p = record p { counted = join_counted p.counted (map variable_of ls); since = 0 }
 
 -- A number that is not 0 is put behind the clause, and 0 ends it, as which the clause is given to the solver.
 pub data AddsNumber (n : ℤ) (p q : Past) : Type 0 where
@@ -87,7 +91,7 @@ pub data Begins (p q : Past) : Type 0 where
 -- One call of a search may make so many steps from now on. This is refused only once another call was.
 pub data LimitsSteps (steps : ℕ) (p q : Past) : Type 0 where
   Refused : p.refusal ≢ None → q ≡ p → LimitsSteps steps p q
-  Limited : p.refusal ≡ None → q ≡ record p { limit = steps } → LimitsSteps steps p q
+  Limited : p.refusal ≡ None → q ≡ record p { limit = steps; since = 0 } → LimitsSteps steps p q
 
 -- The literals that are true in a model: one of each clause and all assumptions are among them, of each literal of a clause it or its
 -- opposite, and some assignment makes them true that satisfies the clauses. So none is among them together with its opposite.
@@ -97,12 +101,13 @@ pub record IsFoundModel (clauses : List Clause) (assumed model : List Literal) :
   pub whole : (c : Clause) (l : Literal) → c ∈ clauses → l ∈ c → (l ∈ model) ⊎ (opposite l ∈ model)
   pub assumed_too : assumed ⊆ model
 
--- A search makes no more steps than it may, and few for so many variables.
+-- A search makes no more steps than it may, and few for so many variables, over however many searches since the last change.
 pub record MakesFew (p q : Past) : Type 0 where
   pub made : ℕ
   pub count : q.steps ≡ p.steps + made
+  pub since : q.since ≡ p.since + made
   pub budget : made ≤ p.limit
-  pub few : made < 2 ^ (2 * length p.counted + 3)
+  pub few : AreFew (length p.counted) q.since
 
 -- How a search ends: Satisfiable with a model of the clauses that makes the assumptions true; Unsatisfiable where no assignment
 -- satisfies the clauses and makes them true, with some of them for which it is so already; Interrupted where it made all the steps
@@ -110,12 +115,12 @@ pub record MakesFew (p q : Past) : Type 0 where
 pub data IsSearchEnd (r : SearchEnd) (p q : Past) : Type 0 where
   Refused : r ≡ end.Refused → Refuses [] true p q → IsSearchEnd r p q
   Satisfiable : r ≡ end.Satisfiable → p.refusal ≡ None → IsFoundModel p.clauses p.assumed q.model → MakesFew p q →
-      q ≡ record p { model = q.model; steps = q.steps } → IsSearchEnd r p q
+      q ≡ record p { model = q.model; steps = q.steps; since = q.since } → IsSearchEnd r p q
   Unsatisfiable : r ≡ end.Unsatisfiable → p.refusal ≡ None → IsFailedCore p.clauses p.assumed q.core → MakesFew p q →
-      q ≡ record p { core = q.core; steps = q.steps } → IsSearchEnd r p q
+      q ≡ record p { core = q.core; steps = q.steps; since = q.since } → IsSearchEnd r p q
   Interrupted : r ≡ end.Interrupted → p.refusal ≡ None → (q.steps ≡ p.steps + p.limit) ⊎ (q.steps ≡ 2 ^ 64 - 1) →
       MakesFew p q →
-      q ≡ record p { steps = q.steps } → IsSearchEnd r p q
+      q ≡ record p { steps = q.steps; since = q.since } → IsSearchEnd r p q
 
 -- A number is returned where its literal is true in the last model, the opposite number where that is, and else 0: so it is for 0, for
 -- the number that has no opposite, and once a call was refused.

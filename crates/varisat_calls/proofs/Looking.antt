@@ -1,14 +1,29 @@
 -- The literals of a list that are kept, and what is returned of one of them.
-use Rattle.std.proofs.Common.{◌≡◌, ℕ, ℤ, refl, sym, ap, subst, ◌∙◌}
-use Rattle.std.specs.Prelude.{Bool, List}
+use Rattle.std.proofs.Common.{◌≡◌, ℕ, ℤ, inl, refl, sym, ap, subst, ◌∙◌}
+use Rattle.std.specs.Prelude.{Bool, List, Err}
+use Rattle.std.specs.declared.alloc.AllocError.{AllocError}
 use Rattle.varisat_theory.specs.promises.Membership.{◌∈◌}
 use Rattle.varisat_theory.specs.promises.Literals.{Literal, opposite}
 use Rattle.varisat_literals.specs.promises.Numbers.{literal_numbered}
 use Rattle.varisat_client.specs.inside.LiteralSets.{IsSetOf}
 use Rattle.varisat_solver.specs.promises.Summaries.{Summary}
-use Rattle.varisat_calls.specs.Callers.{Caller}
-use Rattle.varisat_calls.specs.Lookups.{Lookups, IsCurrent, IsReturnedModel, IsCore, IsValueIn, IsMember, ReturnsValue, ReturnsFailed, True, False, Unknown, Yes, No, Failed, Unfailed}
+use Rattle.varisat_solver.specs.promises.Represented.{LeadsRepresented}
+use Rattle.varisat_calls.specs.Callers.{Caller, ReturnsListOf, NoRoom}
+use Rattle.varisat_calls.specs.Lookups.{Lookups, IsCurrent, ReturnsModel, IsReturnedModel, HasModel, IsCore, IsValueIn, IsMember, ReturnsValue, ReturnsFailed, True, False, Unknown, Yes, No, Failed, Unfailed}
 use Rattle.varisat_calls.specs.declared.lookups.Kept.TheVariants as kept
+
+-- there is a model where it found no memory
+pub model-lost : (g : Summary) (x : AllocError) → LeadsRepresented g (λ s t. ReturnsModel s (Err x) t) g → HasModel g
+model-lost g x call s st =
+    let (t, (valid, some, same), stands) = call s st in
+    let (list, may) = some in
+    (t, (list, (inl (valid, may), same)), stands)
+
+-- then it is not returned
+pub model-unlisted : (g h : Caller) (n : ℕ) (x : AllocError) → n ≡ 3 → h ≡ g →
+    LeadsRepresented g.solver (λ s t. ReturnsModel s (Err x) t) g.solver → ReturnsListOf ReturnsModel g n h
+model-unlisted g h n x three same call =
+    subst (λ k. ReturnsListOf ReturnsModel g n k) (sym same) (NoRoom three (model-lost g.solver x call) refl)
 
 -- the core is kept
 pub core-kept : (c : Lookups) (g : Summary) (m : List Literal) → c.kept ≡ kept.Core → IsCore g m → IsSetOf m c.literals → IsCurrent c g

@@ -10,7 +10,7 @@ use Rattle.varisat_rules.specs.promises.Stacks.{extended, KeepsFrozen}
 use Rattle.varisat_simplify.specs.promises.Simplified.{IsMadeOf}
 use Rattle.varisat_formula.specs.promises.Values.{model_values}
 use Rattle.varisat_calls.specs.Lists.{clause_numbers, value_numbers}
-use Rattle.varisat_calls.specs.Simplifiers.{SimplifiedFormula, Simplifier, made_of, given_of, SimplifiesFormula, Simplifies, Simplified, ListsClauses, Listed, Extends, Extended}
+use Rattle.varisat_calls.specs.Simplifiers.{SimplifiedFormula, Simplifier, made_of, given_of, SimplifiesFormula, Simplifies, Simplified, ListsClauses, Listed, NoRoom, Extends, Extended}
 use Rattle.varisat_formula.proofs.ValueLemmas.{length-model}
 use Rattle.varisat_rules.proofs.ExtendLemmas.{extended_length}
 use Rattle.varisat_calls.proofs.Extending.{extension}
@@ -45,6 +45,12 @@ pub listed-now : (stack : Option (List Clause)) (f : Formula) (n : ℕ) (cs : Li
 listed-now None f n cs frozen old new number some right z put = absurd (cc)
 listed-now (Some s) f n cs frozen old new number some right z put =
     Listed (record { left = f; stack = s }) right refl z (ap (λ ls. simplifier_of (Some s) f n cs frozen ls) put)
+
+-- there was a list, but no room for it
+pub unlisted-now : (stack : Option (List Clause)) (f : Formula) (n : ℕ) (cs : List Clause) (frozen : List Bool) (old new : List ℤ) (number : ℕ) →
+    is_some stack ≡ true → number ≡ 3 → ListsClauses (simplifier_of stack f n cs frozen old) number (simplifier_of stack f n cs frozen new)
+unlisted-now None f n cs frozen old new number some three = absurd (cc)
+unlisted-now (Some s) f n cs frozen old new number some three = NoRoom refl three refl
 
 pub extended-now : (numbers : List ℤ) (stack : Option (List Clause)) (f : Formula) (n : ℕ) (cs : List Clause) (frozen : List Bool)
     (old new : List ℤ) (number : ℕ) (s : List Clause) (ls : List Literal) → (pos 0 ∈ numbers → ⊥) → ls ≡ map literal_numbered numbers → stack ≡ Some s →

@@ -1,7 +1,7 @@
 -- What a caller holds, and what the number of a call's answer says: the relation that the call of `Solver` has, over the literals of
 -- the numbers given. Numbers of answers are 0, those of the solver's refusals, 14 where what was given is none of what it should be,
 -- and 15 where there is nothing to return.
-use Rattle.std.specs.Prelude.{◌≡◌, ◌⊎◌, ℕ, ℤ, pos, ◌<ℤ◌, ◌≤ℤ◌, Bool, true, false, Option, Some, None, List, [], ◌∷◌, ◌++◌, Result, Ok, Err, map}
+use Rattle.std.specs.Prelude.{◌≡◌, ◌⊎◌, ℕ, ℤ, pos, ◌<ℤ◌, ◌≤ℤ◌, Bool, true, false, Option, Some, None, IsSome, List, [], ◌∷◌, ◌++◌, Result, Ok, Err, map}
 use Rattle.std.specs.declared.alloc.AllocError.{AllocError}
 use Rattle.varisat_theory.specs.promises.Membership.{◌∈◌}
 use Rattle.varisat_theory.specs.promises.Literals.{Literal}
@@ -114,13 +114,18 @@ pub data SetsMode (variable : ℤ) (mode : Option SamplingMode) (g : Caller) (n 
   Made : (m : SamplingMode) → mode ≡ Some m → pos 1 ≤ℤ variable → MakesNumbered (changing m variable) g n h →
       SetsMode variable mode g n h
 
--- The list is returned that the solver returns, if it does. It is 3 where there was no room for the list, and then another one may be returned.
+-- there is a list to return
+abbrev pub ReturnsSome : (State → Result (Option (List Literal)) AllocError → State → Type 0) → State → State → Type 0
+ReturnsSome R s t = (list : List Literal) × R s (Ok (Some list)) t
+
+-- The list is returned that the solver returns, if it does. It is 3 where there is one but no room for it, and then another one may be returned.
 pub data ReturnsListOf (R : State → Result (Option (List Literal)) AllocError → State → Type 0) (g : Caller)
     (n : ℕ) (h : Caller) : Type 0 where
   Returned : (list : List Literal) → n ≡ 0 → LeadsRepresented g.solver (λ s t. R s (Ok (Some list)) t) h.solver →
       h ≡ record g { returned = returned_numbers list } → ReturnsListOf R g n h
   Nothing : n ≡ 15 → LeadsRepresented g.solver (λ s t. R s (Ok None) t) h.solver → h ≡ g → ReturnsListOf R g n h
-  NoRoom : n ≡ 3 → h ≡ record g { returned = h.returned } → ReturnsListOf R g n h
+  NoRoom : n ≡ 3 → LeadsRepresented g.solver (ReturnsSome R) h.solver → h ≡ record g { returned = h.returned } →
+      ReturnsListOf R g n h
 
 -- hidden variables come back under these names
 abbrev pub ShowsNames : List ℕ → Caller → Caller → Type 0
@@ -141,7 +146,7 @@ opening f s r t = OpensProof {W = Taken} (λ w. w) no_bytes f s r t
 -- A proof opens in the format, if it is one. It is 3 also where there is no room for a target; then nothing changes.
 pub data OpensFormat (format : Option ProofFormat) (g : Caller) (n : ℕ) (h : Caller) : Type 0 where
   Wrong : format ≡ None → IsWrongCall g n h → OpensFormat format g n h
-  NoRoom : n ≡ 3 → h ≡ g → OpensFormat format g n h
+  NoRoom : IsSome format → n ≡ 3 → h ≡ g → OpensFormat format g n h
   Opened : (f : ProofFormat) → format ≡ Some f → n ≡ 0 → Makes (opening f) g (Ok tt) h → OpensFormat format g n h
   Refused : (f : ProofFormat) (e : SolverError) → format ≡ Some f → n ≡ refusal_number e →
       Makes (opening f) g (Err (e, no_bytes)) h → OpensFormat format g n h

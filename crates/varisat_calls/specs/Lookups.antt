@@ -9,7 +9,7 @@ use Rattle.varisat_solver.specs.promises.States.{State}
 use Rattle.varisat_solver.specs.promises.Summaries.{Summary}
 use Rattle.varisat_solver.specs.promises.Represented.{LeadsRepresented}
 use Rattle.varisat_solver.specs.promises.Calls.{ReturnsList, by_state}
-use Rattle.varisat_calls.specs.Callers.{Caller, IsWrongCall}
+use Rattle.varisat_calls.specs.Callers.{Caller, IsWrongCall, ReturnsSome}
 use Rattle.varisat_calls.specs.declared.lookups.Kept.{Kept}
 use Rattle.varisat_calls.specs.declared.lookups.Kept.TheVariants as kept
 
@@ -20,16 +20,22 @@ ReturnsModel s r t = ReturnsList (by_state.model s) s r t
 abbrev pub ReturnsCore : State → Result (Option (List Literal)) AllocError → State → Type 0
 ReturnsCore s r t = ReturnsList (by_state.core s) s r t
 
--- the list is the one that `model` returns, or there is none
+-- the list is the one that `model` returns, or there is one, or none
 abbrev pub IsReturnedModel : Summary → List Literal → Type 0
 IsReturnedModel g m = LeadsRepresented g (λ s t. ReturnsModel s (Ok (Some m)) t) g
+
+abbrev pub HasModel : Summary → Type 0
+HasModel g = LeadsRepresented g (ReturnsSome ReturnsModel) g
 
 abbrev pub HasNoModel : Summary → Type 0
 HasNoModel g = LeadsRepresented g (λ s t. ReturnsModel s (Ok None) t) g
 
--- the list is the one that `failed_core` returns, or there is none
+-- the list is the one that `failed_core` returns, or there is one, or none
 abbrev pub IsCore : Summary → List Literal → Type 0
 IsCore g m = LeadsRepresented g (λ s t. ReturnsCore s (Ok (Some m)) t) g
+
+abbrev pub HasCore : Summary → Type 0
+HasCore g = LeadsRepresented g (ReturnsSome ReturnsCore) g
 
 abbrev pub HasNoCore : Summary → Type 0
 HasNoCore g = LeadsRepresented g (λ s t. ReturnsCore s (Ok None) t) g
@@ -55,11 +61,12 @@ pub data IsMember (flags : List Bool) (l : Literal) (n : ℕ) : Type 0 where
   Yes : n ≡ 1 → Has flags l → IsMember flags l n
   No : n ≡ 0 → (Has flags l → ⊥) → IsMember flags l n
 
--- What a look-up answers that finds no list: the number is 0; or there is none; or its literals found no memory, and another look-up may be made.
-pub data FindsNone (none : Summary → Type 0) (number : ℤ) (g : Caller) (n : ℕ) (h : Caller) : Type 0 where
-  Zero : number ≡ pos 0 → IsWrongCall g n h → FindsNone none number g n h
-  NoList : n ≡ 15 → none g.solver → h ≡ g → FindsNone none number g n h
-  NoRoom : n ≡ 3 → h ≡ g → FindsNone none number g n h
+-- What a look-up answers that finds no list: the number is 0; or there is none; or there is one, whose literals found no memory, and another
+-- look-up may be made.
+pub data FindsNone (some none : Summary → Type 0) (number : ℤ) (g : Caller) (n : ℕ) (h : Caller) : Type 0 where
+  Zero : number ≡ pos 0 → IsWrongCall g n h → FindsNone some none number g n h
+  NoList : n ≡ 15 → none g.solver → h ≡ g → FindsNone some none number g n h
+  NoRoom : n ≡ 3 → some g.solver → h ≡ g → FindsNone some none number g n h
 
 -- Whether the literal of the number is true in the model: 1 and 0, and 15 where the model has no such variable.
 pub data ReturnsValue (number : ℤ) (g : Caller) (n : ℕ) (h : Caller) : Type 0 where
@@ -70,7 +77,7 @@ pub data ReturnsValue (number : ℤ) (g : Caller) (n : ℕ) (h : Caller) : Type 
   Unknown : (m : List Literal) → IsReturnedModel g.solver m → (literal_numbered number ∈ m → ⊥) →
       (opposite (literal_numbered number) ∈ m → ⊥) →
       n ≡ 15 → h ≡ g → ReturnsValue number g n h
-  Unfound : FindsNone HasNoModel number g n h → ReturnsValue number g n h
+  Unfound : FindsNone HasModel HasNoModel number g n h → ReturnsValue number g n h
 
 -- Whether the literal of the number is one of the core: 1 and 0.
 pub data ReturnsFailed (number : ℤ) (g : Caller) (n : ℕ) (h : Caller) : Type 0 where
@@ -78,4 +85,4 @@ pub data ReturnsFailed (number : ℤ) (g : Caller) (n : ℕ) (h : Caller) : Type
       ReturnsFailed number g n h
   Unfailed : (m : List Literal) → IsCore g.solver m → (literal_numbered number ∈ m → ⊥) → n ≡ 0 → h ≡ g →
       ReturnsFailed number g n h
-  Unfound : FindsNone HasNoCore number g n h → ReturnsFailed number g n h
+  Unfound : FindsNone HasCore HasNoCore number g n h → ReturnsFailed number g n h

@@ -58,7 +58,7 @@ pub data Adds (numbers : List ℤ) (g : Simplifier) (n : ℕ) (h : Simplifier) :
   Zero : pos 0 ∈ numbers → IsRefusedFor 14 g n h → Adds numbers g n h
   TooHigh : (AreWithinLimit (map literal_numbered numbers) → ⊥) → IsRefusedFor 7 g n h → Adds numbers g n h
   TooLate : IsSome g.made → IsRefusedFor 19 g n h → Adds numbers g n h
-  NoRoom : IsRefusedFor 3 g n h → Adds numbers g n h
+  NoRoom : g.made ≡ None → IsRefusedFor 3 g n h → Adds numbers g n h
 
 -- the variable is flagged, and no other one changes
 pub record SetsFlag (old : List Bool) (v : ℕ) (new : List Bool) : Type 0 where
@@ -73,21 +73,22 @@ pub data Freezes (variable : ℤ) (g : Simplifier) (n : ℕ) (h : Simplifier) : 
   Wrong : variable <ℤ pos 1 → IsRefusedFor 14 g n h → Freezes variable g n h
   TooHigh : variable_limit ≤ variable_numbered variable → IsRefusedFor 7 g n h → Freezes variable g n h
   TooLate : IsSome g.made → IsRefusedFor 19 g n h → Freezes variable g n h
-  NoRoom : IsRefusedFor 3 g n h → Freezes variable g n h
+  NoRoom : pos 1 ≤ℤ variable → variable_numbered variable < variable_limit → g.made ≡ None → IsRefusedFor 3 g n h →
+      Freezes variable g n h
 
 -- The clauses are simplified, once.
 pub data Simplifies (g : Simplifier) (n : ℕ) (h : Simplifier) : Type 0 where
   Simplified : (m : SimplifiedFormula) → SimplifiesFormula g.given g.frozen m → g.made ≡ None → n ≡ 0 → h ≡ record g { made = Some m } →
       Simplifies g n h
   TooLate : IsSome g.made → IsRefusedFor 19 g n h → Simplifies g n h
-  NoRoom : IsRefusedFor 3 g n h → Simplifies g n h
+  NoRoom : g.made ≡ None → IsRefusedFor 3 g n h → Simplifies g n h
 
 -- The clauses that are left are listed, each ended by a 0.
 pub data ListsClauses (g : Simplifier) (n : ℕ) (h : Simplifier) : Type 0 where
   Listed : (m : SimplifiedFormula) → SimplifiesFormula g.given g.frozen m → g.made ≡ Some m → n ≡ 0 →
       h ≡ record g { list = clause_numbers m.left.clauses } → ListsClauses g n h
   Nothing : g.made ≡ None → IsRefusedFor 15 g n h → ListsClauses g n h
-  NoRoom : n ≡ 3 → h ≡ record g { list = h.list } → ListsClauses g n h
+  NoRoom : IsSome g.made → n ≡ 3 → h ≡ record g { list = h.list } → ListsClauses g n h
 
 -- each clause has a literal of the list, and no literal's opposite is in it too
 pub record IsModelOf (P : List Clause) (ls : List Literal) : Type 0 where

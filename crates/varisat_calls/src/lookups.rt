@@ -3,7 +3,7 @@ ghost use Rattle.std.specs.Prelude.{◌≡◌, ◌↔◌, IsTrue, true, false, O
 ghost use Rattle.varisat_theory.specs.promises.Literals.{Literal};
 ghost use Rattle.varisat_client.specs.inside.LiteralSets.{Has, IsSetOf};
 ghost use Rattle.varisat_solver.specs.promises.Summaries.{Summary};
-ghost use Rattle.varisat_calls.specs.Lookups.{IsCurrent, IsValueIn, IsMember, IsReturnedModel, IsCore, HasNoModel, HasNoCore};
+ghost use Rattle.varisat_calls.specs.Lookups.{IsCurrent, IsValueIn, IsMember, IsReturnedModel, IsCore, HasModel, HasNoModel, HasCore, HasNoCore};
 ghost use Rattle.varisat_calls.specs.declared.lookups.Kept.TheVariants.{Nothing};
 
 use crate::codes::NOTHING;
@@ -72,6 +72,7 @@ impl<A: Allocator + Copy> Lookups<A> {
         ensures current { IsCurrent self.new solver.now }
         ensures model { result ≡ Ok true → (m : List Literal) × IsReturnedModel solver.now m × IsSetOf m self.new.literals }
         ensures none { result ≡ Ok false → HasNoModel solver.now }
+        ensures lost { OnErr result (HasModel solver.now) }
     {
         if let Kept::Model = self.kept {
             return Ok(true);
@@ -92,6 +93,7 @@ impl<A: Allocator + Copy> Lookups<A> {
         ensures current { IsCurrent self.new solver.now }
         ensures core { result ≡ Ok true → (m : List Literal) × IsCore solver.now m × IsSetOf m self.new.literals }
         ensures none { result ≡ Ok false → HasNoCore solver.now }
+        ensures lost { OnErr result (HasCore solver.now) }
     {
         if let Kept::Core = self.kept {
             return Ok(true);

@@ -8,4 +8,5 @@ returns-in_ok-replace-in-Some g c =
       current = core-kept c.replace.new.self c.args.solver.now c.in-Some.core.now both.0 c.in-Some.ensures.call both.1;
       core = λ e. (c.in-Some.core.now, c.in-Some.ensures.call, both.1);
       none = λ e. absurd cc;
+      lost = tt;
     }

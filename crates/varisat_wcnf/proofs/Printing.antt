@@ -1,5 +1,5 @@
 -- The digits of values in turn, and the lines of costs.
-use Rattle.std.proofs.Common.{◌≡◌, ℕ, zero, suc, ◌+◌, ◌<◌, Bool, true, false, if◌then◌else◌, List, [], ◌∷◌, ◌++◌, inl, inr, length, take, get_or, refl, sym, ap, ◌∙◌, subst, append_assoc, arith}
+use Rattle.std.proofs.Common.{◌≡◌, ◌⊎◌, ℕ, zero, suc, ◌+◌, ◌-◌, ◌^◌, ◌<◌, Bool, true, false, if◌then◌else◌, List, [], ◌∷◌, ◌++◌, inl, inr, length, take, get_or, refl, sym, ap, ◌∙◌, subst, append_assoc, arith}
 use Rattle.std.specs.Prelude.{Option, Some, None, Result, Ok, Err, IfOk, OnErr, MatchOption, MatchResult, is_some, codes}
 use Rattle.std.proofs.Math.Seq.{take-append-add}
 use Rattle.std.proofs.lemmas.List.{take_all}
@@ -7,7 +7,7 @@ use Rattle.varisat_theory.specs.promises.Literals.{IsSatisfiable}
 use Rattle.varisat_formula.specs.promises.Streams.{Taken}
 use Rattle.varisat_formula.proofs.TargetParts.{begin_part}
 use Rattle.varisat_maxsat.specs.promises.Problems.{Problem, IsOptimumOrSolution, Found, Improve, last_found}
-use Rattle.varisat_wcnf.specs.promises.Printed.{value_digits, solution_status, solution_text, cost_line, cost_lines, PrintsText, PrintsAnswer, Solved, Unsatisfiable, Unknown}
+use Rattle.varisat_wcnf.specs.promises.Printed.{value_digits, solution_status, solution_text, cost_line, cost_lines, PrintsText, PrintsAnswer, Solved, Unsatisfiable, Unknown, CostsAlone}
 use Rattle.varisat_wcnf.specs.inside.Costs.{PrintsCosts}
 
 digits-more : (vs : List Bool) (i : ℕ) (d : Bool) → i < length vs →
@@ -60,27 +60,32 @@ prints-line None k f fs old mid new none c b q (before, quiet) = (
 prints-line (Some e) k f fs old mid new none c b q h = absurd cc
 
 pub prints-part : {E : Type 0} (fault : Option E) (e : E) (k : ℕ) (f : Found) (fs : List Found) (old mid new : Taken) → is_some fault ≡ false → f.cost ≡ k →
-    ((n : ℕ) × (new.bytes ≡ mid.bytes ++ take n (cost_line k))) → PrintsCosts fault fs old mid → PrintsCosts (Some e) (f ∷ fs) old new
-prints-part None e k f fs old mid new none c (n, b) (before, quiet) = (
-  length (cost_lines fs) + n,
-  b ∙ ap (λ m. mid.bytes ++ take n (cost_line m)) (sym c) ∙ ap (λ x. x ++ take n (cost_line f.cost)) before
-      ∙ append_assoc old.bytes (cost_lines fs) (take n (cost_line f.cost)) ∙ ap (λ x. old.bytes ++ x) (sym (take-append-add (cost_lines fs) (cost_line f.cost) n)),
+    ((n : ℕ) × (new.bytes ≡ mid.bytes ++ take n (cost_line k))) → (mid.faults < 2 ^ 64 - 1 → new.faults ≡ mid.faults + 1) → old.faults < 2 ^ 64 - 1 →
+    PrintsCosts fault fs old mid → PrintsCosts (Some e) (f ∷ fs) old new
+prints-part None e k f fs old mid new none c (n, b) more h (before, quiet) = (
+  (
+    length (cost_lines fs) + n,
+    b ∙ ap (λ m. mid.bytes ++ take n (cost_line m)) (sym c) ∙ ap (λ x. x ++ take n (cost_line f.cost)) before
+        ∙ append_assoc old.bytes (cost_lines fs) (take n (cost_line f.cost)) ∙ ap (λ x. old.bytes ++ x) (sym (take-append-add (cost_lines fs) (cost_line f.cost) n)),
+  ),
+  more (subst (λ k. k < 2 ^ 64 - 1) (sym quiet) h) ∙ ap (λ k. k + 1) quiet,
 )
-prints-part (Some d) e k f fs old mid new none c h g = absurd cc
+prints-part (Some d) e k f fs old mid new none c h more l g = absurd cc
 
 pub prints-no-more : {E : Type 0} (fault : Option E) (f : Found) (fs : List Found) (old new : Taken) → is_some fault ≡ true →
     PrintsCosts fault fs old new → PrintsCosts fault (f ∷ fs) old new
 prints-no-more None f fs old new some h = absurd cc
-prints-no-more (Some e) f fs old new some (n, b) =
-    let (m, l) = begin_part n (cost_lines fs) (cost_line f.cost) in (m, b ∙ ap (λ x. old.bytes ++ x) l)
+prints-no-more (Some e) f fs old new some ((n, b), more) =
+    let (m, l) = begin_part n (cost_lines fs) (cost_line f.cost) in ((m, b ∙ ap (λ x. old.bytes ++ x) l), more)
 
 -- a text behind another one
 pub prints-behind : (before text : List ℕ) (status : ℕ) (old mid new : Taken) (r : ℕ) → mid.bytes ≡ old.bytes ++ before → mid.faults ≡ old.faults →
     PrintsText text status mid new r → PrintsText (before ++ text) status old new r
 prints-behind before text status old mid new r e f (inl (b, g, q)) = inl (b ∙ ap (λ x. x ++ text) e ∙ append_assoc old.bytes before text, g ∙ f, q)
-prints-behind before text status old mid new r e f (inr (n, b, q)) = inr (
+prints-behind before text status old mid new r e f (inr (n, b, g, q)) = inr (
   length before + n,
   b ∙ ap (λ x. x ++ take n text) e ∙ append_assoc old.bytes before (take n text) ∙ ap (λ x. old.bytes ++ x) (sym (take-append-add before text n)),
+  g ∙ ap (λ k. k + 1) f,
   q,
 )
 
@@ -90,12 +95,17 @@ found-last (g ∷ gs) f e = let h : g ≡ f = cc in (gs, ap (λ x. x ∷ gs) h)
 
 pub solved : (p : Problem) (is_optimum : Bool) (k : ℕ) (values : List Bool) (found : List Found) (old mid new : Taken) (r : ℕ) → Improve p found →
     last_found found ≡ Some (record { cost = k; values = values }) → IsOptimumOrSolution is_optimum p k values → mid.bytes ≡ old.bytes ++ cost_lines found →
-    mid.faults ≡ old.faults → PrintsText (solution_text is_optimum values) (solution_status is_optimum) mid new r → PrintsAnswer p old new r
-solved p is_optimum k values found old mid new r i l a e g h =
+    mid.faults ≡ old.faults → PrintsText (solution_text is_optimum values) (solution_status is_optimum) mid new r ⊎ ((new ≡ mid) × (r ≡ 2)) →
+    PrintsAnswer p old new r
+solved p is_optimum k values found old mid new r i l a e g (inl h) =
     let (gs, s) = found-last found (record { cost = k; values = values }) l in
     Solved is_optimum (record { cost = k; values = values }) gs (subst (Improve p) s i) a
     (prints-behind (cost_lines (record { cost = k; values = values } ∷ gs)) (solution_text is_optimum values) (solution_status is_optimum) old mid new r
     (subst (λ fs. mid.bytes ≡ old.bytes ++ cost_lines fs) s e) g h)
+solved p is_optimum k values found old mid new r i l a e g (inr (same, two)) =
+    let (gs, s) = found-last found (record { cost = k; values = values }) l in
+    CostsAlone (record { cost = k; values = values }) gs (subst (Improve p) s i)
+    (ap (λ t. t.bytes) same ∙ subst (λ fs. mid.bytes ≡ old.bytes ++ cost_lines fs) s e) (ap (λ t. t.faults) same ∙ g) two
 
 pub unsatisfied : (p : Problem) (found : List Found) (old mid new : Taken) (r : ℕ) → (IsSatisfiable p.hard → ⊥) → found ≡ [] →
     mid.bytes ≡ old.bytes ++ cost_lines found → mid.faults ≡ old.faults → PrintsText (codes "s UNSATISFIABLE\n") 20 mid new r → PrintsAnswer p old new r
@@ -108,9 +118,9 @@ unknown p found old mid new r i e g h = Unknown found i (prints-behind (cost_lin
 
 -- printing failed
 pub broken-off : (p : Problem) (found : List Found) (old new : Taken) (r : ℕ) → Improve p found →
-    ((n : ℕ) × (new.bytes ≡ old.bytes ++ take n (cost_lines found))) → r ≡ 2 → PrintsAnswer p old new r
-broken-off p found old new r i (n, b) q =
-    let (m, l) = begin_part n (cost_lines found) (codes "s UNKNOWN\n") in Unknown found i (inr (m, b ∙ ap (λ x. old.bytes ++ x) l, q))
+    ((n : ℕ) × (new.bytes ≡ old.bytes ++ take n (cost_lines found))) × (new.faults ≡ old.faults + 1) → r ≡ 2 → PrintsAnswer p old new r
+broken-off p found old new r i ((n, b), more) q =
+    let (m, l) = begin_part n (cost_lines found) (codes "s UNKNOWN\n") in Unknown found i (inr (m, b ∙ ap (λ x. old.bytes ++ x) l, more, q))
 
 -- two facts of an answer
 pub both-said : {X E : Type 0} (r : Result (Option X) E) (A B : Type 0) (P Q : X → Type 0) → IfOk r (λ o. MatchOption o A P) → IfOk r (λ o. MatchOption o B Q) →
@@ -125,7 +135,7 @@ pub all-printed : {E : Type 0} (fault : Option E) (found : List Found) (old new 
 all-printed fault found old new e h = subst (λ f. PrintsCosts f found old new) e h
 
 pub part-printed : {E : Type 0} (fault : Option E) (d : E) (found : List Found) (old new : Taken) → fault ≡ Some d → PrintsCosts fault found old new →
-    (n : ℕ) × (new.bytes ≡ old.bytes ++ take n (cost_lines found))
+    ((n : ℕ) × (new.bytes ≡ old.bytes ++ take n (cost_lines found))) × (new.faults ≡ old.faults + 1)
 part-printed fault d found old new e h = subst (λ f. PrintsCosts f found old new) e h
 
 -- what is known by what was returned

@@ -1,5 +1,5 @@
 //! Prints the cost of each solution as it is found.
-ghost use Rattle.std.specs.Prelude.{◌≡◌, ℕ, ◌-◌, ◌<◌, ◌^◌, ◌++◌, List, Some, take, OnOk, OnErr, MatchResult};
+ghost use Rattle.std.specs.Prelude.{◌≡◌, ℕ, ◌+◌, ◌-◌, ◌<◌, ◌^◌, ◌++◌, List, Some, None, take, OnOk, OnErr, MatchResult};
 ghost use Rattle.varisat_maxsat.specs.promises.Problems.{Found, Improve};
 ghost use Rattle.varisat_wcnf.specs.promises.Printed.{cost_line, cost_lines};
 ghost use Rattle.varisat_wcnf.specs.inside.Costs.{PrintsCosts, ReturnsLast};
@@ -20,6 +20,7 @@ fn print_line<T: ProofTarget>(cost: u64, out: &mut T) -> io::Result<()>
     ensures quiet { OnOk result ((T.taken out.new).faults ≡ (T.taken out.old).faults) }
     ensures begun { OnErr result
         ((n : ℕ) × ((T.taken out.new).bytes ≡ (T.taken out.old).bytes ++ take n (cost_line cost))) }
+    ensures fault { OnErr result ((T.taken out.new).faults ≡ (T.taken out.old).faults + 1) }
 {
     let mut buffer = Buffer::new();
     let digits = buffer.format(cost).as_bytes();
@@ -36,6 +37,8 @@ fn print_cost<T: ProofTarget>(cost: u64, out: &mut T) -> io::Result<()>
     ensures quiet { OnOk result ((T.taken out.new).faults ≡ (T.taken out.old).faults) }
     ensures begun { OnErr result
         ((n : ℕ) × ((T.taken out.new).bytes ≡ (T.taken out.old).bytes ++ take n (cost_line cost))) }
+    ensures fault { OnErr result
+        ((T.taken out.old).faults < 2 ^ 64 - 1 → (T.taken out.new).faults ≡ (T.taken out.old).faults + 1) }
 {
     if out.faults() == u64::MAX {
         return Err(io::Error::from(ErrorKind::Other));
@@ -52,11 +55,12 @@ struct CostPrinter<'a, T: ProofTarget> {
 }
 
 impl<'a, T: ProofTarget> SolutionSink for CostPrinter<'a, T> {
-    ghost use Rattle.std.specs.Prelude.{◌≡◌, refl};
+    ghost use Rattle.std.specs.Prelude.{◌≡◌, ◌-◌, ◌<◌, ◌^◌, None, refl};
     ghost use Rattle.varisat_wcnf.specs.inside.Costs.{PrintsCosts, prints-none};
 
     ghost takes = { λ x found y. (y.out.ghost_name ≡ x.out.ghost_name) × (y.fault.ghost_name ≡ x.fault.ghost_name)
-        × PrintsCosts y.fault.now found (T.taken x.out.now) (T.taken y.out.now) };
+        × (x.fault.now ≡ None → (T.taken x.out.now).faults < 2 ^ 64 - 1 →
+        PrintsCosts y.fault.now found (T.taken x.out.now) (T.taken y.out.now)) };
 
     fn take(&mut self, cost: u64, _values: &[bool]) -> bool {
         if self.fault.is_some() {
@@ -72,7 +76,7 @@ impl<'a, T: ProofTarget> SolutionSink for CostPrinter<'a, T> {
         }
     }
 
-    ghost takes_none = { λ x. (refl, refl, prints-none x.fault.now (T.taken x.out.now)) };
+    ghost takes_none = { λ x. (refl, refl, λ none _. prints-none x.fault.now (T.taken x.out.now) none) };
 }
 
 /// Solves a problem, and hands each better solution on to the printer.
@@ -82,6 +86,8 @@ fn optimize_to<A: Allocator + Copy, T: ProofTarget>(
     steps: Option<u64>,
     printer: &mut CostPrinter<'_, T>,
 ) -> Result<Option<Solution<A>>, MaxSatError>
+    requires none { printer.old.fault.now ≡ None }
+    requires countable { (T.taken printer.old.out.now).faults < 2 ^ 64 - 1 }
     ensures same_reference { printer.new.out.ghost_name ≡ printer.old.out.ghost_name }
     ensures same_fault { printer.new.fault.ghost_name ≡ printer.old.fault.ghost_name }
     ensures printed { (found : List Found) × Improve problem.now found
@@ -99,6 +105,8 @@ fn optimize_or_keep<A: Allocator + Copy, T: ProofTarget>(
     out: &mut T,
     fault: &mut Option<io::Error>,
 ) -> Result<Option<Solution<A>>, MaxSatError>
+    requires none { fault.old ≡ None }
+    requires countable { (T.taken out.old).faults < 2 ^ 64 - 1 }
     ensures { (found : List Found) × Improve problem.now found
         × PrintsCosts fault.new found (T.taken out.old) (T.taken out.new)
         × ReturnsLast problem.now found result (λ s. s.is_optimum) (λ s. record { cost = s.cost; values = s.values.items }) }
@@ -114,11 +122,13 @@ pub(crate) fn optimize_printing<A: Allocator + Copy, T: ProofTarget>(
     steps: Option<u64>,
     out: &mut T,
 ) -> io::Result<Result<Option<Solution<A>>, MaxSatError>>
+    requires { (T.taken out.old).faults < 2 ^ 64 - 1 }
     ensures { (found : List Found) × Improve problem.now found × MatchResult result
         (λ r. ((T.taken out.new).bytes ≡ (T.taken out.old).bytes ++ cost_lines found)
         × ((T.taken out.new).faults ≡ (T.taken out.old).faults)
         × ReturnsLast problem.now found r (λ s. s.is_optimum) (λ s. record { cost = s.cost; values = s.values.items }))
-        (λ _. (n : ℕ) × ((T.taken out.new).bytes ≡ (T.taken out.old).bytes ++ take n (cost_lines found))) }
+        (λ _. ((n : ℕ) × ((T.taken out.new).bytes ≡ (T.taken out.old).bytes ++ take n (cost_lines found)))
+        × ((T.taken out.new).faults ≡ (T.taken out.old).faults + 1)) }
 {
     let mut fault = None;
     let found = optimize_or_keep(alloc, problem, steps, out, &mut fault);

@@ -1,5 +1,5 @@
 //! What the program prints, and its status.
-ghost use Rattle.std.specs.Prelude.{◌≡◌, ◌-◌, ◌^◌, ◌<◌, ◌++◌, OnOk, IfOk, codes, if◌then◌else◌};
+ghost use Rattle.std.specs.Prelude.{◌≡◌, ◌⊎◌, ◌-◌, ◌^◌, ◌<◌, ◌++◌, OnOk, IfOk, codes, if◌then◌else◌};
 ghost use Rattle.varisat_maxsat.specs.promises.Problems.{IsOptimumOrSolution};
 ghost use Rattle.varisat_wcnf.specs.promises.Printed.{value_digits, solution_text, verdict_line, solution_status, PrintsText, PrintsAnswer, AnswersText};
 
@@ -69,7 +69,7 @@ fn solve_problem<A: Allocator + Copy, T: ProofTarget, E: Write>(
     }
 }
 
-/// Prints whether a solution is an optimum, and its values.
+/// Prints whether a solution is an optimum, and its values; or nothing, where memory runs out.
 fn print_solution<A: Allocator + Copy, T: ProofTarget, E: Write>(
     alloc: A,
     solution: &Solution<A>,
@@ -78,7 +78,8 @@ fn print_solution<A: Allocator + Copy, T: ProofTarget, E: Write>(
 ) -> u8
     requires { (T.taken out.old).faults < 2 ^ 64 - 1 }
     ensures { PrintsText (solution_text solution.now.is_optimum solution.now.values.items)
-        (solution_status solution.now.is_optimum) (T.taken out.old) (T.taken out.new) result }
+        (solution_status solution.now.is_optimum) (T.taken out.old) (T.taken out.new) result
+        ⊎ ((T.taken out.new ≡ T.taken out.old) × (result ≡ 2)) }
 {
     match written(alloc, solution.is_optimum, &solution.values) {
         Ok(text) => print_answer(&text, status_of(solution.is_optimum), out, err),

@@ -1,36 +1,65 @@
 -- Solutions are handed on.
-use Rattle.std.proofs.Common.{◌≡◌, ℕ, ◌<◌, ◌≤◌, Bool, List, [], ◌∷◌, refl, sym, ap, ◌∙◌, subst, arith}
-use Rattle.std.specs.Prelude.{Option, Some, None, option_map, IfSome, IsSomeAnd}
+use Rattle.std.proofs.Common.{◌≡◌, ℕ, ◌<◌, ◌≤◌, Bool, true, false, List, [], ◌∷◌, refl, sym, ap, ◌∙◌, subst, arith}
+use Rattle.std.specs.Prelude.{Option, Some, None, option_map, Result, Ok, Err, IfSome, IsSomeAnd, IsErr, IsErrAnd, MatchResult}
 use Rattle.varisat_theory.specs.promises.Literals.{IsSatisfiable}
 use Rattle.varisat_formula.specs.promises.Values.{assignment_of}
 use Rattle.varisat_maxsat.specs.promises.Problems.{Problem, cost, IsSolution, IsOptimum, Found, Improve, last_found}
-use Rattle.varisat_maxsat.specs.inside.Reductions.{Took}
+use Rattle.varisat_maxsat.specs.declared.refusal.MaxSatError.{MaxSatError}
+use Rattle.varisat_maxsat.specs.declared.refusal.MaxSatError.TheVariants.{StepsSpent, Ended}
+use Rattle.varisat_maxsat.specs.inside.Reductions.{Took, EndsBySink}
 
-improve-more : (p : Problem) (f : Found) (fs : List Found) → IfSome (last_found fs) (λ g. f.cost < g.cost) → IsSolution p f.cost f.values → Improve p fs →
-    Improve p (f ∷ fs)
+improve-more : (p : Problem) (f : Found) (fs : List Found) → IfSome (last_found fs) (λ g. (f.cost < g.cost) × (g.goes_on ≡ true)) → IsSolution p f.cost f.values →
+    Improve p fs → Improve p (f ∷ fs)
 improve-more p f [] less s i = s
-improve-more p f (g ∷ fs) less s i = (s, less, i)
+improve-more p f (g ∷ fs) (less, on) s i = (s, less, on, i)
 
-less-mapped : {X : Type 0} (as_found : X → Found) (o : Option X) (k : ℕ) → IfSome o (λ x. k < (as_found x).cost) → IfSome (option_map as_found o) (λ g. k < g.cost)
-less-mapped as_found None k h = h
-less-mapped as_found (Some x) k h = h
+-- a solution and what was said as it was handed on
+abbrev pub found_at : {X : Type 0} → (X → ℕ) → (X → List Bool) → Bool → X → Found
+found_at cost_of values_of b x = record { cost = cost_of x; values = values_of x; goes_on = b }
+
+less-mapped : {X : Type 0} (cost_of : X → ℕ) (values_of : X → List Bool) (o : Option X) (k : ℕ) (b : Bool) → b ≡ true → IfSome o (λ x. k < cost_of x) →
+    IfSome (option_map (found_at cost_of values_of b) o) (λ g. (k < g.cost) × (g.goes_on ≡ true))
+less-mapped cost_of values_of None k b e h = h
+less-mapped cost_of values_of (Some x) k b e h = (h, e)
+
+goes-on : (b : Bool) → (b ≡ false → ⊥) → b ≡ true
+goes-on true f = refl
+goes-on false f = absurd (f refl)
 
 -- a better solution is handed on
-pub took-better : {S X : Type 0} (takes : S → List Found → S → Type 0) (p : Problem) (as_found : X → Found) (o : Option X) (k : ℕ) (given values : List Bool)
-    (s t x : S) → given ≡ values → IfSome o (λ y. k < (as_found y).cost) →
-    ((x : S) (found : List Found) → takes x found s → takes x (record { cost = k; values = given } ∷ found) t) → IsSolution p k values →
-    Took takes x p (option_map as_found o) s → Took takes x p (Some (record { cost = k; values = values })) t
-took-better takes p as_found o k given values s t x e less step sol b = record {
-  found = record { cost = k; values = values } ∷ b.found;
-  taken = subst (λ vs. takes x (record { cost = k; values = vs } ∷ b.found) t) e (step x b.found b.taken);
-  improve = improve-more p (record { cost = k; values = values }) b.found
-      (subst (λ l. IfSome l (λ g. k < g.cost)) (sym b.last) (less-mapped as_found o k less)) sol b.improve;
+pub took-better : {S X : Type 0} (takes : S → List Found → S → Type 0) (p : Problem) (cost_of : X → ℕ) (values_of : X → List Bool) (o : Option X) (k : ℕ)
+    (given values : List Bool) (on : Bool) (ended : Type 0) (s t x : S) → given ≡ values → IfSome o (λ y. k < cost_of y) →
+    ((x : S) (found : List Found) → takes x found s → takes x (record { cost = k; values = given; goes_on = on } ∷ found) t) → IsSolution p k values →
+    (on ≡ false → ended) → Took takes x p (λ b. option_map (found_at cost_of values_of b) o) ⊥ s →
+    Took takes x p (λ b. Some (record { cost = k; values = values; goes_on = b })) ended t
+took-better takes p cost_of values_of o k given values on ended s t x e less step sol stops b = record {
+  found = record { cost = k; values = values; goes_on = on } ∷ b.found;
+  taken = subst (λ vs. takes x (record { cost = k; values = vs; goes_on = on } ∷ b.found) t) e (step x b.found b.taken);
+  improve = improve-more p (record { cost = k; values = values; goes_on = on }) b.found
+      (subst (λ l. IfSome l (λ g. (k < g.cost) × (g.goes_on ≡ true))) (sym b.last)
+      (less-mapped cost_of values_of o k b.goes_on (goes-on b.goes_on b.stops) less)) sol b.improve;
+  goes_on = on;
   last = refl;
+  stops = stops;
 }
 
+-- nothing was handed on since
+pub took-still : {S : Type 0} {takes : S → List Found → S → Type 0} {x : S} {p : Problem} {best : Bool → Option Found} (ended : Type 0) {s : S} →
+    Took takes x p best ⊥ s → Took takes x p best ended s
+took-still ended b = record { found = b.found; taken = b.taken; improve = b.improve; goes_on = b.goes_on; last = b.last; stops = λ e. absurd (b.stops e) }
+
+-- an error was handed back
+pub still-ends : {X : Type 0} (r : Result X MaxSatError) (d : MaxSatError) → IsErrAnd r (λ e. e ≡ d) → d ≡ Ended → EndsBySink r
+still-ends (Ok x) d h e = absurd h
+still-ends (Err y) d h e = h ∙ e
+
+pub took-ends : {S : Type 0} {takes : S → List Found → S → Type 0} {x : S} {p : Problem} {best : Bool → Option Found} {before : Type 0} (ended : Type 0) {s : S} →
+    (before → ended) → Took takes x p best before s → Took takes x p best ended s
+took-ends ended f b = record { found = b.found; taken = b.taken; improve = b.improve; goes_on = b.goes_on; last = b.last; stops = λ e. f (b.stops e) }
+
 -- nothing was handed on yet
-pub took-nothing : {S : Type 0} (takes : S → List Found → S → Type 0) (p : Problem) (x : S) → takes x [] x → Took takes x p None x
-took-nothing takes p x h = record { found = []; taken = h; improve = tt; last = refl }
+pub took-nothing : {S : Type 0} (takes : S → List Found → S → Type 0) (p : Problem) (x : S) → takes x [] x → Took takes x p (λ b. None) ⊥ x
+took-nothing takes p x h = record { found = []; taken = h; improve = tt; goes_on = true; last = refl; stops = λ e. absurd cc }
 
 -- where nothing satisfies the hard clauses, nothing is handed on
 pub none-found : (p : Problem) (fs : List Found) → (IsSatisfiable p.hard → ⊥) → Improve p fs → fs ≡ []
@@ -49,11 +78,13 @@ also-optimal cost_of values_of p k values (Some x) l m s = record {
 }
 
 -- the answer is the last one that was handed on
-pub answer-last : {X : Type 0} (as_found : X → Found) (o : Option X) (k : ℕ) (values : List Bool) (fs : List Found) → last_found fs ≡ option_map as_found o →
-    IsSomeAnd o (λ t. ((as_found t).cost ≡ k) × ((as_found t).values ≡ values)) → last_found fs ≡ Some (record { cost = k; values = values })
-answer-last as_found None k values fs e h = absurd h
-answer-last as_found (Some x) k values fs e (c, v) =
-    e ∙ ap (λ n. Some (record { cost = n; values = (as_found x).values })) c ∙ ap (λ vs. Some (record { cost = k; values = vs })) v
+answer-last : {X : Type 0} (cost_of : X → ℕ) (values_of : X → List Bool) (o : Option X) (k : ℕ) (values : List Bool) (b : Bool) (fs : List Found) → b ≡ true →
+    last_found fs ≡ option_map (found_at cost_of values_of b) o → IsSomeAnd o (λ t. (cost_of t ≡ k) × (values_of t ≡ values)) →
+    last_found fs ≡ Some (record { cost = k; values = values; goes_on = true })
+answer-last cost_of values_of None k values b fs on e h = absurd h
+answer-last cost_of values_of (Some x) k values b fs on e (c, v) =
+    e ∙ ap (λ n. Some (record { cost = n; values = values_of x; goes_on = b })) c ∙ ap (λ vs. Some (record { cost = k; values = vs; goes_on = b })) v
+    ∙ ap (λ y. Some (record { cost = k; values = values; goes_on = y })) on
 
 -- a solution with what it was found to cost
 pub costs-so : (p : Problem) (k : ℕ) (given values : List Bool) → given ≡ values → cost (assignment_of given) p.soft ≡ k →
@@ -61,21 +92,44 @@ pub costs-so : (p : Problem) (k : ℕ) (given values : List Bool) → given ≡ 
 costs-so p k given values e c sol = subst (λ n. IsSolution p n values) (ap (λ vs. cost (assignment_of vs) p.soft) (sym e) ∙ c) sol
 
 -- a sink and a best solution that were handed back
-pub took-moves : {S X : Type 0} (takes : S → List Found → S → Type 0) (p : Problem) (as_found : X → Found) (o q : Option X) (s t x : S) → q ≡ o → t ≡ s →
-    Took takes x p (option_map as_found o) s → Took takes x p (option_map as_found q) t
+pub took-moves : {S X : Type 0} (takes : S → List Found → S → Type 0) (p : Problem) (as_found : Bool → X → Found) (o q : Option X) (s t x : S) → q ≡ o → t ≡ s →
+    Took takes x p (λ b. option_map (as_found b) o) ⊥ s → Took takes x p (λ b. option_map (as_found b) q) ⊥ t
 took-moves takes p as_found o q s t x e f b =
-    subst (λ y. Took takes x p (option_map as_found y) t) (sym e) (subst (λ y. Took takes x p (option_map as_found o) y) (sym f) b)
+    subst (λ y. Took takes x p (λ b. option_map (as_found b) y) ⊥ t) (sym e) (subst (λ y. Took takes x p (λ b. option_map (as_found b) o) ⊥ y) (sym f) b)
 
 -- what was handed on at the end
-pub handed-none : {S : Type 0} (takes : S → List Found → S → Type 0) (p : Problem) (best : Option Found) (x s : S) → (IsSatisfiable p.hard → ⊥) →
-    Took takes x p best s → (found : List Found) × Improve p found × takes x found s × (found ≡ [])
-handed-none takes p best x s n b = (b.found, b.improve, b.taken, none-found p b.found n b.improve)
+pub handed-none : {S : Type 0} (takes : S → List Found → S → Type 0) (p : Problem) (best : Bool → Option Found) (ended : Type 0) (x s : S) →
+    (IsSatisfiable p.hard → ⊥) → Took takes x p best ended s → (found : List Found) × Improve p found × takes x found s × (found ≡ [])
+handed-none takes p best ended x s n b = (b.found, b.improve, b.taken, none-found p b.found n b.improve)
 
-pub handed-best : {S X : Type 0} (takes : S → List Found → S → Type 0) (p : Problem) (as_found : X → Found) (o : Option X) (k : ℕ) (values : List Bool) (x s : S) →
-    IsSomeAnd o (λ t. ((as_found t).cost ≡ k) × ((as_found t).values ≡ values)) → Took takes x p (option_map as_found o) s →
-    (found : List Found) × Improve p found × takes x found s × (last_found found ≡ Some (record { cost = k; values = values }))
-handed-best takes p as_found o k values x s h b = (b.found, b.improve, b.taken, answer-last as_found o k values b.found b.last h)
+pub handed-best : {S X : Type 0} (takes : S → List Found → S → Type 0) (p : Problem) (cost_of : X → ℕ) (values_of : X → List Bool) (o : Option X) (k : ℕ)
+    (values : List Bool) (ended : Type 0) (x s : S) → IsSomeAnd o (λ t. (cost_of t ≡ k) × (values_of t ≡ values)) → (ended → ⊥) →
+    Took takes x p (λ b. option_map (found_at cost_of values_of b) o) ended s →
+    (found : List Found) × Improve p found × takes x found s × (last_found found ≡ Some (record { cost = k; values = values; goes_on = true }))
+handed-best takes p cost_of values_of o k values ended x s h f b =
+    (b.found, b.improve, b.taken, answer-last cost_of values_of o k values b.goes_on b.found (goes-on b.goes_on (λ e. f (b.stops e))) b.last h)
 
-pub handed-so-far : {S : Type 0} (takes : S → List Found → S → Type 0) (p : Problem) (best : Option Found) (x s : S) (A : List Found → Type 0) →
-    ((found : List Found) → A found) → Took takes x p best s → (found : List Found) × Improve p found × takes x found s × A found
-handed-so-far takes p best x s A f b = (b.found, b.improve, b.taken, f b.found)
+last-stops : {X : Type 0} (cost_of : X → ℕ) (values_of : X → List Bool) (o : Option X) (fs : List Found) (b : Bool) (ended : Type 0) →
+    last_found fs ≡ option_map (found_at cost_of values_of b) o → (b ≡ false → ended) → IfSome (last_found fs) (λ f. f.goes_on ≡ false → ended)
+last-stops cost_of values_of None fs b ended e h = subst (λ l. IfSome l (λ f. f.goes_on ≡ false → ended)) (sym e) tt
+last-stops cost_of values_of (Some x) fs b ended e h = subst (λ l. IfSome l (λ f. f.goes_on ≡ false → ended)) (sym e) h
+
+pub handed-so-far : {S X : Type 0} (takes : S → List Found → S → Type 0) (p : Problem) (cost_of : X → ℕ) (values_of : X → List Bool) (o : Option X)
+    (ended : Type 0) (x s : S) (A : List Found → Type 0) →
+    ((found : List Found) → IfSome (last_found found) (λ f. f.goes_on ≡ false → ended) → A found) →
+    Took takes x p (λ b. option_map (found_at cost_of values_of b) o) ended s → (found : List Found) × Improve p found × takes x found s × A found
+handed-so-far takes p cost_of values_of o ended x s A f b =
+    (b.found, b.improve, b.taken, f b.found (last-stops cost_of values_of o b.found b.goes_on ended b.last b.stops))
+
+-- an error where the search went on
+on-mapped : (o : Option Found) (A B : Type 0) → (A → B) → IfSome o (λ f. f.goes_on ≡ false → A) → IfSome o (λ f. f.goes_on ≡ false → B)
+on-mapped None A B g h = h
+on-mapped (Some f) A B g h = λ e. g (h e)
+
+pub other-error : {X : Type 0} (r : Result X MaxSatError) (fs : List Found) (P : X → Type 0) → IsErr r →
+    IfSome (last_found fs) (λ f. f.goes_on ≡ false → ⊥) → MatchResult r P (λ e. IfSome (last_found fs) (λ f. f.goes_on ≡ false → e ≡ Ended))
+other-error (Ok x) fs P is h = absurd cc
+other-error (Err e) fs P is h = on-mapped (last_found fs) ⊥ (e ≡ Ended) (λ z. absurd z) h
+
+pub other-end : (e : MaxSatError) → e ≡ StepsSpent → e ≡ Ended → ⊥
+other-end e s n = cc

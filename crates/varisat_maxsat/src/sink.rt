@@ -10,7 +10,7 @@ pub trait SolutionSink {
     /// Takes a solution, and returns whether the search is to go on.
     fn take(&mut self, cost: u64, values: &[bool]) -> bool
         ensures { (x : Self) (found : List Found) → takes x found self.old →
-            takes x (record { cost = cost; values = values.now } ∷ found) self.new };
+            takes x (record { cost = cost; values = values.now; goes_on = result } ∷ found) self.new };
 
     /// No solution leaves it as it is.
     ghost takes_none: { (x : Self) → takes x [] x };

@@ -1,8 +1,9 @@
 //! Solving.
-ghost use Rattle.std.specs.Prelude.{◌≡◌, ◌<◌, ◌≤◌, List, [], Some, OnOk, IfOk, IfSome, IsSomeAnd, MatchOption, IsTrue, IsFalse, true};
+ghost use Rattle.std.specs.Prelude.{◌≡◌, ◌<◌, ◌≤◌, List, [], Some, OnOk, IfOk, IfSome, IsSomeAnd, MatchOption, MatchResult, IsTrue, IsFalse, true, false};
 ghost use Rattle.varisat_theory.specs.promises.Literals.{IsSatisfiable};
 ghost use Rattle.varisat_maxsat.specs.promises.Problems.{Problem as Asked, IsSolution, IsOptimum, IsOptimumOrSolution, starting, Found, Improve, last_found};
-ghost use Rattle.varisat_maxsat.specs.inside.Reductions.{ReducesTo, ReducesToAfter, ReducesToBelow, FindsSolution, IsEnded, KeepsReductions, HandsOn};
+ghost use Rattle.varisat_maxsat.specs.declared.refusal.MaxSatError.TheVariants.{Ended};
+ghost use Rattle.varisat_maxsat.specs.inside.Reductions.{ReducesTo, ReducesToAfter, ReducesToBelow, FindsSolution, IsEnded, KeepsReductions, EndsBySink, HandsOn};
 
 use crate::charge::greatest_weight;
 use crate::problem::Problem;
@@ -69,7 +70,7 @@ fn keep_better<A: Allocator + Copy, S: SolutionSink>(
         IfSome best.new (λ s. IsSolution p s.cost s.values.items) }
     ensures taken { (p : Asked) → IsSolution p solution.cost solution.values.items →
         HandsOn S.takes p sink.old best.old sink.new best.new
-        (λ s. record { cost = s.cost; values = s.values.items }) }
+        (λ b s. record { cost = s.cost; values = s.values.items; goes_on = b }) (EndsBySink result) }
 {
     if !is_better(solution.cost, best) {
         return Ok(());
@@ -95,7 +96,7 @@ fn keep_model<A: Allocator + Copy, S: SolutionSink>(
         IfSome best.new (λ s. IsSolution problem.now s.cost s.values.items) }
     ensures taken { FindsSolution problem.now reduction.now →
         HandsOn S.takes problem.now sink.old best.old sink.new best.new
-        (λ s. record { cost = s.cost; values = s.values.items }) }
+        (λ b s. record { cost = s.cost; values = s.values.items; goes_on = b }) (EndsBySink result) }
 {
     let values = reduction.values()?;
     let Some(cost) = problem.cost(&values) else {
@@ -126,7 +127,7 @@ fn descend<A: Allocator + Copy, S: SolutionSink>(
         IfSome best.new (λ s. IsSolution problem.now s.cost s.values.items) }
     ensures taken { ReducesTo problem.now reduction.old →
         HandsOn S.takes problem.now sink.old best.old sink.new best.new
-        (λ s. record { cost = s.cost; values = s.values.items }) }
+        (λ b s. record { cost = s.cost; values = s.values.items; goes_on = b }) (EndsBySink result) }
 {
     let greatest = greatest_weight(reduction.charges());
     let mut threshold = greatest;
@@ -264,7 +265,7 @@ fn improve<A: Allocator + Copy, S: SolutionSink>(
         IfSome best.new (λ s. IsSolution problem.now s.cost s.values.items) }
     ensures taken { ReducesTo problem.now reduction.old →
         HandsOn S.takes problem.now sink.old best.old sink.new best.new
-        (λ s. record { cost = s.cost; values = s.values.items }) }
+        (λ b s. record { cost = s.cost; values = s.values.items; goes_on = b }) (EndsBySink result) }
 {
     let mut plan = begin_counting(reduction, best_cost(best), alloc)?;
     'turns: for _ in 0..u64::MAX {
@@ -302,7 +303,7 @@ fn decide<A: Allocator + Copy, S: SolutionSink>(
         IfSome best.new (λ s. IsSolution problem.now s.cost s.values.items) }
     ensures taken { ReducesTo problem.now reduction.old →
         HandsOn S.takes problem.now sink.old best.old sink.new best.new
-        (λ s. record { cost = s.cost; values = s.values.items }) }
+        (λ b s. record { cost = s.cost; values = s.values.items; goes_on = b }) (EndsBySink result) }
 {
     let found = reduction.search_lightly()?;
     if !found {
@@ -364,8 +365,9 @@ fn solve<A: Allocator + Copy, S: SolutionSink>(
         (λ s. IsOptimumOrSolution s.is_optimum problem.now s.cost s.values.items)) }
     ensures taken { ReducesTo (starting problem.now.variables) reduction.old → (found : List Found)
         × Improve problem.now found × S.takes sink.old found sink.new
-        × IfOk result (λ o. MatchOption o (found ≡ [])
-        (λ s. last_found found ≡ Some (record { cost = s.cost; values = s.values.items }))) }
+        × MatchResult result (λ o. MatchOption o (found ≡ [])
+        (λ s. last_found found ≡ Some (record { cost = s.cost; values = s.values.items; goes_on = true })))
+        (λ e. IfSome (last_found found) (λ f. f.goes_on ≡ false → e ≡ Ended)) }
 {
     problem.reduce(reduction)?;
     join_if_bounded(reduction)?;
@@ -390,7 +392,8 @@ fn solve<A: Allocator + Copy, S: SolutionSink>(
 
 /// The optimum of the problem, or where the searches would make more than so many steps in all the best solution until then. None is
 /// for a problem whose hard clauses no assignment satisfies. Each solution that costs less than those before it is handed on to
-/// the sink, the one that is returned last.
+/// the sink, the one that is returned last. Where the sink says that the search is not to go on, no more is handed on, and
+/// the error is `Ended`.
 pub fn optimize_within<A: Allocator + Copy, S: SolutionSink>(
     problem: &Problem<A>,
     steps: Option<u64>,
@@ -401,8 +404,9 @@ pub fn optimize_within<A: Allocator + Copy, S: SolutionSink>(
         (λ o. MatchOption o (IsSatisfiable problem.now.hard → ⊥)
         (λ s. IsOptimumOrSolution s.is_optimum problem.now s.cost s.values.items)) }
     ensures taken { (found : List Found) × Improve problem.now found × S.takes sink.old found sink.new
-        × IfOk result (λ o. MatchOption o (found ≡ [])
-        (λ s. last_found found ≡ Some (record { cost = s.cost; values = s.values.items }))) }
+        × MatchResult result (λ o. MatchOption o (found ≡ [])
+        (λ s. last_found found ≡ Some (record { cost = s.cost; values = s.values.items; goes_on = true })))
+        (λ e. IfSome (last_found found) (λ f. f.goes_on ≡ false → e ≡ Ended)) }
 {
     let mut reduction = Reduction::new_in(alloc, problem.var_count(), steps);
     let found = solve(problem, &mut reduction, sink, alloc);

@@ -94,17 +94,17 @@ found-last [] f e = absurd cc
 found-last (g ∷ gs) f e = let h : g ≡ f = cc in (gs, ap (λ x. x ∷ gs) h)
 
 pub solved : (p : Problem) (is_optimum : Bool) (k : ℕ) (values : List Bool) (found : List Found) (old mid new : Taken) (r : ℕ) → Improve p found →
-    last_found found ≡ Some (record { cost = k; values = values }) → IsOptimumOrSolution is_optimum p k values → mid.bytes ≡ old.bytes ++ cost_lines found →
+    last_found found ≡ Some (record { cost = k; values = values; goes_on = true }) → IsOptimumOrSolution is_optimum p k values → mid.bytes ≡ old.bytes ++ cost_lines found →
     mid.faults ≡ old.faults → PrintsText (solution_text is_optimum values) (solution_status is_optimum) mid new r ⊎ ((new ≡ mid) × (r ≡ 2)) →
     PrintsAnswer p old new r
 solved p is_optimum k values found old mid new r i l a e g (inl h) =
-    let (gs, s) = found-last found (record { cost = k; values = values }) l in
-    Solved is_optimum (record { cost = k; values = values }) gs (subst (Improve p) s i) a
-    (prints-behind (cost_lines (record { cost = k; values = values } ∷ gs)) (solution_text is_optimum values) (solution_status is_optimum) old mid new r
+    let (gs, s) = found-last found (record { cost = k; values = values; goes_on = true }) l in
+    Solved is_optimum (record { cost = k; values = values; goes_on = true }) gs (subst (Improve p) s i) a
+    (prints-behind (cost_lines (record { cost = k; values = values; goes_on = true } ∷ gs)) (solution_text is_optimum values) (solution_status is_optimum) old mid new r
     (subst (λ fs. mid.bytes ≡ old.bytes ++ cost_lines fs) s e) g h)
 solved p is_optimum k values found old mid new r i l a e g (inr (same, two)) =
-    let (gs, s) = found-last found (record { cost = k; values = values }) l in
-    CostsAlone (record { cost = k; values = values }) gs (subst (Improve p) s i)
+    let (gs, s) = found-last found (record { cost = k; values = values; goes_on = true }) l in
+    CostsAlone (record { cost = k; values = values; goes_on = true }) gs (subst (Improve p) s i)
     (ap (λ t. t.bytes) same ∙ subst (λ fs. mid.bytes ≡ old.bytes ++ cost_lines fs) s e) (ap (λ t. t.faults) same ∙ g) two
 
 pub unsatisfied : (p : Problem) (found : List Found) (old mid new : Taken) (r : ℕ) → (IsSatisfiable p.hard → ⊥) → found ≡ [] →
@@ -123,11 +123,11 @@ broken-off p found old new r i ((n, b), more) q =
     let (m, l) = begin_part n (cost_lines found) (codes "s UNKNOWN\n") in Unknown found i (inr (m, b ∙ ap (λ x. old.bytes ++ x) l, more, q))
 
 -- two facts of an answer
-pub both-said : {X E : Type 0} (r : Result (Option X) E) (A B : Type 0) (P Q : X → Type 0) → IfOk r (λ o. MatchOption o A P) → IfOk r (λ o. MatchOption o B Q) →
-    IfOk r (λ o. MatchOption o (A × B) (λ x. P x × Q x))
-both-said (Ok (Some x)) A B P Q h k = (h, k)
-both-said (Ok None) A B P Q h k = (h, k)
-both-said (Err e) A B P Q h k = h
+pub both-said : {X E : Type 0} (r : Result (Option X) E) (A B : Type 0) (P Q : X → Type 0) (Z : E → Type 0) → IfOk r (λ o. MatchOption o A P) →
+    MatchResult r (λ o. MatchOption o B Q) Z → IfOk r (λ o. MatchOption o (A × B) (λ x. P x × Q x))
+both-said (Ok (Some x)) A B P Q Z h k = (h, k)
+both-said (Ok None) A B P Q Z h k = (h, k)
+both-said (Err e) A B P Q Z h k = h
 
 -- whether all was printed
 pub all-printed : {E : Type 0} (fault : Option E) (found : List Found) (old new : Taken) → fault ≡ None → PrintsCosts fault found old new →

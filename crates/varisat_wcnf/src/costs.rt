@@ -1,5 +1,5 @@
 //! Prints the cost of each solution as it is found.
-ghost use Rattle.std.specs.Prelude.{◌≡◌, ℕ, ◌+◌, ◌-◌, ◌<◌, ◌^◌, ◌++◌, List, Some, None, take, OnOk, OnErr, MatchResult};
+ghost use Rattle.std.specs.Prelude.{◌≡◌, ℕ, ◌+◌, ◌-◌, ◌<◌, ◌^◌, ◌++◌, List, Some, None, true, take, OnOk, OnErr, MatchResult};
 ghost use Rattle.varisat_maxsat.specs.promises.Problems.{Found, Improve};
 ghost use Rattle.varisat_wcnf.specs.promises.Printed.{cost_line, cost_lines};
 ghost use Rattle.varisat_wcnf.specs.inside.Costs.{PrintsCosts, ReturnsLast};
@@ -92,7 +92,8 @@ fn optimize_to<A: Allocator + Copy, T: ProofTarget>(
     ensures same_fault { printer.new.fault.ghost_name ≡ printer.old.fault.ghost_name }
     ensures printed { (found : List Found) × Improve problem.now found
         × PrintsCosts printer.new.fault.now found (T.taken printer.old.out.now) (T.taken printer.new.out.now)
-        × ReturnsLast problem.now found result (λ s. s.is_optimum) (λ s. record { cost = s.cost; values = s.values.items }) }
+        × ReturnsLast problem.now found result (λ s. s.is_optimum)
+        (λ s. record { cost = s.cost; values = s.values.items; goes_on = true }) }
 {
     optimize_within(problem, steps, printer, alloc)
 }
@@ -109,7 +110,8 @@ fn optimize_or_keep<A: Allocator + Copy, T: ProofTarget>(
     requires countable { (T.taken out.old).faults < 2 ^ 64 - 1 }
     ensures { (found : List Found) × Improve problem.now found
         × PrintsCosts fault.new found (T.taken out.old) (T.taken out.new)
-        × ReturnsLast problem.now found result (λ s. s.is_optimum) (λ s. record { cost = s.cost; values = s.values.items }) }
+        × ReturnsLast problem.now found result (λ s. s.is_optimum)
+        (λ s. record { cost = s.cost; values = s.values.items; goes_on = true }) }
 {
     let mut printer = CostPrinter { out, fault };
     optimize_to(alloc, problem, steps, &mut printer)
@@ -126,7 +128,8 @@ pub(crate) fn optimize_printing<A: Allocator + Copy, T: ProofTarget>(
     ensures { (found : List Found) × Improve problem.now found × MatchResult result
         (λ r. ((T.taken out.new).bytes ≡ (T.taken out.old).bytes ++ cost_lines found)
         × ((T.taken out.new).faults ≡ (T.taken out.old).faults)
-        × ReturnsLast problem.now found r (λ s. s.is_optimum) (λ s. record { cost = s.cost; values = s.values.items }))
+        × ReturnsLast problem.now found r (λ s. s.is_optimum)
+        (λ s. record { cost = s.cost; values = s.values.items; goes_on = true }))
         (λ _. ((n : ℕ) × ((T.taken out.new).bytes ≡ (T.taken out.old).bytes ++ take n (cost_lines found)))
         × ((T.taken out.new).faults ≡ (T.taken out.old).faults + 1)) }
 {

@@ -1,11 +1,13 @@
 -- A client that holds a problem as it was brought down.
-use Rattle.std.specs.Prelude.{◌≡◌, ◌≤◌, ℕ, Bool, true, false, Option, Some, None, option_map, List, []}
+use Rattle.std.specs.Prelude.{◌≡◌, ◌≤◌, ℕ, Bool, true, false, Option, Some, None, option_map, Result, MatchResult, List, []}
 use Rattle.varisat_theory.specs.promises.Literals.{Literal, Clause, Assignment, SatisfiesAll, IsFailedCore, IsSatisfiable}
 use Rattle.varisat_client.specs.promises.Pasts.{Past, IsFoundModel, count}
 use Rattle.varisat_client.specs.inside.Clients.{Client, RepresentsPast}
 use Rattle.varisat_maxsat.specs.promises.Problems.{Problem, cost, Found, Improve, last_found}
 use Rattle.varisat_maxsat.specs.inside.Charges.{ClausesAreBelow, Exchanges, AreParted, Reduces, ReducesBelow, AreAssumed, IsPending}
 use Rattle.varisat_maxsat.specs.declared.charge.Charge.{Charge}
+use Rattle.varisat_maxsat.specs.declared.refusal.MaxSatError.{MaxSatError}
+use Rattle.varisat_maxsat.specs.declared.refusal.MaxSatError.TheVariants.{Ended}
 use Rattle.varisat_maxsat.specs.declared.counter.Counter.{Counter}
 
 -- No call was refused, and neither a clause nor an assumption is begun.
@@ -165,14 +167,23 @@ pub record AssumesSoFar (g : Client) (threshold : ℕ) (charges : List Charge) (
       (q : Past) × (ls : List Literal) × AreAssumed threshold charges ls × RepresentsPast h q
       × (q.refusal ≡ None → q ≡ record p { assumptions = ls })
 
--- What a sink took since x: solutions, of which the best one is the last.
-pub record Took {S : Type 0} (takes : S → List Found → S → Type 0) (x : S) (p : Problem) (best : Option Found) (s : S) : Type 0 where
+-- the error is that the sink ended the search
+abbrev pub EndsBySink : {X : Type 0} → Result X MaxSatError → Type 0
+EndsBySink r = MatchResult r (λ _. ⊥) (λ e. e ≡ Ended)
+
+-- What a sink took since x: solutions, of which the best one is the last. Where it did not let the search go on behind that one,
+-- the search ended so.
+pub record Took {S : Type 0} (takes : S → List Found → S → Type 0) (x : S) (p : Problem) (best : Bool → Option Found)
+    (ended : Type 0) (s : S) : Type 0 where
   pub found : List Found
   pub taken : takes x found s
   pub improve : Improve p found
-  pub last : last_found found ≡ best
+  pub goes_on : Bool
+  pub last : last_found found ≡ best goes_on
+  pub stops : goes_on ≡ false → ended
 
 -- The best solution was handed on, each time that it changed.
-abbrev pub HandsOn : {S X : Type 0} → (S → List Found → S → Type 0) → Problem → S → Option X → S → Option X → (X → Found) → Type 0
-HandsOn {S} takes p s o t u found_of =
-    (x : S) → Took takes x p (option_map found_of o) s → Took takes x p (option_map found_of u) t
+abbrev pub HandsOn : {S X : Type 0} → (S → List Found → S → Type 0) → Problem → S → Option X → S → Option X →
+    (Bool → X → Found) → Type 0 → Type 0
+HandsOn {S} takes p s o t u found_of ended =
+    (x : S) → Took takes x p (λ b. option_map (found_of b) o) ⊥ s → Took takes x p (λ b. option_map (found_of b) u) ended t

@@ -56,16 +56,17 @@ abbrev pub IsOptimumOrSolution : Bool → Problem → ℕ → List Bool → Type
 IsOptimumOrSolution true = IsOptimum
 IsOptimumOrSolution false = IsSolution
 
--- A solution that was handed on: what it costs, and values.
+-- A solution that was handed on: what it costs, values, and whether who took it let the search go on.
 pub record Found : Type 0 where
   pub cost : ℕ
   pub values : List Bool
+  pub goes_on : Bool
 
--- solutions, the last one first, of which each costs less than the one before it
+-- Solutions, the last one first, of which each costs less than the one before it, behind which the search was to go on.
 abbrev pub Improve : Problem → List Found → Type 0
 Improve p [] = Unit {0}
 Improve p (f ∷ []) = IsSolution p f.cost f.values
-Improve p (f ∷ g ∷ fs) = IsSolution p f.cost f.values × (f.cost < g.cost) × Improve p (g ∷ fs)
+Improve p (f ∷ g ∷ fs) = IsSolution p f.cost f.values × (f.cost < g.cost) × (g.goes_on ≡ true) × Improve p (g ∷ fs)
 
 -- the last one
 abbrev pub last_found : List Found → Option Found

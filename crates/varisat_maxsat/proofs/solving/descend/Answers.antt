@@ -3,7 +3,7 @@ use Rattle.std.proofs.lemmas.Bool.{not-false}
 use Rattle.varisat_maxsat.specs.inside.Reductions.{ReducesTo, ReducesToAfter, IsRelaxed}
 use Rattle.varisat_maxsat.proofs.Standing.{stands-still, best-moves}
 use Rattle.varisat_maxsat.proofs.Below.{after-solution}
-use Rattle.varisat_maxsat.proofs.Handing.{also-optimal, took-moves}
+use Rattle.varisat_maxsat.proofs.Handing.{also-optimal, took-moves, took-ends, still-ends}
 use Rattle.varisat_maxsat.proofs.solving.descend.Goals as goal
 use Rattle.varisat_maxsat.proofs.solving.descend.Goals.{then-branch+else-threshold-eq0+in_ok-keep_model, else-branch+in_ok-relax+else-not-branch}
 
@@ -19,10 +19,10 @@ returns-in_err-keep_better-clause-best g c = λ st h.
 
 pub returns-in_err-keep_better-clause-taken : goal.returns-in_err-keep_better-clause-taken
 returns-in_err-keep_better-clause-taken g c = λ st x b.
-    c.keep_better.ensures.taken c.args.problem.now
+    took-ends _ (still-ends c.from_residual-in_err-keep_better.result c.in_err-keep_better.field-0.0 c.from_residual-in_err-keep_better.ensures.1) (c.in_err-keep_better.ensures.taken c.args.problem.now
     (c.in_ok-optimum.ensures c.args.problem.now (subst (λ t. ReducesToAfter true t c.args.problem.now c.search.new.self) c.if-threshold-eq0.true
     (subst (λ b. ReducesToAfter b c.turns.threshold c.args.problem.now c.search.new.self) c.if-branch.true
-    (c.in_ok-search.ensures c.args.problem.now (c.turns.invariant.ready st))))).solution x (c.turns.invariant.taken st x b)
+    (c.in_ok-search.ensures c.args.problem.now (c.turns.invariant.ready st))))).solution x (c.turns.invariant.taken st x b))
 
 pub returns-then-threshold-eq0 : goal.returns-then-threshold-eq0
 returns-then-threshold-eq0 g c = record {
@@ -38,7 +38,7 @@ returns-then-threshold-eq0 g c = record {
       (subst (λ b. ReducesToAfter b c.turns.threshold c.args.problem.now c.search.new.self) c.if-branch.true
       (c.in_ok-search.ensures c.args.problem.now (c.turns.invariant.ready st))))).solution (c.turns.invariant.best st h);
   taken = λ st x b.
-      c.keep_better.ensures.taken c.args.problem.now
+      c.in_ok-keep_better.ensures.taken c.args.problem.now
       (c.in_ok-optimum.ensures c.args.problem.now (subst (λ t. ReducesToAfter true t c.args.problem.now c.search.new.self) c.if-threshold-eq0.true
       (subst (λ b. ReducesToAfter b c.turns.threshold c.args.problem.now c.search.new.self) c.if-branch.true
       (c.in_ok-search.ensures c.args.problem.now (c.turns.invariant.ready st))))).solution x (c.turns.invariant.taken st x b);
@@ -51,8 +51,8 @@ returns-in_err-keep_model-clause-best g c = λ st h.
 
 pub returns-in_err-keep_model-clause-taken : goal.returns-in_err-keep_model-clause-taken
 returns-in_err-keep_model-clause-taken g c = λ st x b.
-    c.keep_model.ensures.taken (after-solution _ _ c.turns.threshold (subst (λ b. ReducesToAfter b c.turns.threshold c.args.problem.now c.search.new.self) c.if-branch.true
-    (c.in_ok-search.ensures c.args.problem.now (c.turns.invariant.ready st)))) x (c.turns.invariant.taken st x b)
+    took-ends _ (still-ends c.from_residual-in_err-keep_model.result c.in_err-keep_model.field-0.0 c.from_residual-in_err-keep_model.ensures.1) (c.in_err-keep_model.ensures.taken (after-solution _ _ c.turns.threshold (subst (λ b. ReducesToAfter b c.turns.threshold c.args.problem.now c.search.new.self) c.if-branch.true
+    (c.in_ok-search.ensures c.args.problem.now (c.turns.invariant.ready st)))) x (c.turns.invariant.taken st x b))
 
 pub turns-preserved : goal.turns-preserved
 turns-preserved g c =
@@ -63,7 +63,7 @@ turns-preserved g c =
         best = λ st h. best-moves _ _ _ w.best-is (w.keep_model.ensures.best (after-solution _ _ c.turns.threshold
             (subst (λ b. ReducesToAfter b c.turns.threshold c.args.problem.now c.search.new.self) w.if-branch.true
             (c.in_ok-search.ensures c.args.problem.now (c.turns.invariant.ready st)))) (c.turns.invariant.best st h));
-        taken = λ st x b. took-moves g.S.SolutionSink.takes _ _ _ _ _ _ x w.best-is w.sink-is (w.keep_model.ensures.taken (after-solution _ _ c.turns.threshold
+        taken = λ st x b. took-moves g.S.SolutionSink.takes _ _ _ _ _ _ x w.best-is w.sink-is (w.in_ok-keep_model.ensures.taken (after-solution _ _ c.turns.threshold
             (subst (λ b. ReducesToAfter b c.turns.threshold c.args.problem.now c.search.new.self) w.if-branch.true
             (c.in_ok-search.ensures c.args.problem.now (c.turns.invariant.ready st)))) x (c.turns.invariant.taken st x b));
       }

@@ -1,6 +1,7 @@
 use Rattle.std.proofs.Common.{◌≡◌, true, false}
 use Rattle.std.proofs.lemmas.Bool.{not-true, not-false}
 use Rattle.varisat_maxsat.proofs.Improving.{best-met, improved, not-improved}
+use Rattle.varisat_maxsat.proofs.Handing.{took-still, took-ends, still-ends}
 use Rattle.varisat_maxsat.proofs.solving.improve.Goals as goal
 
 pub turns-init : goal.turns-init
@@ -23,9 +24,9 @@ returns-in_err-keep_model-clause-best g c =
 pub returns-in_err-keep_model-clause-taken : goal.returns-in_err-keep_model-clause-taken
 returns-in_err-keep_model-clause-taken g c =
     let e : c.in_ok-found.found ≡ true = first_of (assumption c.if-not-found.false, search (not-false, c.if-not-found.false)) in λ st x b.
-    c.keep_model.ensures.taken (improved c.args.problem.now c.search_below.new.self c.in_ok-found.found e
+    took-ends _ (still-ends c.from_residual-in_err-keep_model.result c.in_err-keep_model.field-0.0 c.from_residual-in_err-keep_model.ensures.1) (c.in_err-keep_model.ensures.taken (improved c.args.problem.now c.search_below.new.self c.in_ok-found.found e
     (c.in_ok-found.ensures c.args.problem.now (c.in_ok-forbid_ceiling.ensures {u = tt} c.args.problem.now (c.turns.invariant.ready st)))).1 x
-    (c.turns.invariant.taken st x b)
+    (c.turns.invariant.taken st x b))
 
 pub returns-in_err-lower_ceiling-clause-best : goal.returns-in_err-lower_ceiling-clause-best
 returns-in_err-lower_ceiling-clause-best g c =
@@ -36,9 +37,9 @@ returns-in_err-lower_ceiling-clause-best g c =
 pub returns-in_err-lower_ceiling-clause-taken : goal.returns-in_err-lower_ceiling-clause-taken
 returns-in_err-lower_ceiling-clause-taken g c =
     let e : c.in_ok-found.found ≡ true = first_of (assumption c.if-not-found.false, search (not-false, c.if-not-found.false)) in λ st x b.
-    c.keep_model.ensures.taken (improved c.args.problem.now c.search_below.new.self c.in_ok-found.found e
+    took-still _ (c.in_ok-keep_model.ensures.taken (improved c.args.problem.now c.search_below.new.self c.in_ok-found.found e
     (c.in_ok-found.ensures c.args.problem.now (c.in_ok-forbid_ceiling.ensures {u = tt} c.args.problem.now (c.turns.invariant.ready st)))).1 x
-    (c.turns.invariant.taken st x b)
+    (c.turns.invariant.taken st x b))
 
 pub turns-preserved : goal.turns-preserved
 turns-preserved g c =
@@ -48,7 +49,7 @@ turns-preserved g c =
       best = λ st h. c.keep_model.ensures.best (improved c.args.problem.now c.search_below.new.self c.in_ok-found.found e
           (c.in_ok-found.ensures c.args.problem.now (c.in_ok-forbid_ceiling.ensures {u = tt} c.args.problem.now (c.turns.invariant.ready st)))).1
           (c.turns.invariant.best st h);
-      taken = λ st x b. c.keep_model.ensures.taken (improved c.args.problem.now c.search_below.new.self c.in_ok-found.found e
+      taken = λ st x b. c.in_ok-keep_model.ensures.taken (improved c.args.problem.now c.search_below.new.self c.in_ok-found.found e
           (c.in_ok-found.ensures c.args.problem.now (c.in_ok-forbid_ceiling.ensures {u = tt} c.args.problem.now (c.turns.invariant.ready st)))).1 x
           (c.turns.invariant.taken st x b);
     }

@@ -9,5 +9,6 @@ invariant-turns g l = record {
   best : ReducesTo l.problem l.fn.reduction → IfSome l.fn.best (λ s. IsSolution l.problem s.cost s.values.items) →
       IfSome l.best (λ s. IsSolution l.problem s.cost s.values.items);
   taken : ReducesTo l.problem l.fn.reduction →
-      HandsOn g.S.SolutionSink.takes l.problem l.fn.sink l.fn.best l.sink l.best (λ s. record { cost = s.cost; values = s.values.items });
+      HandsOn g.S.SolutionSink.takes l.problem l.fn.sink l.fn.best l.sink l.best
+      (λ b s. record { cost = s.cost; values = s.values.items; goes_on = b }) ⊥;
 }

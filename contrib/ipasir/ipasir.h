@@ -41,8 +41,8 @@ void ipasir_assume(void *solver, int32_t number);
  * ended the search or a call was refused. */
 int ipasir_solve(void *solver);
 
-/* The number where its literal is true in the last model, the opposite number where it is false, and 0 where its variable was
- * never given. */
+/* The number where its literal is true in the last model, the opposite number where it is false, and 0 where its variable is above
+ * all that were given. */
 int32_t ipasir_val(void *solver, int32_t number);
 
 /* 1 where the literal is one of the assumptions for which the last search answered 20, and else 0. */

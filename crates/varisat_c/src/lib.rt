@@ -7,7 +7,7 @@ ghost use Rattle.varisat_solver.specs.promises.Represented.{LeadsRepresented};
 ghost use Rattle.varisat_solver.specs.promises.Calls.{AddsClause, Assumes, ReturnsList, ReturnsSteps, ReturnsValid, by_state};
 ghost use Rattle.varisat_solver.specs.promises.ProofCalls.{EnablesChecking};
 ghost use Rattle.varisat_calls.specs.Codes.{field_numbered, format_numbered, mode_numbered};
-ghost use Rattle.varisat_calls.specs.Callers.{IsNewCaller, MakesNumbered, MakesOver, AddsNumber, LimitsSteps, Searches, SetsField, SetsMode, ReturnsListOf, ShowsHidden, OpensFormat, Closes};
+ghost use Rattle.varisat_calls.specs.Callers.{IsNewCaller, MakesNumbered, MakesOver, AddsNumber, LimitsSteps, SolvesNumbered, SetsField, SetsMode, ReturnsListOf, ShowsHidden, OpensFormat, Closes};
 ghost use Rattle.varisat_calls.specs.Lookups.{ReturnsValue, ReturnsFailed};
 ghost use Rattle.varisat_calls.specs.Texts.{Feeds, IsRefutedText};
 ghost use Rattle.varisat_c.specs.Codes.{NamesBy, AnswersEnd};
@@ -156,7 +156,7 @@ pub extern "C" fn caller_limit_steps(alloc: Global, handle: &mut Handle, steps: 
 #[unsafe(no_mangle)]
 pub extern "C" fn caller_solve(alloc: Global, handle: &mut Handle) -> u8
     requires { IsSome handle.old.held }
-    ensures call { MovesHeld (λ g h. Searches g result h) handle.old.held handle.new.held }
+    ensures call { MovesHeld (λ g h. SolvesNumbered g result h) handle.old.held handle.new.held }
     ensures satisfiable { result ≡ 10 → IsTrueBehind IsSatisfiableNow handle.old.held }
     ensures unsatisfiable { result ≡ 20 → IsTrueBehind IsUnsatisfiableNow handle.old.held }
 {

@@ -9,11 +9,11 @@ use Rattle.varisat_client.specs.inside.LiteralSets.{IsSetOf}
 use Rattle.varisat_solver.specs.promises.Summaries.{Summary}
 use Rattle.varisat_solver.specs.promises.Represented.{LeadsRepresented}
 use Rattle.varisat_calls.specs.Callers.{Caller, ReturnsListOf, NoRoom}
-use Rattle.varisat_calls.specs.Lookups.{Lookups, IsCurrent, ReturnsModel, IsReturnedModel, HasModel, IsCore, IsValueIn, IsMember, ReturnsValue, ReturnsFailed, True, False, Unknown, Yes, No, Failed, Unfailed}
+use Rattle.varisat_calls.specs.Lookups.{Lookups, IsCurrent, ReturnsModel, IsReturnedModel, GivesModel, IsCore, IsValueIn, IsMember, ReturnsValue, ReturnsFailed, True, False, Unknown, Yes, No, Failed, Unfailed}
 use Rattle.varisat_calls.specs.declared.lookups.Kept.TheVariants as kept
 
 -- there is a model where it found no memory
-pub model-lost : (g : Summary) (x : AllocError) → LeadsRepresented g (λ s t. ReturnsModel s (Err x) t) g → HasModel g
+pub model-lost : (g : Summary) (x : AllocError) → LeadsRepresented g (λ s t. ReturnsModel s (Err x) t) g → GivesModel g
 model-lost g x call s st =
     let (t, (valid, some, same), stands) = call s st in
     let (list, may) = some in

@@ -25,7 +25,7 @@ use Rattle.varisat_solver.specs.declared.solver.SolverError.{SolverError}
 use Rattle.varisat_calls.specs.Numbers.{returned_numbers, returned_names}
 use Rattle.varisat_calls.specs.Codes.{answer_number}
 use Rattle.varisat_calls.specs.Callers.{Answer, Caller, Makes, MakesNumbered, MakesOver, Made, over, SetsField, SetsMode, changing, ReturnsListOf, Returned, ShowsHidden, ShowsNames, NoRoom, OpensFormat, Opened, Refused, opening}
-use Rattle.varisat_calls.specs.Texts.{ReadsPiece, AddsClauses, AddsRead, GoesOn, without_clauses}
+use Rattle.varisat_calls.specs.Texts.{ReadsFurther, AddsClauses, AddsRead, GoesOn, without_clauses}
 
 -- 1. Calls with an answer.
 
@@ -133,8 +133,8 @@ clauses-added read clauses answer g h own call rest =
     record { call = subst (λ cs. LeadsRepresented g.solver (λ s t. AddsFormula s cs answer t) h.solver) own call; rest = rest }
 
 -- what a caller read behind its text
-pub read-behind : (piece : List ℕ) (begun from read : Progress) → begun ≡ from → ReadsPiece begun piece read → ReadsPiece from piece read
-read-behind piece begun from read is reads = subst (λ p. ReadsPiece p piece read) is reads
+pub read-behind : (piece : List ℕ) (begun from read : Progress) → begun ≡ from → ReadsFurther begun piece read → ReadsFurther from piece read
+read-behind piece begun from read is reads = subst (λ p. ReadsFurther p piece read) is reads
 
 -- the clauses were added to a caller whose text was taken
 pub text-taken : (read : Progress) (answer : Answer) (g mid last h : Caller) → mid ≡ record g { text = None } →

@@ -92,8 +92,8 @@ pub record LimitsSteps (steps : ℕ) (g h : Caller) : Type 0 where
   pub rest : h ≡ record g { solver = h.solver }
 
 -- the solver searched
-abbrev pub Searches : Caller → ℕ → Caller → Type 0
-Searches g n h = (answer : Result Bool SolverError) × (n ≡ verdict_number answer) × Makes (Solves by_state) g answer h
+abbrev pub SolvesNumbered : Caller → ℕ → Caller → Type 0
+SolvesNumbered g n h = (answer : Result Bool SolverError) × (n ≡ verdict_number answer) × Makes (Solves by_state) g answer h
 
 -- the least free variable came into use
 abbrev pub NamesNew : Caller → Result ℕ ℕ → Caller → Type 0

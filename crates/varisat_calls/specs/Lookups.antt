@@ -24,21 +24,21 @@ ReturnsCore s r t = ReturnsList (by_state.core s) s r t
 abbrev pub IsReturnedModel : Summary → List Literal → Type 0
 IsReturnedModel g m = LeadsRepresented g (λ s t. ReturnsModel s (Ok (Some m)) t) g
 
-abbrev pub HasModel : Summary → Type 0
-HasModel g = LeadsRepresented g (ReturnsSome ReturnsModel) g
+abbrev pub GivesModel : Summary → Type 0
+GivesModel g = LeadsRepresented g (ReturnsSome ReturnsModel) g
 
-abbrev pub HasNoModel : Summary → Type 0
-HasNoModel g = LeadsRepresented g (λ s t. ReturnsModel s (Ok None) t) g
+abbrev pub GivesNoModel : Summary → Type 0
+GivesNoModel g = LeadsRepresented g (λ s t. ReturnsModel s (Ok None) t) g
 
 -- the list is the one that `failed_core` returns, or there is one, or none
 abbrev pub IsCore : Summary → List Literal → Type 0
 IsCore g m = LeadsRepresented g (λ s t. ReturnsCore s (Ok (Some m)) t) g
 
-abbrev pub HasCore : Summary → Type 0
-HasCore g = LeadsRepresented g (ReturnsSome ReturnsCore) g
+abbrev pub GivesCore : Summary → Type 0
+GivesCore g = LeadsRepresented g (ReturnsSome ReturnsCore) g
 
-abbrev pub HasNoCore : Summary → Type 0
-HasNoCore g = LeadsRepresented g (λ s t. ReturnsCore s (Ok None) t) g
+abbrev pub GivesNoCore : Summary → Type 0
+GivesNoCore g = LeadsRepresented g (λ s t. ReturnsCore s (Ok None) t) g
 
 -- which list has its literals kept, and these as a set
 pub record Lookups : Type 0 where
@@ -77,7 +77,7 @@ pub data ReturnsValue (number : ℤ) (g : Caller) (n : ℕ) (h : Caller) : Type 
   Unknown : (m : List Literal) → IsReturnedModel g.solver m → (literal_numbered number ∈ m → ⊥) →
       (opposite (literal_numbered number) ∈ m → ⊥) →
       n ≡ 15 → h ≡ g → ReturnsValue number g n h
-  Unfound : FindsNone HasModel HasNoModel number g n h → ReturnsValue number g n h
+  Unfound : FindsNone GivesModel GivesNoModel number g n h → ReturnsValue number g n h
 
 -- Whether the literal of the number is one of the core: 1 and 0.
 pub data ReturnsFailed (number : ℤ) (g : Caller) (n : ℕ) (h : Caller) : Type 0 where
@@ -85,4 +85,4 @@ pub data ReturnsFailed (number : ℤ) (g : Caller) (n : ℕ) (h : Caller) : Type
       ReturnsFailed number g n h
   Unfailed : (m : List Literal) → IsCore g.solver m → (literal_numbered number ∈ m → ⊥) → n ≡ 0 → h ≡ g →
       ReturnsFailed number g n h
-  Unfound : FindsNone HasCore HasNoCore number g n h → ReturnsFailed number g n h
+  Unfound : FindsNone GivesCore GivesNoCore number g n h → ReturnsFailed number g n h

@@ -20,8 +20,8 @@ abbrev pub without_clauses : Progress → Progress
 without_clauses p = record p { reading = record p.reading { clauses = [] } }
 
 -- the reader took the piece, or memory ran out at a blank of it
-abbrev pub ReadsPiece : Progress → List ℕ → Progress → Type 0
-ReadsPiece p piece q = AdvancesBy p piece q ⊎ RunsOutIn p piece q
+abbrev pub ReadsFurther : Progress → List ℕ → Progress → Type 0
+ReadsFurther p piece q = AdvancesBy p piece q ⊎ RunsOutIn p piece q
 
 -- The clauses that were read are added, which had this answer, and this text is being given then; nothing else changed.
 pub record AddsClauses (read : Progress) (answer : Answer) (text : Option Progress) (g h : Caller) : Type 0 where
@@ -38,7 +38,7 @@ pub data AddsRead (read : Progress) (g : Caller) (n : ℕ) (h : Caller) : Type 0
 
 -- the next piece is read, and what ended in it is added
 abbrev pub Feeds : List ℕ → Caller → ℕ → Caller → Type 0
-Feeds piece g n h = (read : Progress) × ReadsPiece (text_of g.text) piece read × AddsRead read g n h
+Feeds piece g n h = (read : Progress) × ReadsFurther (text_of g.text) piece read × AddsRead read g n h
 
 -- what ends with the text is added; then the highest number of its header and its literals is returned, or its fault
 pub data EndsRead (read : Progress) (g : Caller) (r : Result ℕ ℕ) (h : Caller) : Type 0 where

@@ -74,7 +74,7 @@ impl<A: Allocator + Copy> Caller<A> {
     ghost use Rattle.varisat_solver.specs.promises.Usage.{ChangesMode};
     ghost use Rattle.varisat_theory.specs.promises.Literals.{IsSatisfiableWith};
     ghost use Rattle.varisat_calls.specs.Codes.{field_numbered, format_numbered, mode_numbered};
-    ghost use Rattle.varisat_calls.specs.Callers.{IsNewCaller, Makes, MakesNumbered, MakesOver, AddsNumber, LimitsSteps, Searches, NamesNew, SetsField, SetsMode, ReturnsListOf, ShowsHidden, OpensFormat, Closes};
+    ghost use Rattle.varisat_calls.specs.Callers.{IsNewCaller, Makes, MakesNumbered, MakesOver, AddsNumber, LimitsSteps, SolvesNumbered, NamesNew, SetsField, SetsMode, ReturnsListOf, ShowsHidden, OpensFormat, Closes};
     ghost use Rattle.varisat_calls.specs.Lookups.{ReturnsValue, ReturnsFailed};
     ghost use Rattle.varisat_calls.specs.Texts.{text_of, without_clauses, AddsClauses, Feeds, EndsText};
 
@@ -193,7 +193,7 @@ impl<A: Allocator + Copy> Caller<A> {
 
     /// 10 where the clauses are satisfiable under the assumptions, 20 where they are not, or the number of a refusal.
     pub fn solve(&mut self) -> u8
-        ensures call { Searches self.old result self.new }
+        ensures call { SolvesNumbered self.old result self.new }
         ensures satisfiable { result ≡ 10 →
             (s : State) → Represents self.old.solver s → IsSatisfiableWith s.clauses s.assumptions }
         ensures unsatisfiable { result ≡ 20 →

@@ -3,7 +3,7 @@ ghost use Rattle.std.specs.Prelude.{◌≡◌, ◌↔◌, IsTrue, true, false, O
 ghost use Rattle.varisat_theory.specs.promises.Literals.{Literal};
 ghost use Rattle.varisat_client.specs.inside.LiteralSets.{Has, IsSetOf};
 ghost use Rattle.varisat_solver.specs.promises.Summaries.{Summary};
-ghost use Rattle.varisat_calls.specs.Lookups.{IsCurrent, IsValueIn, IsMember, IsReturnedModel, IsCore, HasModel, HasNoModel, HasCore, HasNoCore};
+ghost use Rattle.varisat_calls.specs.Lookups.{IsCurrent, IsValueIn, IsMember, IsReturnedModel, IsCore, GivesModel, GivesNoModel, GivesCore, GivesNoCore};
 ghost use Rattle.varisat_calls.specs.declared.lookups.Kept.TheVariants.{Nothing};
 
 use crate::codes::NOTHING;
@@ -71,8 +71,8 @@ impl<A: Allocator + Copy> Lookups<A> {
         requires { IsCurrent self.old solver.now }
         ensures current { IsCurrent self.new solver.now }
         ensures model { result ≡ Ok true → (m : List Literal) × IsReturnedModel solver.now m × IsSetOf m self.new.literals }
-        ensures none { result ≡ Ok false → HasNoModel solver.now }
-        ensures lost { OnErr result (HasModel solver.now) }
+        ensures none { result ≡ Ok false → GivesNoModel solver.now }
+        ensures lost { OnErr result (GivesModel solver.now) }
     {
         if let Kept::Model = self.kept {
             return Ok(true);
@@ -92,8 +92,8 @@ impl<A: Allocator + Copy> Lookups<A> {
         requires { IsCurrent self.old solver.now }
         ensures current { IsCurrent self.new solver.now }
         ensures core { result ≡ Ok true → (m : List Literal) × IsCore solver.now m × IsSetOf m self.new.literals }
-        ensures none { result ≡ Ok false → HasNoCore solver.now }
-        ensures lost { OnErr result (HasCore solver.now) }
+        ensures none { result ≡ Ok false → GivesNoCore solver.now }
+        ensures lost { OnErr result (GivesCore solver.now) }
     {
         if let Kept::Core = self.kept {
             return Ok(true);

@@ -77,8 +77,8 @@ def check_tools(*tools):
 
 
 def build_ours():
-    """Proves and builds our program where that is due."""
-    if subprocess.run([f"{ROOT}/varisat", "--prove"], stdin=subprocess.DEVNULL).returncode:
+    """Proves and builds our program where that is due, and tells so on standard error."""
+    if subprocess.run([f"{ROOT}/varisat", "--prove"], stdin=subprocess.DEVNULL, stdout=sys.stderr).returncode:
         stop("the program was not built")
 
 

@@ -220,6 +220,7 @@ record Takes (old new : Input) (p q : Past) : Type 0 where
   text : List ℕ
   reads : Reads old text new
   ended : HasEnded new
+  quiet : new.faults ≡ old.faults
   fine : (dimacs text).fault ≡ None
   all : AddsWhole p (dimacs text).clauses q
 
@@ -231,6 +232,7 @@ takes old new p q (Read v R g a) =
       text = w.text;
       reads = w.reads;
       ended = w.ended;
+      quiet = w.quiet;
       fine = ap (λ x. x.fault) (sym w.is) ∙ fine;
       all = subst (λ (x : Reading). AddsWhole p x.clauses q) w.is all;
     }
@@ -336,6 +338,7 @@ module _ (check : Bool) (proof : Option OpenProof) (limit : Option ℕ) (old new
           text = w.text;
           reads = w.reads;
           ended = w.ended;
+          quiet = w.quiet;
           fine = w.fine;
           found =
               λ s. n (s.0, r.part s.0 (λ d h. absurd h) s.1, none-true s.0 t.assumptions r.assumptions);
@@ -354,7 +357,7 @@ module _ (check : Bool) (proof : Option OpenProof) (limit : Option ℕ) (old new
       let early = spent-early (length t.counted) (allowed_steps limit) t.ledger.settings.max_steps t.ledger.since t.ledger.steps u.ledger.steps f.steps
       (ap (λ (s : Settings). s.max_steps) r.settings) r.steps in
       let power : 2 ^ (2 * length t.counted + 3) ≤ 2 ^ (2 * length names + 3) = pow_mono (omega (arith, fewer)) in (
-        record { text = w.text; reads = w.reads; ended = w.ended; fine = w.fine; found = omega (arith, early, power) },
+        record { text = w.text; reads = w.reads; ended = w.ended; quiet = w.quiet; fine = w.fine; found = omega (arith, early, power) },
         r.carries,
       )
     where
@@ -378,6 +381,7 @@ module _ (check : Bool) (proof : Option OpenProof) (limit : Option ℕ) (old new
           text = k.text;
           reads = k.reads;
           ended = k.ended;
+          quiet = k.quiet;
           fine = k.fine;
           found = outcome (dimacs k.text).clauses r.whole (s.0, s.1) z (same-clauses f.rest) (same-naming f.rest) h;
         },
@@ -405,6 +409,7 @@ pub outcome-is-true : (max_steps : ℕ) (old new : Input) (outcome : Conclusion)
     status ≡ conclusion_status outcome → StatusIsTrue old new status
 outcome-is-true max_steps old new outcome status d e = record {
   ended = λ n. d.ended.reported;
+  quiet = λ n. d.quiet;
   fine = λ text g n. subst (λ x. (dimacs x).fault ≡ None) (same text g) d.fine;
   satisfiable = λ text g t. subst (λ x. IsSatisfiable (dimacs x).clauses) (same text g) (found outcome (sym e ∙ t) d.found);
   unsatisfiable = λ text g t. subst (λ x. IsSatisfiable (dimacs x).clauses → ⊥) (same text g) (none outcome (sym e ∙ t) d.found);

@@ -177,15 +177,16 @@ piece_told s t u p q front e r w k h = by_why (k.bad e h).0 (k.bad e h).1
     by_why rise (PieceWantsRoom f d n) = d
     by_why rise (SourceFailed b d n f) = ap (λ z. z.fault) b ∙ failing_told p e (still_open s t p front w) d
 
--- a source that gave a text without a fault gave all of it
+-- a source that gave a text without a fault gave all of it, and did not fail
 pub record GivesWhole (s : Input) (reading : Reading) (t : Input) : Type 0 where
   pub text : List ℕ
   pub reads : Reads s text t
   pub ended : HasEnded t
+  pub quiet : t.faults ≡ s.faults
   pub is : reading ≡ dimacs text
 
 pub gives_whole : (s t : Input) (reading : Reading) → GivesReading s reading t → reading.fault ≡ None → GivesWhole s reading t
-gives_whole s t reading (Whole text r h q e) f = record { text = text; reads = r; ended = h; is = e }
+gives_whole s t reading (Whole text r h q e) f = record { text = text; reads = r; ended = h; quiet = q; is = e }
 gives_whole s t reading (FaultInText text r q e n) f = absurd (n f)
 gives_whole s t reading (TextFailed text r q e) f = absurd (broken_fails Io text (ap (λ x. x.fault) (sym e) ∙ f))
 gives_whole s t reading (ReaderRanOut front rest r n q e) f = absurd (broken_fails OutOfMemory front (ap (λ x. x.fault) (sym e) ∙ f))

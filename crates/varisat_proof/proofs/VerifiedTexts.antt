@@ -30,7 +30,14 @@ use Rattle.varisat_proof.proofs.MarkedReports.{refutation_sound}
 whole_text : (s t : Input) (reading : Reading) → GivesReading s reading t → reading.fault ≡ None → GivesClauses s reading.clauses t
 whole_text s t reading g f =
     let w = gives_whole s t reading g f in
-    record { text = w.text; reads = w.reads; ended = w.ended; fine = ap (λ x. x.fault) (sym w.is) ∙ f; clauses_are = ap (λ x. x.clauses) w.is }
+    record {
+      text = w.text;
+      reads = w.reads;
+      ended = w.ended;
+      quiet = w.quiet;
+      fine = ap (λ x. x.fault) (sym w.is) ∙ f;
+      clauses_are = ap (λ x. x.clauses) w.is;
+    }
 
 -- a new checker took the text
 record Took (s t : Input) (mid : CheckerState) : Type 0 where

@@ -109,6 +109,7 @@ decides-text taken format max_steps old new f g stack lines c d target led back 
         text = w.text;
         reads = w.reads;
         ended = w.ended;
+        quiet = w.quiet;
         fine = ap (λ (x : Reading). x.fault) (sym w.is) ∙ p.tells.1;
         found = subst (λ Q. IsConclusion max_steps Q d) same
             (subst (IsConclusion max_steps f.clauses) (sym e) (concludes-all max_steps f g stack lines c made k.found));

@@ -59,11 +59,13 @@ abbrev pub IsConclusion : ℕ → List Clause → Conclusion → Type 0
 IsConclusion max_steps P (Decided outcome) = IsOutcome P outcome
 IsConclusion max_steps P Unknown = min max_steps (2 ^ 64 - 1) < 2 ^ (2 * length (named_variables [] P) + 3)
 
--- What a source gave in a call, up to its end, is a text without a fault, and this is the conclusion for its clauses.
+-- What a source gave in a call, up to its end and without a failed call, is a text without a fault, and this is the conclusion for its
+-- clauses.
 pub record Decides (max_steps : ℕ) (old new : Input) (conclusion : Conclusion) : Type 0 where
   pub text : List ℕ
   pub reads : Reads old text new
   pub ended : HasEnded new
+  pub quiet : new.faults ≡ old.faults
   pub fine : (dimacs text).fault ≡ None
   pub found : IsConclusion max_steps (dimacs text).clauses conclusion
 
@@ -92,9 +94,10 @@ conclusion_status (Decided outcome) = outcome_status outcome
 conclusion_status Unknown = 0
 
 -- What a status says of the text that the source gave since, whatever is known of the source: 10 only at the end of a text
--- without a fault whose clauses some assignment satisfies, 20 only of one whose clauses none does.
+-- without a fault whose clauses some assignment satisfies, 20 only of one whose clauses none does; neither behind a failed call.
 pub record StatusIsTrue (old new : Input) (status : ℕ) : Type 0 where
   pub ended : status ≢ fault_status → new.ended ≡ true
+  pub quiet : status ≢ fault_status → new.faults ≡ old.faults
   pub fine : (text : List ℕ) → new.given ≡ old.given ++ text → status ≢ fault_status → (dimacs text).fault ≡ None
   pub satisfiable : (text : List ℕ) → new.given ≡ old.given ++ text → status ≡ 10 → IsSatisfiable (dimacs text).clauses
   pub unsatisfiable : (text : List ℕ) → new.given ≡ old.given ++ text → status ≡ 20 →

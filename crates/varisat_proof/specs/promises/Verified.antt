@@ -16,11 +16,12 @@ use Rattle.varisat_proof.specs.promises.Calls.{CheckerState, at_input, AddsText,
 use Rattle.varisat_proof.specs.promises.Marked.{MarkedLog, nothing_logged, state_of, IsCheckOf}
 use Rattle.varisat_proof.specs.promises.DratChecks.{ChecksDrat}
 
--- the source gave a whole text without a fault, which has these clauses
+-- The source gave a whole text without a fault, which has these clauses, and no call of the source failed.
 pub record GivesClauses (old : Input) (clauses : List Clause) (new : Input) : Type 0 where
   pub text : List ℕ
   pub reads : streams.Reads old text new
   pub ended : HasEnded new
+  pub quiet : new.faults ≡ old.faults
   pub fine : (dimacs text).fault ≡ None
   pub clauses_are : clauses ≡ (dimacs text).clauses
 

@@ -58,7 +58,8 @@ def optimum(solver, path, limit):
 
 
 def build(arguments):
-    if arguments.program:
+    """Proves and builds the program, unless the gate left it."""
+    if arguments.program or programs.is_behind_gate("maxsat"):
         return
     if subprocess.run(["rt", "run", "--", "-"], cwd=f"{programs.ROOT}/crates/maxsat", stdin=subprocess.DEVNULL).returncode not in (0, 2):
         programs.stop("the program was not built")

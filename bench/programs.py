@@ -82,6 +82,12 @@ def build_ours():
         stop("the program was not built")
 
 
+def is_behind_gate(name):
+    """Whether the program of the crate is there, as the gate leaves it, and no source is newer."""
+    told = 'root=$1; . "$root/install/prove.sh"; is_newest "$root/crates/$2/out/$2" "$2"'
+    return subprocess.run(["bash", "-c", told, "bash", ROOT, name]).returncode == 0
+
+
 def take_ours(file):
     """Has the program in the file stand for ours, or where none is named the proved one, which is built where that is due."""
     global PROGRAM

@@ -1,19 +1,19 @@
 -- Why a variable may be resolved away.
-use Rattle.std.proofs.Common.{◌≡◌, ℕ, zero, suc, ◌+◌, ◌/◌, ◌<◌, ◌≤◌, Bool, true, false, List, [], ◌∷◌, ◌++◌, ◌⊎◌, inl, inr, ⊎_elim, sym, ap, ◌∙◌, subst, refl, length, get_or, set, take, append-nil, arith}
+use Rattle.std.proofs.Common.{◌≡◌, ℕ, zero, suc, ◌+◌, ◌/◌, ◌<◌, ◌≤◌, ◌==◌, Bool, true, false, List, [], ◌∷◌, ◌++◌, ◌⊎◌, inl, inr, ⊎_elim, sym, ap, ◌∙◌, subst, refl, length, get_or, set, take, append-nil, arith}
 use Rattle.varisat_theory.specs.promises.Membership.{◌∈◌}
-use Rattle.varisat_theory.specs.promises.Literals.{Literal, Clause, Assignment, opposite, value, Satisfies, SatisfiesAll}
+use Rattle.varisat_theory.specs.promises.Literals.{Literal, Clause, Assignment, opposite, variable_of, value, Satisfies, SatisfiesAll}
 use Rattle.varisat_theory.proofs.clauses.Members.{equal_or_not, ∈-or_not}
 use Rattle.varisat_theory.proofs.clauses.Places.{∈-get_or, ∈-take_more, ∈-take_all, place_in}
-use Rattle.varisat_theory.proofs.clauses.Values.{opposite_twice, true_or_opposite}
+use Rattle.varisat_theory.proofs.clauses.Values.{opposite_twice, variable-opposite, true_or_opposite}
 use Rattle.varisat_formula.specs.promises.Values.{assignment_of, with_true}
 use Rattle.varisat_rules.specs.promises.Stacks.{amended, extended, avoids}
-use Rattle.varisat_rules.specs.promises.Leading.{AreNamedBy}
-use Rattle.varisat_rules.proofs.LeadingLemmas.{leads_removed, told_removed, named_at}
+use Rattle.varisat_rules.specs.promises.Leading.{AreNamedBy, HasVariable, HasVariablesOf}
+use Rattle.varisat_rules.proofs.LeadingLemmas.{leads_removed, told_removed, named_at, has_more}
 use Rattle.varisat_formula.proofs.ValueLemmas.{made-true, stays-true}
 use Rattle.varisat_rules.proofs.ExtendLemmas.{thawed_more}
 use Rattle.varisat_database.specs.Databases.{DatabaseState, pushed, removed, saved, clause_at, IsLive}
-use Rattle.varisat_rules.specs.inside.States.{IsThawed, Models, DerivesFrom, IsLaterState, ModelsRest, SatisfiesBut, Collects, IsPairResolved, ResolvesPairs, SavesClauses, Drops}
-use Rattle.varisat_rules.proofs.StateLemmas.{becomes_self, becomes_then, pushed_live, pushed_keeps, pushed_new, removed_live, removed_keeps, removed_even, pushed_even, satisfies_same, push_resolvent}
+use Rattle.varisat_rules.specs.inside.States.{IsThawed, Occurs, Models, DerivesFrom, IsLaterState, ModelsRest, SatisfiesBut, Collects, IsPairResolved, ResolvesPairs, SavesClauses, Drops}
+use Rattle.varisat_rules.proofs.StateLemmas.{becomes_self, becomes_then, clause_stays, pushed_live, pushed_keeps, pushed_new, removed_live, removed_keeps, removed_even, pushed_even, satisfies_same, push_resolvent}
 use Rattle.varisat_rules.proofs.ExtendLemmas.{extended_more, amended_cases, amended_length}
 
 -- what has a literal, in a clause that is equal
@@ -190,6 +190,8 @@ save_reduces P s l e i g small hl part whole others pairs thaw r = record {
   leads = leads_removed P s.lines s.live s.clauses i r.even r.leads;
   named = r.named;
   spoken = told_removed P s.lines (get_or s.live i false) (clause_at s i) (named_at P s.clauses i r.named) r.spoken;
+  saved = has_more P s.stack (l ∷ e) (λ m h.
+      (m, named_at P s.clauses i r.named m (⊎_elim (λ q. subst (λ x. x ∈ clause_at s i) (sym q) hl) (part m) h), refl)) r.saved;
   thawed = thawed_more s.frozen s.stack l e thaw r.thawed;
 }
   where
@@ -302,8 +304,26 @@ drops_next s t m i h r = record {
     length-set (y ∷ xs) zero x = refl
     length-set (y ∷ xs) (suc i) x = ap suc (length-set xs i x)
 
-pub drops_end : (s t : DatabaseState) (m : Literal) → m / 2 < s.var_count → IsThawed s m → ((k : ℕ) → IsLive s k → opposite m ∈ clause_at s k → ⊥) → Drops s t m → IsLaterState s t
-drops_end s t m small thaw pure r = record { more = ([], r.same ∙ sym (append-nil s.clauses)); count = r.count; frozen = r.frozen; reduces = λ P q. reduces P q }
+-- the variable of a literal that occurs is not new
+occurs_named : (P : List Clause) (s : DatabaseState) (m : Literal) → Occurs s m → DerivesFrom P s → HasVariable P (variable_of m)
+occurs_named P s m (k, inl h) q = (m, named_at P s.clauses k q.named m h, refl)
+occurs_named P s m (k, inr h) q = (opposite m, named_at P s.clauses k q.named (opposite m) h, variable-opposite m)
+
+-- a literal occurs whose variable was resolved away, with some clauses at these places
+pub occurs_resolved : (s t : DatabaseState) (l m : Literal) (w g : List ℕ) → m ≡ opposite l → Collects s l w → Collects t (opposite l) g → IsLaterState s t →
+    (false ≡ (length w == 0)) ⊎ (false ≡ (length g == 0)) → Occurs t m
+occurs_resolved s t l m w (y ∷ g) e c d b n = (y, inl (subst (λ x. x ∈ clause_at t y) (sym e) (d.with y (inl refl))))
+occurs_resolved s t l m (x ∷ w) [] e c d b n = (
+  x,
+  inr (subst (λ y. y ∈ clause_at t x) (sym (ap opposite e ∙ opposite_twice l))
+      (in_same l (clause_at s x) (clause_at t x) (sym (clause_stays s t x c.even (c.live x (inl refl)) b)) (c.with x (inl refl)))),
+)
+occurs_resolved s t l m [] [] e c d b (inl n) = absurd (cc)
+occurs_resolved s t l m [] [] e c d b (inr n) = absurd (cc)
+
+pub drops_end : (s t : DatabaseState) (m : Literal) → m / 2 < s.var_count → IsThawed s m → Occurs s m → ((k : ℕ) → IsLive s k → opposite m ∈ clause_at s k → ⊥) →
+    Drops s t m → IsLaterState s t
+drops_end s t m small thaw occurs pure r = record { more = ([], r.same ∙ sym (append-nil s.clauses)); count = r.count; frozen = r.frozen; reduces = λ P q. reduces P q }
   where
     at : (k : ℕ) → clause_at t k ≡ clause_at s k
     at k = ap (λ (cs : List Clause). get_or cs k []) r.same
@@ -318,6 +338,8 @@ drops_end s t m small thaw pure r = record { more = ([], r.same ∙ sym (append-
       leads = (r.tells P q).0;
       named = subst (λ (cs : List Clause). AreNamedBy P cs) (sym r.same) q.named;
       spoken = (r.tells P q).1;
+      saved = subst (λ (st : List Clause). HasVariablesOf P st) (sym r.stack) (has_more P s.stack (m ∷ [])
+          (λ l h. ⊎_elim (λ e. subst (λ x. HasVariable P (variable_of x)) (sym e) (occurs_named P s m occurs q)) (λ z. absurd z) h) q.saved);
       thawed = subst (λ (st : List Clause). (c : Clause) → c ∈ st → avoids t.frozen c ≡ true) (sym r.stack)
           (subst (λ (f : List Bool). (c : Clause) → c ∈ (s.stack ++ (m ∷ []) ∷ []) → avoids f c ≡ true) (sym r.frozen)
           (thawed_more s.frozen s.stack m [] thaw q.thawed));

@@ -1,7 +1,7 @@
 -- Lines that lead from some clauses to those that are live.
 use Rattle.std.proofs.Common.{◌≡◌, ℕ, zero, suc, ◌<◌, Bool, true, false, List, [], ◌∷◌, ◌++◌, inl, inr, ⊎_elim, sym, ap, ◌∙◌, subst, refl, length, get_or, set, append_assoc, append-nil, arith}
 use Rattle.varisat_theory.specs.promises.Membership.{◌∈◌}
-use Rattle.varisat_theory.specs.promises.Literals.{Literal, Clause}
+use Rattle.varisat_theory.specs.promises.Literals.{Literal, Clause, variable_of}
 use Rattle.varisat_theory.specs.promises.Propagation.{Follows}
 use Rattle.varisat_theory.specs.promises.Derivations.{Line, Add, Delete, TakesOut, IsDerivation, Refutes, SpeakOf}
 use Rattle.varisat_theory.specs.promises.Held.{SameClauses}
@@ -9,7 +9,7 @@ use Rattle.varisat_theory.proofs.clauses.Members.{∈-append_cases}
 use Rattle.varisat_theory.proofs.clauses.Held.{same_set-self, same_clauses-self, same_clauses-through, same_add, same_delete, follows_same}
 use Rattle.varisat_theory.proofs.clauses.Lines.{derives_add, derives_delete, derives_append, derives_same, derives_derivation, derivation_derives, refutes_same, refutes_at, refutes_from, same_lines-self}
 use Rattle.varisat_theory.proofs.journals.Spoken.{spoken_join}
-use Rattle.varisat_rules.specs.promises.Leading.{LeadsTo, IsNamedBy, AreNamedBy}
+use Rattle.varisat_rules.specs.promises.Leading.{LeadsTo, IsNamedBy, AreNamedBy, HasVariable, HasVariablesOf}
 use Rattle.varisat_database.specs.Databases.{deletion}
 use Rattle.varisat_rules.specs.inside.States.{flagged}
 
@@ -105,6 +105,13 @@ told_removed P lines false c n s = subst (λ (l : List Line). SpeakOf (IsNamedBy
 
 pub named_more : (P cs : List Clause) (c : Clause) → ((l : Literal) → l ∈ c → IsNamedBy P l) → AreNamedBy P cs → AreNamedBy P (cs ++ c ∷ [])
 named_more P cs c n a d l h m = ⊎_elim
+    (λ k. a d l k m)
+    (λ k. ⊎_elim (λ e. n l (subst (λ (x : Clause). l ∈ x) e m)) (λ z. absurd z) k)
+    (∈-append_cases d cs (c ∷ []) h)
+
+-- one clause more, of variables that are not new
+pub has_more : (P cs : List Clause) (c : Clause) → ((l : Literal) → l ∈ c → HasVariable P (variable_of l)) → HasVariablesOf P cs → HasVariablesOf P (cs ++ c ∷ [])
+has_more P cs c n a d l h m = ⊎_elim
     (λ k. a d l k m)
     (λ k. ⊎_elim (λ e. n l (subst (λ (x : Clause). l ∈ x) e m)) (λ z. absurd z) k)
     (∈-append_cases d cs (c ∷ []) h)

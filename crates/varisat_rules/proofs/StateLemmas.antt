@@ -43,6 +43,12 @@ live_below s k e = go s.live k e
     go (x ∷ xs) zero e = omega arith
     go (x ∷ xs) (suc k) e = let h = go xs k e in omega (arith, h)
 
+-- the clause at a live place stays there
+pub clause_stays : (s t : DatabaseState) (k : ℕ) → length s.live ≡ length s.clauses → IsLive s k → IsLaterState s t → clause_at t k ≡ clause_at s k
+clause_stays s t k even live b =
+    let h = live_below s k live in
+    ap (λ (cs : List Clause). get_or cs k []) b.more.1 ∙ get_or_append_left s.clauses b.more.0 [] k (omega (arith, h, even))
+
 -- a live place after a push is an old one, with its clause, or the new one
 pub pushed_live : (s : DatabaseState) (c : Clause) (k : ℕ) → length s.live ≡ length s.clauses → IsLive (pushed s c) k →
     (IsLive s k × (clause_at (pushed s c) k ≡ clause_at s k)) ⊎ ((k ≡ length s.clauses) × (clause_at (pushed s c) k ≡ c))
@@ -129,6 +135,7 @@ push_reduces P s c entails f named r = record {
   leads = subst (λ (Q : List Clause). LeadsTo P (s.lines ++ Add c ∷ []) Q) (sym (live_pushed s c r.even)) (leads_add P s.lines (live_clauses s) c f r.leads);
   named = named_more P s.clauses c named r.named;
   spoken = told_add P s.lines c named r.spoken;
+  saved = r.saved;
   thawed = r.thawed;
 }
 
@@ -145,6 +152,7 @@ remove_reduces P s i j live n part r = record {
   leads = leads_removed P s.lines s.live s.clauses i r.even r.leads;
   named = r.named;
   spoken = told_removed P s.lines (get_or s.live i false) (clause_at s i) (named_at P s.clauses i r.named) r.spoken;
+  saved = r.saved;
   thawed = r.thawed;
 }
 

@@ -3,7 +3,7 @@ ghost use Rattle.std.specs.Prelude.{◌≡◌, ℕ, ◌/◌, ◌<◌, ◌≤◌,
 ghost use Rattle.varisat_theory.specs.promises.Membership.{◌∈◌};
 ghost use Rattle.varisat_theory.specs.promises.Literals.{opposite, variable_of};
 ghost use Rattle.varisat_database.specs.Databases.{IsLive, clause_at, removed, saved};
-ghost use Rattle.varisat_rules.specs.inside.States.{IsThawed, IsLaterState, Collects, ResolvesPairs, SavesClauses};
+ghost use Rattle.varisat_rules.specs.inside.States.{IsThawed, Occurs, IsLaterState, Collects, ResolvesPairs, SavesClauses};
 
 use crate::resolve::{holds, resolve};
 use std::alloc::{AllocError, Allocator};
@@ -111,6 +111,7 @@ fn save_literal<A: Allocator + Copy>(
 ) -> Result<(), AllocError>
     requires small { variable_of lit < db.old.var_count }
     requires thawed { IsThawed db.old lit }
+    requires occurs { Occurs db.old lit }
     requires pure { (k : ℕ) → IsLive db.old k → opposite lit ∈ clause_at db.old k → ⊥ }
     requires with { (k : ℕ) → k ∈ places.now → lit ∈ clause_at db.old k }
     ensures { OnOk result (IsLaterState db.old db.new) }
@@ -134,7 +135,8 @@ pub fn may_go<A: Allocator + Copy>(db: &Database<A>, lit: Lit) -> bool
     count <= MOST_CLAUSES && count.saturating_mul(db.count(!lit)) <= MOST_PAIRS
 }
 
-/// Adds the resolvents, and saves and removes the clauses that were resolved.
+/// Adds the resolvents, and saves and removes the clauses that were resolved. Without any, nothing is saved: the
+/// formula need not have the variable.
 pub fn resolve_away<A: Allocator + Copy>(
     db: &mut Database<A>,
     lit: Lit,
@@ -148,6 +150,9 @@ pub fn resolve_away<A: Allocator + Copy>(
     requires against { Collects db.old (opposite lit) against.now }
     ensures { OnOk result (IsLaterState db.old db.new) }
 {
+    if with.is_empty() && against.is_empty() {
+        return Ok(());
+    }
     add_resolvents(db, lit, with, against, literals)?;
     save_all(db, lit, with, against)?;
     save_literal(db, !lit, against)?;

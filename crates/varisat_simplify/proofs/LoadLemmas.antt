@@ -163,6 +163,7 @@ loads_end P rest n frozen s e r = record {
     leads = subst (λ (l : List Clause). LeadsTo P s.lines l) (ap (λ (l : List Clause). live_clauses s ++ l) e ∙ append-nil (live_clauses s)) r.leads;
     named = r.named;
     spoken = r.spoken;
+    saved = λ c l m. absurd (subst (λ (st : List Clause). c ∈ st) r.empty m);
     thawed = λ c m. absurd (subst (λ (st : List Clause). c ∈ st) r.empty m);
   };
   same = subst (λ (l : List Clause). SameClauses l P) (ap (λ (l : List Clause). s.clauses ++ l) e ∙ append-nil s.clauses) r.same;

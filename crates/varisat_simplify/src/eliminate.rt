@@ -103,7 +103,7 @@ fn eliminate_by<A: Allocator + Copy>(
         return Ok(false);
     }
     let pairs = (with.len() as u64).saturating_mul(against.len() as u64);
-    if pairs > *most || (with.is_empty() && against.is_empty()) {
+    if pairs > *most {
         return Ok(false);
     }
     *most -= pairs;

@@ -3,10 +3,10 @@ ghost use Rattle.std.specs.Prelude.{◌≡◌, ℕ, ◌/◌, ◌<◌, ◌≤◌,
 ghost use Rattle.varisat_formula.specs.declared.formula.cnf.FormulaError.TheVariants.{Memory};
 ghost use Rattle.varisat_formula.specs.promises.Formulas.{AllBelow, AreBelow};
 ghost use Rattle.varisat_database.specs.Databases.{no_clauses};
-ghost use Rattle.varisat_rules.specs.inside.States.{IsLaterState};
+ghost use Rattle.varisat_rules.specs.inside.States.{live_clauses, IsLaterState};
 ghost use Rattle.varisat_simplify.specs.inside.Loading.{IsLoaded};
 ghost use Rattle.varisat_rules.specs.promises.Stacks.{extended, KeepsFrozen};
-ghost use Rattle.varisat_simplify.specs.promises.Simplified.{Lists, Finishes, IsReduced, IsMadeOf};
+ghost use Rattle.varisat_simplify.specs.promises.Simplified.{formula_over, Finishes, IsReduced, IsMadeOf};
 
 use crate::eliminate::{Scratch, eliminate};
 use crate::normal::{is_normal, normalize};
@@ -53,6 +53,7 @@ impl<A: Allocator + Copy> Simplified<A> {
 /// The count, or one that has the literal's variable too.
 fn raised_by(count: usize, lit: Lit) -> usize
     requires { count ≤ 2 ^ 31 }
+    ensures below { (lit / 2 < result) × (count ≤ result) }
     ensures least { (n : ℕ) → lit / 2 < n → count ≤ n → result ≤ n }
     ensures small { result ≤ 2 ^ 31 }
 {
@@ -66,6 +67,7 @@ fn raised_by(count: usize, lit: Lit) -> usize
 /// The same of each literal of a clause.
 fn raised(count: usize, clause: &[Lit]) -> usize
     requires { count ≤ 2 ^ 31 }
+    ensures below { AllBelow result clause.now × (count ≤ result) }
     ensures least { (n : ℕ) → AllBelow n clause.now → count ≤ n → result ≤ n }
     ensures small { result ≤ 2 ^ 31 }
 {
@@ -78,6 +80,7 @@ fn raised(count: usize, clause: &[Lit]) -> usize
 
 /// How many variables there are up to the highest that the clauses name. A text's head may name many more.
 fn named_count<A: Allocator + Copy>(formula: &CnfFormula<A>) -> usize
+    ensures below { AreBelow result formula.now.clauses }
     ensures least { (n : ℕ) → AreBelow n formula.now.clauses → result ≤ n }
     ensures small { result ≤ 2 ^ 31 }
 {
@@ -192,7 +195,7 @@ fn run<A: Allocator + Copy>(
 
 /// The live clauses.
 fn unload<A: Allocator + Copy>(db: &Database<A>, alloc: A) -> Result<CnfFormula<A>, FormulaError>
-    ensures lists { IfOk result (λ f. Lists db.now f) }
+    ensures lists { IfOk result (λ f. f ≡ formula_over db.now.var_count (live_clauses db.now)) }
     ensures memory { IfErr result (λ e. e ≡ Memory) }
 {
     let mut formula = CnfFormula::new_in(alloc);
@@ -212,7 +215,7 @@ fn unload_first<A: Allocator + Copy>(
     count: usize,
 ) -> Result<CnfFormula<A>, FormulaError>
     requires { count ≤ length db.now.clauses }
-    ensures first { IfOk result (λ f. f.clauses ≡ take count db.now.clauses) }
+    ensures first { IfOk result (λ f. f ≡ formula_over db.now.var_count (take count db.now.clauses)) }
     ensures memory { IfErr result (λ e. e ≡ Memory) }
 {
     let mut formula = CnfFormula::new_in(alloc);
@@ -316,9 +319,11 @@ fn finish<A: Allocator + Copy>(
     stay(alloc, &db, count)
 }
 
-/// Makes a formula that has a model just where the given one has, and whose models are extended to ones of it.
-/// Variables that are flagged in `frozen` are not resolved away, and no extension changes their values. A formula that
-/// would hardly become shorter stays. The given one's memory is given back early. The only error is out of memory.
+/// Makes a formula that has a model just where the given one has, and whose models are extended to ones of it. It
+/// counts the variables up to the highest that the given one names. Variables that are flagged in `frozen` are not
+/// resolved away, and no extension changes their values, or those of variables that the given one does not name. A
+/// formula that would hardly become shorter stays. The given one's memory is given back early. The only error is out
+/// of memory.
 pub fn simplify<A: Allocator + Copy>(
     alloc: A,
     formula: CnfFormula<A>,

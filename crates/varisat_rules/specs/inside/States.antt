@@ -6,11 +6,15 @@ use Rattle.varisat_theory.specs.promises.Derivations.{SpeakOf}
 use Rattle.varisat_formula.specs.promises.Values.{assignment_of}
 use Rattle.varisat_rules.specs.promises.Stacks.{extended, avoids}
 use Rattle.varisat_database.specs.Databases.{DatabaseState, clause_at, IsLive}
-use Rattle.varisat_rules.specs.promises.Leading.{LeadsTo, IsNamedBy, AreNamedBy}
+use Rattle.varisat_rules.specs.promises.Leading.{LeadsTo, IsNamedBy, AreNamedBy, HasVariablesOf}
 
 -- the literal's variable may be resolved away
 abbrev pub IsThawed : DatabaseState → Literal → Type 0
 IsThawed s l = slice_index_or s.frozen (l / 2) false ≡ false
+
+-- a clause, live or not, has the literal or its opposite
+abbrev pub Occurs : DatabaseState → Literal → Type 0
+Occurs s l = (k : ℕ) × ((l ∈ clause_at s k) ⊎ (opposite l ∈ clause_at s k))
 
 -- the clauses that are flagged, in order
 abbrev pub flagged : List Bool → List Clause → List Clause
@@ -41,6 +45,8 @@ pub record DerivesFrom (P : List Clause) (s : DatabaseState) : Type 0 where
   -- no literal is new
   pub named : AreNamedBy P s.clauses
   pub spoken : SpeakOf (IsNamedBy P) s.lines
+  -- no variable of the stack is new
+  pub saved : HasVariablesOf P s.stack
   -- the stack changes no frozen variable
   pub thawed : (c : Clause) → c ∈ s.stack → avoids s.frozen c ≡ true
 

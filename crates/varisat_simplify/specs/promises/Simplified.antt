@@ -1,19 +1,18 @@
 -- What a simplified formula is.
-use Rattle.std.specs.Prelude.{◌≡◌, ℕ, ◌≤◌, Bool, List, [], ◌++◌, ◌⊎◌, length, take}
+use Rattle.std.specs.Prelude.{◌≡◌, ℕ, ◌≤◌, Bool, false, List, [], ◌++◌, ◌⊎◌, length, take, slice_index_or}
 use Rattle.varisat_theory.specs.promises.Literals.{Clause, Assignment, SatisfiesAll}
 use Rattle.varisat_theory.specs.promises.Derivations.{Line, IsDerivation, Refutes, SpeakOf}
 use Rattle.varisat_theory.specs.promises.Held.{SameClauses}
-use Rattle.varisat_formula.specs.promises.Formulas.{Formula, AreBelow}
-use Rattle.varisat_rules.specs.promises.Leading.{LeadsTo, IsNamedBy, AreNamedBy}
+use Rattle.varisat_formula.specs.promises.Formulas.{Formula, no_clauses, with_more, AreBelow}
+use Rattle.varisat_rules.specs.promises.Leading.{LeadsTo, IsNamedBy, AreNamedBy, HasVariable, HasVariablesOf}
 use Rattle.varisat_formula.specs.promises.Values.{assignment_of}
 use Rattle.varisat_rules.specs.promises.Stacks.{extended}
 use Rattle.varisat_database.specs.Databases.{DatabaseState}
 use Rattle.varisat_rules.specs.inside.States.{live_clauses, DerivesFrom, IsLaterState}
 
--- the formula has just the live clauses
-pub record Lists (s : DatabaseState) (f : Formula) : Type 0 where
-  pub count : s.var_count ≤ f.var_count
-  pub same : f.clauses ≡ live_clauses s
+-- the formula of the clauses over this count of variables, or a greater one where they have more
+abbrev pub formula_over : ℕ → List Clause → Formula
+formula_over n cs = with_more (record no_clauses { var_count = n }) cs
 
 -- The clauses P were loaded, so many of them, and the state was made of that.
 pub record IsReduced (P : List Clause) (n : ℕ) (frozen : List Bool) (count : ℕ) (t : DatabaseState) : Type 0 where
@@ -28,11 +27,14 @@ pub record IsReduced (P : List Clause) (n : ℕ) (frozen : List Bool) (count : �
 -- What is handed out is what is live, or the first clauses as they are.
 abbrev pub Finishes : DatabaseState → ℕ → Formula → List Clause → List Line → Type 0
 Finishes s count g stack lines =
-    (Lists s g × (stack ≡ s.stack) × (lines ≡ s.lines)) ⊎
-    ((g.clauses ≡ take count s.clauses) × (stack ≡ []) × (lines ≡ []))
+    ((g ≡ formula_over s.var_count (live_clauses s)) × (stack ≡ s.stack) × (lines ≡ s.lines)) ⊎
+    ((g ≡ formula_over s.var_count (take count s.clauses)) × (stack ≡ []) × (lines ≡ []))
 
 -- The formula g was made of f. The stack extends its models, and the lines are a proof that leads to it.
 pub record IsMadeOf (f g : Formula) (stack : List Clause) (lines : List Line) : Type 0 where
+  -- g counts the variables up to the highest that f names
+  pub below : AreBelow g.var_count f.clauses
+  pub least : (n : ℕ) → AreBelow n f.clauses → g.var_count ≤ n
   -- what satisfies f satisfies g
   pub keeps : (a : Assignment) → SatisfiesAll a f.clauses → SatisfiesAll a g.clauses
   -- values for all variables that f names that satisfy g are extended to ones that satisfy f
@@ -44,6 +46,8 @@ pub record IsMadeOf (f g : Formula) (stack : List Clause) (lines : List Line) : 
   -- the literals of g and of the lines are some of f
   pub named : AreNamedBy f.clauses g.clauses
   pub spoken : SpeakOf (IsNamedBy f.clauses) lines
+  -- the variables of the stack are some of f
+  pub saved : HasVariablesOf f.clauses stack
 
 -- Behind the lines each derivation from the clauses of g is one from those of f.
 abbrev pub DerivesBehind : Type 0
@@ -57,3 +61,10 @@ abbrev pub RefutesBehind : Type 0
 RefutesBehind =
     (f g : Formula) (stack : List Clause) (lines more : List Line) → IsMadeOf f g stack lines → Refutes g.clauses more →
     Refutes f.clauses (lines ++ more)
+
+-- No extension changes the value of a variable that f does not name.
+abbrev pub KeepsOthers : Type 0
+KeepsOthers =
+    (f g : Formula) (stack : List Clause) (lines : List Line) → IsMadeOf f g stack lines → (vs : List Bool) (v : ℕ) →
+    (HasVariable f.clauses v → ⊥) →
+    slice_index_or (extended stack vs) v false ≡ slice_index_or vs v false

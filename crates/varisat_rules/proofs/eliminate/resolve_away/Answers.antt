@@ -1,7 +1,9 @@
-use Rattle.std.proofs.Common.{◌/◌, false, get_or, refl, sym, ◌∙◌}
+use Rattle.std.proofs.Common.{◌/◌, false, inl, inr, get_or, refl, sym, ◌∙◌}
 use Rattle.varisat_rules.proofs.StateLemmas.{becomes_then}
 use Rattle.varisat_rules.proofs.EliminateSteps.{saves_from, small_opposite, pure_opposite, thawed_opposite}
+use Rattle.varisat_rules.proofs.EliminateLemmas.{occurs_resolved}
 use Rattle.varisat_rules.proofs.eliminate.resolve_away.Goals as goal
+use Rattle.varisat_rules.proofs.eliminate.resolve_away.Goals.{else-is_empty-via-then-is_empty+else-is_empty-2, else-is_empty-via-else-is_empty}
 
 pub save_all-requires-clause-saves : goal.save_all-requires-clause-saves
 save_all-requires-clause-saves g c =
@@ -21,6 +23,16 @@ save_literal-requires-clause-thawed g c =
 pub save_literal-requires-clause-pure : goal.save_literal-requires-clause-pure
 save_literal-requires-clause-pure g c =
     pure_opposite c.save_all.new.db c.args.lit c.not.result c.not.ensures (c.in_ok-save_all.ensures {u = tt}).pure
+
+pub save_literal-requires-clause-occurs : goal.save_literal-requires-clause-occurs
+save_literal-requires-clause-occurs g c =
+    occurs_resolved c.args.db.now c.save_all.new.db c.args.lit c.not.result c.args.with.now c.args.against.now c.not.ensures c.requires.with
+    (c.in_ok-save_all.ensures {u = tt}).rest (becomes_then c.args.db.now c.add_resolvents.new.db c.save_all.new.db
+    c.add_resolvents.ensures.becomes (c.in_ok-save_all.ensures {u = tt}).becomes)
+    (elim c.else-is_empty.branch [
+      | else-is_empty-via-then-is_empty+else-is_empty-2 w ↦ inr (w.if-is_empty-2.ensures {u = tt})
+      | else-is_empty-via-else-is_empty w ↦ inl (w.if-is_empty.ensures {u = tt})
+    ])
 
 pub returns : goal.returns
 returns g c =

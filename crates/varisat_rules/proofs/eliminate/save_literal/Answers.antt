@@ -13,4 +13,4 @@ loop-place-preserved g c =
     c.loop-place-test.true c.requires.with c.loop-place.invariant
 
 pub returns : goal.returns
-returns g c = drops_end c.args.db.now c.loop-place.db c.args.lit c.requires.small c.requires.thawed c.requires.pure c.loop-place.invariant
+returns g c = drops_end c.args.db.now c.loop-place.db c.args.lit c.requires.small c.requires.thawed c.requires.occurs c.requires.pure c.loop-place.invariant

@@ -1,4 +1,5 @@
 use Rattle.std.proofs.Common.{List, Bool, ◌≤◌, sym, ap, subst}
+use Rattle.varisat_formula.specs.promises.Formulas.{AreBelow}
 use Rattle.varisat_rules.specs.promises.Stacks.{KeepsFrozen}
 use Rattle.varisat_database.specs.Databases.{DatabaseState}
 use Rattle.varisat_simplify.proofs.UnloadLemmas.{finished, finished_frozen}
@@ -8,6 +9,7 @@ pub returns-clause-made : goal.returns-clause-made
 returns-clause-made g c =
     finished c.args.formula c.in_ok-made.made.formula c.in_ok-db.db.var_count c.in_ok-given.given c.in_ok-db.db.frozen c.reduce.new.db
     c.in_ok-made.made.stack c.in_ok-made.made.history.lines
+    (subst (λ m. AreBelow m c.args.formula.clauses) (sym (ap (λ (s : DatabaseState). s.var_count) (c.in_ok-db.ensures {u = tt}))) c.named_count-count.ensures.below)
     (λ n b. subst (λ m. m ≤ n) (sym (ap (λ (s : DatabaseState). s.var_count) (c.in_ok-db.ensures {u = tt}))) (c.named_count-count.ensures.least n b))
     (c.in_ok-given.ensures {u = tt}).reduced (c.in_ok-made.ensures {u = tt}).made
 

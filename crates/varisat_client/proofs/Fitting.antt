@@ -1,5 +1,5 @@
 -- A state of the solver goes on fitting what was given, call by call.
-use Rattle.std.proofs.Common.{◌≡◌, ◌⊎◌, ℕ, ◌+◌, ◌-◌, ◌*◌, ◌^◌, ◌<◌, ◌≤◌, Bool, true, length, Result, List, [], ◌∷◌, ◌++◌, inl, inr, ⊎_elim, sym, ap, ◌∙◌, subst, refl, Ok, Err, Option, Some, None, unwrap_or, map, arith}
+use Rattle.std.proofs.Common.{◌≡◌, ◌⊎◌, ℕ, ◌+◌, ◌-◌, ◌*◌, ◌^◌, ◌<◌, ◌≤◌, max, Bool, true, length, Result, List, [], ◌∷◌, ◌++◌, inl, inr, ⊎_elim, sym, ap, ◌∙◌, subst, refl, Ok, Err, Option, Some, None, unwrap_or, map, arith}
 use Rattle.std.proofs.lemmas.Bool.{cases_lt}
 use Rattle.std.proofs.lemmas.Nat.{mul-le}
 use Rattle.std.proofs.Math.Pow.{pow_mono}
@@ -9,6 +9,7 @@ use Rattle.varisat_theory.specs.promises.CallBounds.{AreFew}
 use Rattle.varisat_theory.proofs.bounds.CallBounds.{few_none}
 use Rattle.varisat_theory.proofs.bounds.Count.{length-distinct}
 use Rattle.varisat_theory.proofs.clauses.Members.{∈-append_left, ∈-append_right, ∈-append_cases}
+use Rattle.varisat_theory.proofs.journals.Renaming.{∈-map, map-∈}
 use Rattle.varisat_theory.proofs.clauses.Values.{same_true, true_or_opposite, variable-opposite}
 use Rattle.varisat_literals.specs.promises.Numbers.{variable_limit}
 use Rattle.varisat_solver.specs.promises.States.{State, join_counted, Verdict, Unsat, IsRight}
@@ -21,10 +22,10 @@ use Rattle.varisat_names.specs.declared.config.SolverConfigUpdate.{SolverConfigU
 use Rattle.varisat_solver.specs.declared.solver.SolverError.TheVariants.{Interrupted}
 use Rattle.varisat_solver.specs.declared.solver.SolverError.{SolverError}
 use Rattle.varisat_solver.proofs.calls.CallStates.{same-assumptions, same-clauses, same-counted, same-ledger, same-naming, same-verdict}
-use Rattle.varisat.proofs.NameLaws.{stay-in-order, count-above, count-within, names-are-identities, crowded-is-past-limit}
+use Rattle.varisat.proofs.NameLaws.{stay-in-order, count-above, count-within, in-use-below, names-are-identities, crowded-is-past-limit}
 use Rattle.varisat_solver.proofs.calls.Counted.{join-more, join-has, join-only, join-once}
 use Rattle.varisat_solver.proofs.steps.SearchVerdicts.{reopened-not-unsat, assumed-unsat}
-use Rattle.varisat_client.specs.promises.Pasts.{Past, IsFoundModel, MakesFew}
+use Rattle.varisat_client.specs.promises.Pasts.{Past, IsUpToCounted, IsFoundModel, MakesFew}
 use Rattle.varisat_client.specs.inside.Clients.{WasGiven, CountsAmong, MadeFewSince}
 
 -- 1. Names are in range.
@@ -201,25 +202,69 @@ all-spent s t P A n most r f =
 -- 5. The variables that are counted, and the steps for so many.
 
 -- the same variables are counted
-pub counts-same : (s t : State) (known : List ℕ) → t.counted ≡ s.counted → CountsAmong s known → CountsAmong t known
-counts-same s t known e k = record { within = subst (λ xs. xs ⊆ known) (sym e) k.within; once = subst IsDistinct (sym e) k.once }
+counts-same : (s t : State) (known : List ℕ) → t.counted ≡ s.counted → t.naming ≡ s.naming → t.clauses ≡ s.clauses → CountsAmong s known → CountsAmong t known
+counts-same s t known e n c k = record {
+  within = subst (λ xs. xs ⊆ known) (sym e) k.within;
+  once = subst IsDistinct (sym e) k.once;
+  up_to_counted = subst (λ (m : Naming). (u : ℕ) → u < m.watermark → IsUpToCounted known u) (sym n) k.up_to_counted;
+  in_use = λ h. subst (λ (m : Naming). (u : ℕ) → u ∈ known → u < m.watermark) (sym n) (k.in_use (subst IsSatisfiable c h));
+}
+
+pub counts-decided : (s t : State) (b : Bool) (known : List ℕ) → Solves by_state s (Ok b) t → CountsAmong s known → CountsAmong t known
+counts-decided s t b known r = counts-same s t known (same-counted r.rest) (same-naming r.rest) (same-clauses r.rest)
+
+pub counts-spent : (s t : State) (known : List ℕ) → Solves by_state s (Err Interrupted) t → CountsAmong s known → CountsAmong t known
+counts-spent s t known r = counts-same s t known (same-counted r.rest) (same-naming r.rest) (same-clauses r.rest)
+
+-- a name below the count is below the one before, or none above a variable of the list
+below-count : (d : List Literal) (n u : ℕ) → u < count_with n d → (u < n) ⊎ ((l : Literal) × (l ∈ d) × (u ≤ variable_of l))
+below-count [] n u h = inl h
+below-count (l ∷ d) n u h =
+    ⊎_elim
+    (λ k. ⊎_elim inl (λ m. inr (l, inl refl, m)) (below-or n u (variable_of l) k))
+    (λ (m, i, k). inr (m, inr i, k))
+    (below-count d (max n (variable_of l + 1)) u h)
+  where
+    below-or : (n u v : ℕ) → u < max n (v + 1) → (u < n) ⊎ (u ≤ v)
+    below-or n u v h = grind arith
 
 -- those of a list are, too
-counts-more : (s t : State) (known is : List ℕ) → t.counted ≡ join_counted s.counted is → CountsAmong s known → CountsAmong t (join_counted known is)
-counts-more s t known is e k = record {
-  within = subst (λ xs. xs ⊆ join_counted known is) (sym e)
-      (λ i m. ⊎_elim (λ h. join-more is known i (k.within i h)) (join-has is known i) (join-only is s.counted i m));
-  once = subst IsDistinct (sym e) (join-once is s.counted k.once);
-}
+counts-more : (s t : State) (n : ℕ) (known : List ℕ) (d : List Literal) → AreInOrder n s.naming → t.naming ≡ name_all d s.naming →
+    t.counted ≡ join_counted s.counted (map variable_of d) → (IsSatisfiable t.clauses → IsSatisfiable s.clauses) → CountsAmong s known →
+    CountsAmong t (join_counted known (map variable_of d))
+counts-more s t n known d o m e satisfiable k =
+    let is : List ℕ = map variable_of d in
+    let (order, own) = stay-in-order n s.naming d o in
+    let before = o.watermark in
+    let after : t.naming.watermark ≡ count_with n d = ap (λ (x : Naming). x.watermark) m ∙ order.watermark in
+    record {
+      within = subst (λ xs. xs ⊆ join_counted known is) (sym e)
+          (λ i j. ⊎_elim (λ h. join-more is known i (k.within i h)) (join-has is known i) (join-only is s.counted i j));
+      once = subst IsDistinct (sym e) (join-once is s.counted k.once);
+      up_to_counted = λ u h. ⊎_elim
+          (λ b. let (v, i, g) = k.up_to_counted u (omega (arith, b, before)) in (v, join-more is known v i, g))
+          (λ (l, i, g). (variable_of l, join-has is known (variable_of l) (∈-map variable_of l d i), g))
+          (below-count d n u (omega (arith, h, after)));
+      in_use = λ h u i. ⊎_elim
+          (λ j. let b = k.in_use (satisfiable h) u j in let more = count-above d n in omega (arith, b, more, before, after))
+          (λ j. let (l, w, q) = map-∈ variable_of u d j in let b = count-within d n l w in omega (arith, b, q, after))
+          (join-only is known u i);
+    }
 
 counts-taken : (s t : State) (P : List Clause) (A : List Literal) (n most : ℕ) (known : List ℕ) (d : Clause) → AddsClause s d (Ok tt) t →
     WasGiven s P A n most → CountsAmong s known → CountsAmong t (join_counted known (map variable_of d))
 counts-taken s t P A n most known d (v, Ignored u e) f k =
-    let same : t.counted ≡ s.counted = ap (λ (x : State). x.counted) e in
-    let r = counts-same s t known same k in record { within = λ i h. join-more (map variable_of d) known i (r.within i h); once = r.once }
+    let more = join-more (map variable_of d) known in
+    subst (λ x. CountsAmong x (join_counted known (map variable_of d))) (sym e) (record {
+      within = λ i h. more i (k.within i h);
+      once = k.once;
+      up_to_counted = λ i h. let (v, j, g) = k.up_to_counted i h in (v, more v j, g);
+      in_use = λ h. absurd (f.refuted u h);
+    })
 counts-taken s t P A n most known d (v, Accepted ext may (w, after, like)) f k =
     let (order, own) = stay-in-order f.count s.naming d f.order in
-    counts-more s t known (map variable_of d) (same-counted like ∙ ap (λ (x : Clause). join_counted s.counted (map variable_of x)) own) k
+    counts-more s t f.count known d f.order (same-naming like) (same-counted like ∙ ap (λ (x : Clause). join_counted s.counted (map variable_of x)) own)
+    (λ (a, h). (a, λ c i. h c (subst (λ (Q : List Clause). c ∈ Q) (sym (same-clauses like)) (∈-append_left c s.clauses _ i)))) k
 
 pub counts-added : (s t : State) (P : List Clause) (A : List Literal) (n most : ℕ) (known : List ℕ) (d c : Clause) → AddsClause s d (Ok tt) t → d ≡ c →
     WasGiven s P A n most → CountsAmong s known → CountsAmong t (join_counted known (map variable_of c))
@@ -231,10 +276,12 @@ pub counts-begun : (s t : State) (P : List Clause) (A : List Literal) (n most : 
 counts-begun s t P A n most known d B (v, none, may, like) e f k =
     let (order, own) = stay-in-order f.count s.naming d f.order in
     subst (λ (x : List Literal). CountsAmong t (join_counted known (map variable_of x))) e
-    (counts-more s t known (map variable_of d) (same-counted like ∙ ap (λ (x : List Literal). join_counted s.counted (map variable_of x)) own) k)
+    (counts-more s t f.count known d f.order (same-naming like) (same-counted like ∙ ap (λ (x : List Literal). join_counted s.counted (map variable_of x)) own)
+    (subst IsSatisfiable (same-clauses like)) k)
 
 pub counts-limited : (s t : State) (known : List ℕ) (u : SolverConfigUpdate) → Configures s u (Ok tt) t → CountsAmong s known → CountsAmong t known
-counts-limited s t known u (v, good, e) k = counts-same s t known (ap (λ (x : State). x.counted) e) k
+counts-limited s t known u (v, good, e) =
+    counts-same s t known (ap (λ (x : State). x.counted) e) (ap (λ (x : State). x.naming) e) (ap (λ (x : State). x.clauses) e)
 
 -- few for some variables are few for more
 few-more : (m n k : ℕ) → m ≤ n → AreFew m k → AreFew n k
@@ -334,16 +381,18 @@ spent-few p q s t r k m = makes-few p q s t (join-spent s t r) k m
 
 -- 6. Models and cores.
 
-pub is-model : (s : State) (P : List Clause) (A : List Literal) (n most : ℕ) (m : List Literal) → WasGiven s P A n most →
-    IsCompletable s.naming s.clauses s.assumptions s.counted m → IsFoundModel P A m
-is-model s P A n most m f c =
+pub is-model : (s : State) (P : List Clause) (A : List Literal) (n most : ℕ) (known : List ℕ) (m : List Literal) → WasGiven s P A n most →
+    CountsAmong s known → IsCompletable s.naming s.clauses s.assumptions s.counted m → IsFoundModel P A known m
+is-model s P A n most known m f k c =
     let (a, makes, all, true-assumed) = c.satisfied in
     let own = names-are-identities f.count s.naming m f.order c.in_use in
     let here : MakesTrue a m = subst (λ (ls : List Literal). MakesTrue a ls) own makes in
     let listed : (l : Literal) → variable_of l < f.count → value a l ≡ true → l ∈ m =
-    λ l b v. let (k, i, e) = c.all_listed (variable_of l) (variable_of l) (f.order.in_use (variable_of l) b) in
-    subst (λ x. x ∈ m) (same_true a k l e (here k i) v) i in
+    λ l b v. let (x, i, e) = c.all_listed (variable_of l) (variable_of l) (f.order.in_use (variable_of l) b) in
+    subst (λ x. x ∈ m) (same_true a x l e (here x i) v) i in
     let same = f.same (a, all) in
+    let below = in-use-below f.count s.naming m f.order c.in_use in
+    let high = f.order.watermark in
     record {
       satisfied = (a, here, subst (λ (Q : List Clause). SatisfiesAll a Q) same all, subst (λ (ls : List Literal). MakesTrue a ls) f.assumed true-assumed);
       each = λ d i. let j = subst (λ (Q : List Clause). d ∈ Q) (sym same) i in
@@ -354,6 +403,9 @@ is-model s P A n most m f c =
           (λ v. inr (listed (opposite l) (subst (λ v. v < f.count) (sym (variable-opposite l)) b) v))
           (true_or_opposite a l);
       assumed_too = λ l i. let j = subst (λ (ls : List Literal). l ∈ ls) (sym f.assumed) i in listed l (f.assumed_named l j) (true-assumed l j);
+      all_listed = λ u (v, i, g). let b = k.in_use (a, all) v i in c.all_listed u u (f.order.in_use u (omega (arith, b, g, high)));
+      up_to_counted = λ l i. let b = below l i in k.up_to_counted (variable_of l) (omega (arith, b, high));
+      uncounted = λ l i out. c.uncounted l (variable_of l) i (f.order.in_use (variable_of l) (below l i)) (λ h. out (k.within (variable_of l) h));
     }
 
 pub is-core : (s : State) (P : List Clause) (A : List Literal) (n most : ℕ) (core : List Literal) → WasGiven s P A n most → AreNamesInUse s.naming core →

@@ -1,5 +1,5 @@
 -- How the calls of a client move what it stands for.
-use Rattle.std.proofs.Common.{◌≡◌, ◌≢◌, ◌↔◌, ℕ, zero, suc, ℤ, pos, negsuc, Bool, true, false, IsTrue, Option, Some, None, List, [], ◌∷◌, ◌++◌, sym, ap, ◌∙◌, subst, refl, Ok, Err, arith}
+use Rattle.std.proofs.Common.{◌≡◌, ◌≢◌, ◌↔◌, ◌<◌, ℕ, zero, suc, ℤ, pos, negsuc, Bool, true, false, IsTrue, Option, Some, None, List, [], ◌∷◌, ◌++◌, sym, ap, ◌∙◌, subst, refl, Ok, Err, arith}
 use Rattle.std.specs.Prelude.{is_some}
 use Rattle.std.specs.Option.{unwrap_or}
 use Rattle.varisat_theory.specs.promises.Membership.{◌∈◌}
@@ -11,7 +11,6 @@ use Rattle.varisat_names.proofs.Maps.{is_none-none}
 use Rattle.varisat_names.specs.declared.config.SolverConfigUpdate.{SolverConfigUpdate}
 use Rattle.varisat_names.specs.declared.config.ConfigField.TheVariants.{MaxSteps}
 use Rattle.varisat_solver.specs.promises.States.{State}
-use Rattle.varisat_solver.proofs.calls.CallStates.{same-counted}
 use Rattle.varisat.proofs.NameLaws.{none-in-order}
 use Rattle.varisat_solver.specs.promises.Calls.{AddsClause, Assumes, Solves, Configures, by_state}
 use Rattle.varisat_solver.specs.declared.solver.SolverError.{SolverError}
@@ -58,7 +57,12 @@ is-new g r s c a m k = stands-free g empty_past r refl (record {
     steps = refl;
     limit = refl;
   };
-  counted = record { within = λ i m. m; once = tt };
+  counted = record {
+    within = λ i m. m;
+    once = tt;
+    up_to_counted = λ u h. let z : u < 0 = h in absurd (omega (arith, z));
+    in_use = λ _ _ i. absurd i;
+  };
   since = record { same = refl; few = few_none 0 };
   clause = c;
   assumptions = a;
@@ -290,15 +294,16 @@ finds-model r g m h e q call (client.Kept list found tells set o) = λ p st.
     let k = st.holds free in
     let (t, solves, stands) = call k.state k.stands in
     let fits = fitting.decided k.state t true p.clauses p.assumed p.steps p.limit solves k.fits in
+    let counts = fitting.counts-decided k.state t true p.counted solves k.counted in
     let to : Past = record p { model = list; steps = t.ledger.steps; since = t.ledger.since } in (
       to,
-      past.Satisfiable found free (fitting.is-model t p.clauses p.assumed t.ledger.steps p.limit list fits (tells t stands))
+      past.Satisfiable found free (fitting.is-model t p.clauses p.assumed t.ledger.steps p.limit p.counted list fits counts (tells t stands))
           (fitting.decided-few p to k.state t true solves k.counted k.since k.fits.steps k.fits.limit refl refl) refl,
       stands-free h to (ap (λ (x : Client). x.refusal) o ∙ ap (λ (x : Client). x.refusal) q ∙ st.refusal) free (record {
         state = t;
         stands = subst (λ (x : Client). Represents x.solver t) (sym o) stands;
         fits = fits;
-        counted = fitting.counts-same k.state t p.counted (same-counted solves.rest) k.counted;
+        counted = counts;
         since = fitting.since-decided k.state t true p.since solves k.since;
         clause = ap (λ (x : Client). x.clause) o ∙ ap (λ (x : Client). x.clause) q ∙ k.clause;
         assumptions = ap (λ (x : Client). x.assumptions) o ∙ ap (λ (x : Client). x.assumptions) q ∙ k.assumptions;
@@ -325,7 +330,7 @@ finds-core r g m h e q call (client.Kept core found tells set o) = λ p st.
         state = t;
         stands = subst (λ (x : Client). Represents x.solver t) (sym o) stands;
         fits = fits;
-        counted = fitting.counts-same k.state t p.counted (same-counted solves.rest) k.counted;
+        counted = fitting.counts-decided k.state t false p.counted solves k.counted;
         since = fitting.since-decided k.state t false p.since solves k.since;
         clause = ap (λ (x : Client). x.clause) o ∙ ap (λ (x : Client). x.clause) q ∙ k.clause;
         assumptions = ap (λ (x : Client). x.assumptions) o ∙ ap (λ (x : Client). x.assumptions) q ∙ k.assumptions;
@@ -350,7 +355,7 @@ spends-steps g h e q call p st =
         state = t;
         stands = stands;
         fits = fitting.interrupted k.state t p.clauses p.assumed p.steps p.limit solves k.fits;
-        counted = fitting.counts-same k.state t p.counted (same-counted solves.rest) k.counted;
+        counted = fitting.counts-spent k.state t p.counted solves k.counted;
         since = fitting.since-spent k.state t solves;
         clause = ap (λ (x : Client). x.clause) q ∙ k.clause;
         assumptions = ap (λ (x : Client). x.assumptions) q ∙ k.assumptions;

@@ -143,7 +143,8 @@ search-finds r p q t cs h ls e (past.Satisfiable o n m few f) st from eq cl su =
   clauses = ap (λ (x : Past). x.clauses) f;
   assumed = ls;
   from = from;
-  found = subst (λ x. IsFoundModel p.clauses x q.model) eq m;
+  found = subst (λ is. IsFoundModel p.clauses ls is q.model) (sym (ap (λ (x : Past). x.counted) f))
+      (subst (λ x. IsFoundModel p.clauses x p.counted q.model) eq m);
 }
 
 pub search-fails : (r : SearchEnd) (p q : Past) (t : ℕ) (cs : List Charge) (h : Client) (ls : List Literal) → r ≡ end.Unsatisfiable → IsSearchEnd r p q →

@@ -13,7 +13,7 @@ use Rattle.varisat_names.specs.promises.Settings.{no_update}
 use Rattle.varisat_names.specs.declared.config.SolverConfigUpdate.{SolverConfigUpdate}
 use Rattle.varisat_solver.specs.inside.Representations.{Represents}
 use Rattle.varisat_client.specs.inside.LiteralSets.{IsSetOf}
-use Rattle.varisat_client.specs.promises.Pasts.{Past}
+use Rattle.varisat_client.specs.promises.Pasts.{Past, IsUpToCounted}
 use Rattle.varisat_client.specs.declared.client.SearchEnd.{SearchEnd}
 use Rattle.varisat_client.specs.declared.client.SearchEnd.TheVariants as end
 use Rattle.varisat_client.specs.declared.refusal.Refusal.{Refusal}
@@ -55,10 +55,13 @@ pub record WasGiven (s : State) (P : List Clause) (A : List Literal) (made most 
   pub steps : s.ledger.steps ≡ made
   pub limit : s.ledger.settings.max_steps ≡ most
 
--- The state counts these variables alone, or some of them, each once.
+-- The state counts these variables alone, or some of them, each once. No name is in use above the highest of them, and names are in
+-- use up to it, unless a clause was not accepted.
 pub record CountsAmong (s : State) (known : List ℕ) : Type 0 where
   pub within : s.counted ⊆ known
   pub once : IsDistinct s.counted
+  pub up_to_counted : (u : ℕ) → u < s.naming.watermark → IsUpToCounted known u
+  pub in_use : IsSatisfiable s.clauses → (u : ℕ) → u ∈ known → u < s.naming.watermark
 
 -- So many steps were made since the last change, which are few for the variables that are counted.
 pub record MadeFewSince (s : State) (since : ℕ) : Type 0 where

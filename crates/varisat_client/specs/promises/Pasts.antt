@@ -1,7 +1,7 @@
 -- What the calls of a client and their answers say so far, and how a call moves it: no state of the solver is spoken of.
 use Rattle.std.specs.Prelude.{◌≡◌, ◌≢◌, ◌⊎◌, ℕ, ◌+◌, ◌-◌, ◌^◌, ◌≤◌, ℤ, pos, negsuc, ◌-ℤ◌, Bool, true, false, Option, Some, None, List, [], ◌∷◌, ◌++◌, length, map}
 use Rattle.varisat_theory.specs.promises.Membership.{◌∈◌, ◌⊆◌}
-use Rattle.varisat_theory.specs.promises.Literals.{Literal, Clause, Assignment, variable_of, opposite, SatisfiesAll, MakesTrue, IsFailedCore}
+use Rattle.varisat_theory.specs.promises.Literals.{Literal, Clause, Assignment, variable_of, literal_of, opposite, SatisfiesAll, MakesTrue, IsFailedCore}
 use Rattle.varisat_theory.specs.promises.CallBounds.{AreFew}
 use Rattle.varisat_literals.specs.promises.Numbers.{literal_numbered}
 use Rattle.varisat_solver.specs.promises.Calls.{IsPastLimit}
@@ -93,13 +93,22 @@ pub data LimitsSteps (steps : ℕ) (p q : Past) : Type 0 where
   Refused : p.refusal ≢ None → q ≡ p → LimitsSteps steps p q
   Limited : p.refusal ≡ None → q ≡ record p { limit = steps; since = 0 } → LimitsSteps steps p q
 
+-- the variable is one of those up to the highest that is counted
+abbrev pub IsUpToCounted : List ℕ → ℕ → Type 0
+IsUpToCounted counted u = (v : ℕ) × (v ∈ counted) × (u ≤ v)
+
 -- The literals that are true in a model: one of each clause and all assumptions are among them, of each literal of a clause it or its
--- opposite, and some assignment makes them true that satisfies the clauses. So none is among them together with its opposite.
-pub record IsFoundModel (clauses : List Clause) (assumed model : List Literal) : Type 0 where
+-- opposite, and some assignment makes them true that satisfies the clauses. So none is among them together with its opposite. Exactly the
+-- variables up to the highest that is counted have a literal among them, and those that are not counted are false.
+pub record IsFoundModel (clauses : List Clause) (assumed : List Literal) (counted : List ℕ) (model : List Literal) :
+    Type 0 where
   pub satisfied : (a : Assignment) × MakesTrue a model × SatisfiesAll a clauses × MakesTrue a assumed
   pub each : (c : Clause) → c ∈ clauses → (l : Literal) × (l ∈ c) × (l ∈ model)
   pub whole : (c : Clause) (l : Literal) → c ∈ clauses → l ∈ c → (l ∈ model) ⊎ (opposite l ∈ model)
   pub assumed_too : assumed ⊆ model
+  pub all_listed : (u : ℕ) → IsUpToCounted counted u → (l : Literal) × (l ∈ model) × (variable_of l ≡ u)
+  pub up_to_counted : (l : Literal) → l ∈ model → IsUpToCounted counted (variable_of l)
+  pub uncounted : (l : Literal) → l ∈ model → (variable_of l ∈ counted → ⊥) → l ≡ literal_of (variable_of l) false
 
 -- A search makes no more steps than it may, and few for so many variables, over however many searches since the last change.
 pub record MakesFew (p q : Past) : Type 0 where
@@ -114,7 +123,7 @@ pub record MakesFew (p q : Past) : Type 0 where
 -- that it may, or no more can be counted; or it is refused. It makes few steps.
 pub data IsSearchEnd (r : SearchEnd) (p q : Past) : Type 0 where
   Refused : r ≡ end.Refused → Refuses [] true p q → IsSearchEnd r p q
-  Satisfiable : r ≡ end.Satisfiable → p.refusal ≡ None → IsFoundModel p.clauses p.assumed q.model → MakesFew p q →
+  Satisfiable : r ≡ end.Satisfiable → p.refusal ≡ None → IsFoundModel p.clauses p.assumed p.counted q.model → MakesFew p q →
       q ≡ record p { model = q.model; steps = q.steps; since = q.since } → IsSearchEnd r p q
   Unsatisfiable : r ≡ end.Unsatisfiable → p.refusal ≡ None → IsFailedCore p.clauses p.assumed q.core → MakesFew p q →
       q ≡ record p { core = q.core; steps = q.steps; since = q.since } → IsSearchEnd r p q

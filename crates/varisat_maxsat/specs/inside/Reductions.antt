@@ -30,7 +30,7 @@ pub record FindsModel (threshold : ℕ) (charges : List Charge) (P : List Clause
   pub clauses : past.clauses ≡ P
   pub assumed : List Literal
   pub from : AreAssumed threshold charges assumed
-  pub found : IsFoundModel P assumed past.model
+  pub found : IsFoundModel P assumed past.counted past.model
 
 pub record FindsCore (threshold : ℕ) (charges : List Charge) (P : List Clause) (h : Client) : Type 0 where
   pub past : Past
@@ -129,7 +129,7 @@ pub record FindsSolution (p : Problem) (r : Reduction) : Type 0 where
   pub past : Past
   pub ready : IsReady r.client past
   pub assumed : List Literal
-  pub found : IsFoundModel past.clauses assumed past.model
+  pub found : IsFoundModel past.clauses assumed past.counted past.model
   pub variables : r.variables ≡ p.variables
   pub named : p.variables ≤ r.named
   pub hard_below : ClausesAreBelow p.variables p.hard

@@ -4,8 +4,9 @@
  * each of which takes memory: number variables from 1 on.
  *
  * What a program may get wrong:
- * - A number beyond those is refused as its clause ends or its search begins. Memory that runs out and a full store of clauses
- *   are refused too. From then on ipasir_solve answers 0, ipasir_val and ipasir_failed tell 0, and all else does nothing.
+ * - A number beyond those is refused as its search begins or its clause ends, where some assignment satisfies the clauses
+ *   before; else it may be taken in a clause. Memory that runs out and a full store of clauses are refused too. From then on
+ *   ipasir_solve answers 0, ipasir_val and ipasir_failed tell 0, and all else does nothing.
  * - A clause counts once its 0 was given. What was assumed counts for the next ipasir_solve alone.
  * - ipasir_val tells of the last ipasir_solve that answered 10, and ipasir_failed of the last that answered 20, whatever was
  *   called since; before one did they tell 0.
@@ -42,7 +43,7 @@ void ipasir_assume(void *solver, int32_t number);
 int ipasir_solve(void *solver);
 
 /* The number where its literal is true in the last model, the opposite number where it is false, and 0 where its variable is above
- * all that were given. */
+ * all that were given. A variable below that was not given is false. */
 int32_t ipasir_val(void *solver, int32_t number);
 
 /* 1 where the literal is one of the assumptions for which the last search answered 20, and else 0. */

@@ -4,7 +4,7 @@ use Rattle.std.proofs.lemmas.Bool.{cases_lt}
 use Rattle.std.proofs.lemmas.Nat.{mul-le}
 use Rattle.std.proofs.Math.Pow.{pow_mono}
 use Rattle.varisat_theory.specs.promises.Membership.{◌∈◌, ◌⊆◌, IsDistinct}
-use Rattle.varisat_theory.specs.promises.Literals.{Literal, Clause, Assignment, variable_of, opposite, value, SatisfiesAll, MakesTrue, IsSatisfiable, IsFailedCore}
+use Rattle.varisat_theory.specs.promises.Literals.{Literal, Clause, variable_of, opposite, value, SatisfiesAll, MakesTrue, IsSatisfiable, IsFailedCore}
 use Rattle.varisat_theory.specs.promises.CallBounds.{AreFew}
 use Rattle.varisat_theory.proofs.bounds.CallBounds.{few_none}
 use Rattle.varisat_theory.proofs.bounds.Count.{length-distinct}
@@ -105,6 +105,16 @@ pub added : (s t : State) (P : List Clause) (A : List Literal) (n most : ℕ) (d
     WasGiven t (P ++ c ∷ []) A n most
 added s t P A n most d c call e f = subst (λ (x : Clause). WasGiven t (P ++ x ∷ []) A n most) e (taken s t P A n most d call f)
 
+-- one with a name past the limit only where no assignment satisfies those before it
+taken-within : (s t : State) (P : List Clause) (A : List Literal) (n most : ℕ) (d : Clause) → AddsClause s d (Ok tt) t → WasGiven s P A n most →
+    IsPastLimit d → IsSatisfiable P → ⊥
+taken-within s t P A n most d (v, Ignored u e) f past (a, h) = f.refuted u (a, λ k i. h k (f.fewer k i))
+taken-within s t P A n most d (v, Accepted ext may into) f past h = may.in_range past
+
+pub added-within : (s t : State) (P : List Clause) (A : List Literal) (n most : ℕ) (d c : Clause) → AddsClause s d (Ok tt) t → d ≡ c → WasGiven s P A n most →
+    IsPastLimit c → IsSatisfiable P → ⊥
+added-within s t P A n most d c call e f past = taken-within s t P A n most d call f (subst IsPastLimit (sym e) past)
+
 -- 3. Other assumptions.
 
 supposed : (s t : State) (P : List Clause) (A : List Literal) (n most : ℕ) (d : List Literal) → Assumes s d (Ok tt) t → WasGiven s P A n most →
@@ -132,6 +142,10 @@ supposed s t P A n most d (v, none, may, like) f =
 pub begun : (s t : State) (P : List Clause) (A : List Literal) (n most : ℕ) (d B : List Literal) → Assumes s d (Ok tt) t → d ≡ B → WasGiven s P A n most →
     WasGiven t P B n most
 begun s t P A n most d B call e f = subst (λ (x : List Literal). WasGiven t P x n most) e (supposed s t P A n most d call f)
+
+-- none of them is past the limit
+pub begun-within : (s t : State) (d B : List Literal) → Assumes s d (Ok tt) t → d ≡ B → IsPastLimit B → ⊥
+begun-within s t d B (v, none, may, like) e past = may.in_range (subst IsPastLimit (sym e) past)
 
 -- another limit
 pub limited : (s t : State) (P : List Clause) (A : List Literal) (n most steps : ℕ) (u : SolverConfigUpdate) → Configures s u (Ok tt) t →

@@ -61,7 +61,7 @@ put_assumption n g = record g { assumptions = g.assumptions ++ literal_numbered 
 add-agrees : (n : ℤ) (p q : Past) (g : Given) → AddsNumber n p q → Agrees p g → Agrees q (give (call.Add n) g)
 add-agrees n p q g (past.PutRefused z r) a = refused-agrees [] false p q (give (call.Add n) g) r
 add-agrees n p q g (past.EndRefused z r) a = refused-agrees p.clause true p q (give (call.Add n) g) r
-add-agrees n p q g (past.Ended z r e) a =
+add-agrees n p q g (past.Ended z r within e) a =
     agree-by q (record (count p.clause p) { clauses = p.clauses ++ p.clause ∷ []; clause = [] }) (give (call.Add n) g) (end_clause g) e (ap end_clause (a r))
     (sym (ap (λ b. if b then end_clause g else put_literal n g) (zero-is n z)))
 add-agrees n p q g (past.Put z r e) a =
@@ -78,7 +78,7 @@ assume-agrees n p q g (past.Put z r e) a =
 
 begin-agrees : (p q : Past) (g : Given) → Begins p q → Agrees p g → Agrees q (give call.Begin g)
 begin-agrees p q g (past.Refused r) a = refused-agrees p.assumptions false p q (give call.Begin g) r
-begin-agrees p q g (past.Begun r e) a =
+begin-agrees p q g (past.Begun r within e) a =
     agree-by q (record (count p.assumptions p) { assumed = p.assumptions; assumptions = [] }) (give call.Begin g) (give call.Begin g) e
     (ap (λ (x : Given). record x { assumed = x.assumptions; assumptions = [] }) (a r)) refl
 

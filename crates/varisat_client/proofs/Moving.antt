@@ -212,7 +212,7 @@ ends-clause n g h d z e own call none q p st =
     let (t, adds, stands) = call k.state k.stands in
     let to : Past = record (count p.clause p) { clauses = p.clauses ++ p.clause ∷ []; clause = [] } in (
       to,
-      past.Ended z r refl,
+      past.Ended z r (fitting.added-within k.state t p.clauses p.assumed p.steps p.limit d p.clause adds (own ∙ k.clause) k.fits) refl,
       stands-free h to (ap (λ (x : Client). x.refusal) q ∙ st.refusal) r (record {
         state = t;
         stands = stands;
@@ -236,7 +236,7 @@ begins-search g h d e own call none q p st =
     let (t, assumes, stands) = call k.state k.stands in
     let to : Past = record (count p.assumptions p) { assumed = p.assumptions; assumptions = [] } in (
       to,
-      past.Begun r refl,
+      past.Begun r (fitting.begun-within k.state t d p.assumptions assumes (own ∙ k.assumptions)) refl,
       stands-free h to (ap (λ (x : Client). x.refusal) q ∙ st.refusal) r (record {
         state = t;
         stands = stands;

@@ -27,14 +27,14 @@ put-accepted : (n : ℤ) (p q : Past) → AddsNumber n p q → n ≢ pos 0 → q
     (p.refusal ≡ None) × (q ≡ record p { clause = p.clause ++ literal_numbered n ∷ [] })
 put-accepted n p q (past.PutRefused z r) h e = absurd (not-refused [] false p q r e)
 put-accepted n p q (past.EndRefused z r) h e = absurd (h z)
-put-accepted n p q (past.Ended z r f) h e = absurd (h z)
+put-accepted n p q (past.Ended z r within f) h e = absurd (h z)
 put-accepted n p q (past.Put z r f) h e = (r, f)
 
 end-accepted : (n : ℤ) (p q : Past) → AddsNumber n p q → n ≡ pos 0 → q.refusal ≡ None →
     (p.refusal ≡ None) × (q ≡ record (count p.clause p) { clauses = p.clauses ++ p.clause ∷ []; clause = [] })
 end-accepted n p q (past.PutRefused z r) h e = absurd (z h)
 end-accepted n p q (past.EndRefused z r) h e = absurd (not-refused p.clause true p q r e)
-end-accepted n p q (past.Ended z r f) h e = (r, f)
+end-accepted n p q (past.Ended z r within f) h e = (r, f)
 end-accepted n p q (past.Put z r f) h e = absurd (z h)
 
 assume-accepted : (n : ℤ) (p q : Past) → AssumesNumber n p q → n ≢ pos 0 → q.refusal ≡ None →
@@ -46,7 +46,7 @@ assume-accepted n p q (past.Put z r f) h e = (r, f)
 begin-accepted : (p q : Past) → Begins p q → q.refusal ≡ None →
     (p.refusal ≡ None) × (q ≡ record (count p.assumptions p) { assumed = p.assumptions; assumptions = [] })
 begin-accepted p q (past.Refused r) e = absurd (not-refused p.assumptions false p q r e)
-begin-accepted p q (past.Begun r f) e = (r, f)
+begin-accepted p q (past.Begun r within f) e = (r, f)
 
 -- a clause is given
 pub gives-none : (g : Client) → GivesSoFar g [] g

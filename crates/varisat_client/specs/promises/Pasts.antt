@@ -1,7 +1,7 @@
 -- What the calls of a client and their answers say so far, and how a call moves it: no state of the solver is spoken of.
 use Rattle.std.specs.Prelude.{◌≡◌, ◌≢◌, ◌⊎◌, ℕ, ◌+◌, ◌-◌, ◌^◌, ◌≤◌, ℤ, pos, negsuc, ◌-ℤ◌, Bool, true, false, Option, Some, None, List, [], ◌∷◌, ◌++◌, length, map}
 use Rattle.varisat_theory.specs.promises.Membership.{◌∈◌, ◌⊆◌}
-use Rattle.varisat_theory.specs.promises.Literals.{Literal, Clause, Assignment, variable_of, literal_of, opposite, SatisfiesAll, MakesTrue, IsFailedCore}
+use Rattle.varisat_theory.specs.promises.Literals.{Literal, Clause, Assignment, variable_of, literal_of, opposite, SatisfiesAll, MakesTrue, IsSatisfiable, IsFailedCore}
 use Rattle.varisat_theory.specs.promises.CallBounds.{AreFew}
 use Rattle.varisat_literals.specs.promises.Numbers.{literal_numbered}
 use Rattle.varisat_solver.specs.promises.Calls.{IsPastLimit}
@@ -67,11 +67,12 @@ pub data Refuses (given : List Literal) (stores : Bool) (p q : Past) : Type 0 wh
 abbrev pub count : List Literal → Past → Past
 count ls p = record p { counted = join_counted p.counted (map variable_of ls); since = 0 }
 
--- A number that is not 0 is put behind the clause, and 0 ends it, as which the clause is given to the solver.
+-- A number that is not 0 is put behind the clause, and 0 ends it, as which the clause is given to the solver. No variable past the
+-- limit is taken, unless no assignment satisfies the clauses before it.
 pub data AddsNumber (n : ℤ) (p q : Past) : Type 0 where
   PutRefused : n ≢ pos 0 → Refuses [] false p q → AddsNumber n p q
   EndRefused : n ≡ pos 0 → Refuses p.clause true p q → AddsNumber n p q
-  Ended : n ≡ pos 0 → p.refusal ≡ None →
+  Ended : n ≡ pos 0 → p.refusal ≡ None → (IsPastLimit p.clause → IsSatisfiable p.clauses → ⊥) →
       q ≡ record (count p.clause p) { clauses = p.clauses ++ p.clause ∷ []; clause = [] } → AddsNumber n p q
   Put : n ≢ pos 0 → p.refusal ≡ None → q ≡ record p { clause = p.clause ++ literal_numbered n ∷ [] } → AddsNumber n p q
 
@@ -82,11 +83,12 @@ pub data AssumesNumber (n : ℤ) (p q : Past) : Type 0 where
   Put : n ≢ pos 0 → p.refusal ≡ None → q ≡ record p { assumptions = p.assumptions ++ literal_numbered n ∷ [] } →
       AssumesNumber n p q
 
--- The assumptions that were given are those of the search that begins, and none is given for the next one yet.
+-- The assumptions that were given are those of the search that begins, and none is given for the next one yet. No variable of them is
+-- past the limit.
 pub data Begins (p q : Past) : Type 0 where
   Refused : Refuses p.assumptions false p q → Begins p q
-  Begun : p.refusal ≡ None → q ≡ record (count p.assumptions p) { assumed = p.assumptions; assumptions = [] } →
-      Begins p q
+  Begun : p.refusal ≡ None → (IsPastLimit p.assumptions → ⊥) →
+      q ≡ record (count p.assumptions p) { assumed = p.assumptions; assumptions = [] } → Begins p q
 
 -- One call of a search may make so many steps from now on. This is refused only once another call was.
 pub data LimitsSteps (steps : ℕ) (p q : Past) : Type 0 where
@@ -123,8 +125,8 @@ pub record MakesFew (p q : Past) : Type 0 where
 -- that it may, or no more can be counted; or it is refused. It makes few steps.
 pub data IsSearchEnd (r : SearchEnd) (p q : Past) : Type 0 where
   Refused : r ≡ end.Refused → Refuses [] true p q → IsSearchEnd r p q
-  Satisfiable : r ≡ end.Satisfiable → p.refusal ≡ None → IsFoundModel p.clauses p.assumed p.counted q.model → MakesFew p q →
-      q ≡ record p { model = q.model; steps = q.steps; since = q.since } → IsSearchEnd r p q
+  Satisfiable : r ≡ end.Satisfiable → p.refusal ≡ None → IsFoundModel p.clauses p.assumed p.counted q.model →
+      MakesFew p q → q ≡ record p { model = q.model; steps = q.steps; since = q.since } → IsSearchEnd r p q
   Unsatisfiable : r ≡ end.Unsatisfiable → p.refusal ≡ None → IsFailedCore p.clauses p.assumed q.core → MakesFew p q →
       q ≡ record p { core = q.core; steps = q.steps; since = q.since } → IsSearchEnd r p q
   Interrupted : r ≡ end.Interrupted → p.refusal ≡ None → (q.steps ≡ p.steps + p.limit) ⊎ (q.steps ≡ 2 ^ 64 - 1) →

@@ -7,9 +7,10 @@ ghost use Rattle.varisat_solver.specs.promises.Represented.{LeadsRepresented};
 ghost use Rattle.varisat_solver.specs.promises.Calls.{AddsClause, Assumes, ReturnsList, ReturnsSteps, ReturnsValid, by_state};
 ghost use Rattle.varisat_solver.specs.promises.ProofCalls.{EnablesChecking};
 ghost use Rattle.varisat_calls.specs.Codes.{field_numbered, format_numbered, mode_numbered};
-ghost use Rattle.varisat_calls.specs.Callers.{IsNewCaller, MakesNumbered, MakesOver, AddsNumber, LimitsSteps, SolvesNumbered, SetsField, SetsMode, ReturnsListOf, ShowsHidden, OpensFormat, Closes};
+ghost use Rattle.varisat_calls.specs.Callers.{IsNewCaller, MakesNumbered, MakesOver, AddsNumber, LimitsSteps, SolvesNumbered, SetsField, SetsMode, ReturnsListOf, ShowsHidden, OpensFormat, Closes, TakesWritten};
 ghost use Rattle.varisat_calls.specs.Lookups.{ReturnsValue, ReturnsFailed};
 ghost use Rattle.varisat_calls.specs.Texts.{Feeds, IsRefutedText};
+ghost use Rattle.varisat_calls.specs.Checks.{ReturnsCheck};
 ghost use Rattle.varisat_c.specs.Codes.{NamesBy, AnswersEnd};
 ghost use Rattle.varisat_c.specs.Handles.{IsSatisfiableNow, IsUnsatisfiableNow};
 ghost use Rattle.varisat_c.specs.Slots.{MovesHeld, IsTrueBehind};
@@ -33,6 +34,7 @@ use varisat_calls::checks::check_texts;
 fn copy_numbers(from: &[i32], to: &mut [i32]) -> usize
     ensures count { result ≡ min (length from.now) (length to.new) }
     ensures copied { take result to.new ≡ take result from.now }
+    ensures kept { drop result to.new ≡ drop result to.old }
 {
     let count = from.len().min(to.len());
     to[..count].copy_from_slice(&from[..count]);
@@ -43,6 +45,7 @@ fn copy_numbers(from: &[i32], to: &mut [i32]) -> usize
 fn copy_bytes(from: &[u8], to: &mut [u8]) -> usize
     ensures count { result ≡ min (length from.now) (length to.new) }
     ensures copied { take result to.new ≡ take result from.now }
+    ensures kept { drop result to.new ≡ drop result to.old }
 {
     let count = from.len().min(to.len());
     to[..count].copy_from_slice(&from[..count]);
@@ -307,7 +310,8 @@ pub extern "C" fn caller_self_check(alloc: Global, handle: &mut Handle) -> u8
 #[unsafe(no_mangle)]
 pub extern "C" fn caller_take_written(alloc: Global, handle: &mut Handle) -> usize
     requires { IsSome handle.old.held }
-    ensures { handle.new.held ≡ handle.old.held }
+    ensures taken { MovesHeld TakesWritten handle.old.held handle.new.held }
+    ensures count { IsTrueBehind (λ g. result ≡ length g.written) handle.new.held }
 {
     let mut caller = handle.take(alloc);
     caller.take_written();
@@ -376,6 +380,7 @@ pub extern "C" fn caller_list_copy(alloc: Global, handle: &mut Handle, out: &mut
     ensures same { handle.new.held ≡ handle.old.held }
     ensures count { IsTrueBehind (λ g. result ≡ min (length g.returned) (length out.new)) handle.old.held }
     ensures copied { IsTrueBehind (λ g. take result out.new ≡ take result g.returned) handle.old.held }
+    ensures kept { drop result out.new ≡ drop result out.old }
 {
     let caller = handle.take(alloc);
     let answer = copy_numbers(caller.returned(), out);
@@ -393,7 +398,10 @@ pub extern "C" fn caller_written_copy(
 ) -> usize
     requires { IsSome handle.old.held }
     ensures same { handle.new.held ≡ handle.old.held }
-    ensures count { result ≤ length out.new }
+    ensures count { IsTrueBehind
+        (λ g. result ≡ min (length (drop from g.written)) (length out.new)) handle.old.held }
+    ensures copied { IsTrueBehind (λ g. take result out.new ≡ take result (drop from g.written)) handle.old.held }
+    ensures kept { drop result out.new ≡ drop result out.old }
 {
     let caller = handle.take(alloc);
     let answer = copy_bytes(behind(caller.written(), from), out);
@@ -407,6 +415,7 @@ pub extern "C" fn caller_refusal_copy(alloc: Global, handle: &mut Handle, out: &
     requires { IsSome handle.old.held }
     ensures same { handle.new.held ≡ handle.old.held }
     ensures count { result ≤ length out.new }
+    ensures kept { drop result out.new ≡ drop result out.old }
 {
     let caller = handle.take(alloc);
     let answer = copy_bytes(caller.refusal_text().as_bytes(), out);
@@ -423,7 +432,8 @@ pub extern "C" fn caller_check(
     proof: &[u8],
     place: &mut u64,
 ) -> u8
-    ensures { result ≡ 20 → IsRefutedText text.now }
+    ensures returns { ReturnsCheck (format_numbered format) text.now proof.now result place.new }
+    ensures sound { result ≡ 20 → IsRefutedText text.now }
 {
     let returned = check_texts(alloc, format, text, proof);
     *place = returned.place;

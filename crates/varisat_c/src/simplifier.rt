@@ -1,5 +1,5 @@
 //! A simplifier of clauses for C programs: each call takes a handle, behind which a simplifier stands.
-ghost use Rattle.std.specs.Prelude.{◌≡◌, ◌↔◌, min, length, take, Some, None, IsSome, IsTrue, IfSome};
+ghost use Rattle.std.specs.Prelude.{◌≡◌, ◌↔◌, min, length, take, drop, Some, None, IsSome, IsTrue, IfSome};
 ghost use Rattle.varisat_calls.specs.Simplifiers.{nothing_given, Adds, Freezes, Simplifies, ListsClauses, Extends};
 ghost use Rattle.varisat_c.specs.Slots.{MovesHeld, IsTrueBehind};
 
@@ -129,6 +129,7 @@ pub extern "C" fn simplifier_list_copy(
     ensures same { handle.new.held ≡ handle.old.held }
     ensures count { IsTrueBehind (λ g. result ≡ min (length g.list) (length out.new)) handle.old.held }
     ensures copied { IsTrueBehind (λ g. take result out.new ≡ take result g.list) handle.old.held }
+    ensures kept { drop result out.new ≡ drop result out.old }
 {
     let simplifier = handle.take(alloc);
     let answer = copy_numbers(simplifier.list(), out);

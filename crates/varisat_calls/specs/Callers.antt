@@ -25,24 +25,27 @@ use Rattle.varisat_calls.specs.Numbers.{returned_numbers, returned_names}
 use Rattle.varisat_calls.specs.Codes.{answer_number, verdict_number, numbered}
 
 -- The solver; what was given of the clause that is given a literal at a time, unless one of its literals found no memory; the numbers
--- of the list that was returned last; and how far the DIMACS text came that is being given, if one is.
+-- of the list that was returned last; how far the DIMACS text came that is being given, if one is; and the bytes that were taken out
+-- of a proof last.
 pub record Caller : Type 0 where
   pub solver : Summary
   pub clause : Option (List Literal)
   pub returned : List ℤ
   pub text : Option Progress
+  pub written : List ℕ
 
 -- the clause, unless a literal of it is lost
 abbrev pub clause_unless_lost : Bool → List Literal → Option (List Literal)
 clause_unless_lost true c = None
 clause_unless_lost false c = Some c
 
--- a caller of a new solver, to which nothing was returned yet
+-- a caller of a new solver, to which nothing was returned yet, and for which nothing was taken out
 pub record IsNewCaller (g : Caller) : Type 0 where
   pub solver : Represents g.solver empty_state
   pub clause : g.clause ≡ Some []
   pub returned : g.returned ≡ []
   pub text : g.text ≡ None
+  pub written : g.written ≡ []
 
 -- what a call answers that has nothing to return but whether it was refused
 abbrev pub Answer : Type 0
@@ -161,3 +164,7 @@ pub data Closes (g : Caller) (n : ℕ) (h : Caller) : Type 0 where
   NoneOpen : n ≡ 15 → Makes closing g (Ok None) h → Closes g n h
   Failed : (e : SolverError) (target : Taken) → n ≡ refusal_number e →
       Makes closing g (Err (e, target)) h → Closes g n h
+
+-- Bytes of a proof are taken out, in place of those before. Which ones these are is not said.
+abbrev pub TakesWritten : Caller → Caller → Type 0
+TakesWritten g h = h ≡ record g { written = h.written }

@@ -5,3 +5,4 @@ pub mod Texts
 pub mod Lookups
 pub mod Lists
 pub mod Simplifiers
+pub mod Checks

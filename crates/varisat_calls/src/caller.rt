@@ -59,6 +59,7 @@ impl<A: Allocator + Copy> Model for Caller<A> {
       clause = callers.clause_unless_lost c.is_lost c.clause.items;
       returned = c.returned.items;
       text = c.text;
+      written = c.written.items;
     } };
 
     ghost invariant = { λ c. IsCurrent c.lookups c.solver };
@@ -74,7 +75,7 @@ impl<A: Allocator + Copy> Caller<A> {
     ghost use Rattle.varisat_solver.specs.promises.Usage.{ChangesMode};
     ghost use Rattle.varisat_theory.specs.promises.Literals.{IsSatisfiableWith};
     ghost use Rattle.varisat_calls.specs.Codes.{field_numbered, format_numbered, mode_numbered};
-    ghost use Rattle.varisat_calls.specs.Callers.{IsNewCaller, Makes, MakesNumbered, MakesOver, AddsNumber, LimitsSteps, SolvesNumbered, NamesNew, SetsField, SetsMode, ReturnsListOf, ShowsHidden, OpensFormat, Closes};
+    ghost use Rattle.varisat_calls.specs.Callers.{IsNewCaller, Makes, MakesNumbered, MakesOver, AddsNumber, LimitsSteps, SolvesNumbered, NamesNew, SetsField, SetsMode, ReturnsListOf, ShowsHidden, OpensFormat, Closes, TakesWritten};
     ghost use Rattle.varisat_calls.specs.Lookups.{ReturnsValue, ReturnsFailed};
     ghost use Rattle.varisat_calls.specs.Texts.{text_of, without_clauses, AddsClauses, Feeds, EndsText};
 
@@ -461,7 +462,7 @@ impl<A: Allocator + Copy> Caller<A> {
     /// Takes out what a proof wrote since the last call: from now on that is `written`. No contract says what bytes these are, since they
     /// pass through a cell; what the target took is returned by `close_proof`.
     pub fn take_written(&mut self)
-        ensures { self.new ≡ self.old }
+        ensures { TakesWritten self.old self.new }
     {
         self.written = match &self.lines {
             Some(lines) => lines.take(self.alloc),
@@ -470,7 +471,9 @@ impl<A: Allocator + Copy> Caller<A> {
     }
 
     /// What was taken out last.
-    pub fn written(&self) -> &[u8] {
+    pub fn written(&self) -> &[u8]
+        ensures { result.now ≡ self.now.written }
+    {
         &self.written
     }
 

@@ -1,9 +1,11 @@
 //! The check of a proof in memory against a DIMACS text in memory.
-ghost use Rattle.std.specs.Prelude.{◌≡◌, ◌≢◌, [], false, None, OnOk};
+ghost use Rattle.std.specs.Prelude.{◌≡◌, ◌≢◌, [], false, Some, None, Ok, Err, OnOk, IfErr};
 ghost use Rattle.varisat_theory.specs.promises.Literals.{IsSatisfiable};
 ghost use Rattle.varisat_formula.specs.promises.Dimacs.{dimacs};
 ghost use Rattle.varisat_proof.specs.declared.checker.error.CheckVerdict.TheVariants.{Refutation};
+ghost use Rattle.varisat_calls.specs.Codes.{format_numbered};
 ghost use Rattle.varisat_calls.specs.Texts.{IsRefutedText};
+ghost use Rattle.varisat_calls.specs.Checks.{ReturnsResult, ReturnsDrat, ReturnsMarked, ReturnsCheck, FailsText};
 
 use crate::codes::{WRONG, format_of};
 use std::alloc::Allocator;
@@ -34,7 +36,8 @@ pub struct Returned {
 
 /// What a refusal has.
 fn returned_error(error: &CheckerError) -> Returned
-    ensures { result.number ≢ 20 }
+    ensures returns { ReturnsResult (Err error.now) result.number result.place }
+    ensures other { result.number ≢ 20 }
 {
     let (number, place) = match error {
         CheckerError::CheckFailed { step }
@@ -49,7 +52,8 @@ fn returned_error(error: &CheckerError) -> Returned
 
 /// What the end of a proof returns.
 fn returned_verdict(verdict: CheckVerdict) -> Returned
-    ensures { result.number ≡ 20 → verdict ≡ Refutation }
+    ensures returns { ReturnsResult (Ok verdict) result.number result.place }
+    ensures refutes { result.number ≡ 20 → verdict ≡ Refutation }
 {
     let number = match verdict {
         CheckVerdict::Refutation => REFUTATION,
@@ -63,6 +67,7 @@ fn add_text<A: Allocator + Copy>(checker: &mut Checker<A>, text: &[u8]) -> Resul
     requires new { checker.old ≡ record { clauses = []; spent = false } }
     ensures clauses { OnOk result (checker.new ≡ record { clauses = (dimacs text.now).clauses; spent = false }) }
     ensures fine { OnOk result ((dimacs text.now).fault ≡ None) }
+    ensures fails { IfErr result (FailsText text.now) }
 {
     known_bytes_are_read();
     checker.add_dimacs_cnf(&mut CutSource::new(text))
@@ -75,7 +80,8 @@ fn check_marked<A: Allocator + Copy>(
     proof: &[u8],
 ) -> Returned
     requires new { checker.old ≡ record { clauses = []; spent = false } }
-    ensures { result.number ≡ 20 → IsSatisfiable given.now.clauses → ⊥ }
+    ensures returns { ReturnsMarked given.now.clauses proof.now result.number result.place }
+    ensures sound { result.number ≡ 20 → IsSatisfiable given.now.clauses → ⊥ }
 {
     match checker.check_marked(&mut CutSource::new(proof)) {
         Ok(report) => {
@@ -98,7 +104,9 @@ fn check_drat<A: Allocator + Copy>(
     format: ProofFormat,
     proof: &[u8],
 ) -> Returned
-    ensures { result.number ≡ 20 → IsSatisfiable checker.old.clauses → ⊥ }
+    ensures returns { checker.old.spent ≡ false →
+        ReturnsDrat format checker.old.clauses proof.now result.number result.place }
+    ensures sound { result.number ≡ 20 → IsSatisfiable checker.old.clauses → ⊥ }
 {
     let mut counts = DratCounts::new();
     match checker.check_drat(&mut CutSource::new(proof), format, &mut counts) {
@@ -117,7 +125,8 @@ fn check_with<A: Allocator + Copy>(
 ) -> Returned
     requires given_new { given.old ≡ record { clauses = []; spent = false } }
     requires checker_new { checker.old ≡ record { clauses = []; spent = false } }
-    ensures { result.number ≡ 20 → IsRefutedText text.now }
+    ensures returns { ReturnsCheck (Some format) text.now proof.now result.number result.place }
+    ensures sound { result.number ≡ 20 → IsRefutedText text.now }
 {
     match add_text(given, text) {
         Ok(()) => {}
@@ -131,7 +140,8 @@ fn check_with<A: Allocator + Copy>(
 
 /// Checks the proof, in the format of this number, against the clauses of the text.
 pub fn check_texts<A: Allocator + Copy>(alloc: A, format: u8, text: &[u8], proof: &[u8]) -> Returned
-    ensures { result.number ≡ 20 → IsRefutedText text.now }
+    ensures returns { ReturnsCheck (format_numbered format) text.now proof.now result.number result.place }
+    ensures sound { result.number ≡ 20 → IsRefutedText text.now }
 {
     let Some(format) = format_of(format) else {
         return Returned {

@@ -43,9 +43,14 @@ def must_run(command, folder=None):
     return done.stdout
 
 
+def build_library():
+    """Proves and builds our library where that is due."""
+    must_run(["make", "-s", "-C", f"{programs.ROOT}/contrib/c"])
+
+
 def build(folder, client="calls"):
     """Links the client to each solver that is there, and gives the names of these."""
-    must_run(["make", "-s", "-C", f"{programs.ROOT}/contrib/c"])
+    build_library()
     calls = f"{folder}/{client}.o"
     must_run(["gcc", "-std=c11", "-D_POSIX_C_SOURCE=200809L", "-O2", "-c", f"{SOURCES}/{client}.c", "-o", calls])
     linked = {"varisat": ["gcc", calls, LIBRARY]}

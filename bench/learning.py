@@ -199,7 +199,7 @@ def draw(every, all_results):
 
 
 def run(arguments):
-    programs.check_tools(*programs.PACKAGES, *(programs.DRAWING if arguments.plot else ()))
+    programs.check_tools("minisat", "cadical", "/usr/bin/time", *(programs.DRAWING if arguments.plot else ()))
     programs.build_ours()
     every = [programs.ours(), programs.learning_minisat(), programs.cadical()]
     # The table is of the first three.

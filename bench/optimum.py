@@ -5,6 +5,7 @@ import os
 import re
 import shutil
 import subprocess
+import sys
 import tempfile
 
 import maxsat_problems
@@ -57,12 +58,17 @@ def optimum(solver, path, limit):
     return int(costs[-1]), taken.processor
 
 
-def build(arguments):
+def build_ours():
     """Proves and builds the program, unless the gate left it."""
-    if arguments.program or programs.is_behind_gate("maxsat"):
+    if programs.is_behind_gate("maxsat"):
         return
-    if subprocess.run(["rt", "run", "--", "-"], cwd=f"{programs.ROOT}/crates/maxsat", stdin=subprocess.DEVNULL).returncode not in (0, 2):
+    if subprocess.run(["rt", "run", "--", "-"], cwd=f"{programs.ROOT}/crates/maxsat", stdin=subprocess.DEVNULL, stdout=sys.stderr).returncode not in (0, 2):
         programs.stop("the program was not built")
+
+
+def build(arguments):
+    if not arguments.program:
+        build_ours()
 
 
 def run(arguments):

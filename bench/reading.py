@@ -51,7 +51,7 @@ def print_size(every, path, literals, repetitions):
 
 
 def run(arguments):
-    programs.check_tools(*programs.PACKAGES)
+    programs.check_tools("minisat", "cadical", "/usr/bin/time")
     programs.build_ours()
     every = programs.readers()
     print(programs.machine())

@@ -9,7 +9,9 @@ import learning
 SUMMARY = "times calls whose clauses are retired, and tells whether they and the memory stay what they were"
 # What a call of ours may take at the end, and the memory, divided by what they took at first.
 LIMIT = 1.2
-HEADS = f"{'solver':10} {'calls':>8} {'a call, ms':>12} {'MiB':>8} {'calls':>8} {'a call, ms':>12} {'MiB':>8} {'ms / first':>12} {'MiB / first':>12}"
+POINT_HEADS = f" {'calls':>8} {'a call, ms':>11} {'MiB':>6}"
+GROWTH_HEADS = f"{'ms / first':>12} {'MiB / first':>12} {'ms / half':>12} {'MiB / half':>12}"
+HEADS = f"{'solver':10}{3 * POINT_HEADS} {GROWTH_HEADS}"
 
 
 @dataclass
@@ -35,9 +37,9 @@ def told(line):
 
 
 def answer(folder, name, thousands):
-    """What is told after the first thousand of calls and after the last."""
+    """What is told after the first thousand of calls, after half of all, and after the last."""
     lines = incremental.must_run([f"{folder}/{name}", str(1000 * thousands)]).splitlines()
-    return told(lines[0]), told(lines[-1])
+    return [told(lines[index]) for index in (0, (len(lines) - 1) // 2, -1)]
 
 
 def median(tellings):
@@ -45,14 +47,13 @@ def median(tellings):
 
 
 def print_solver(name, turns):
-    """Prints the row of a solver, and gives how its time and its memory have grown."""
-    firsts, lasts = zip(*turns)
-    (taken, memory), (last_taken, last_memory) = median(firsts), median(lasts)
-    grown = last_taken / taken, last_memory / memory
-    first_told = f"{firsts[0].calls:8,} {taken:12.3f} {memory / 1024:8.1f}"
-    last_told = f"{lasts[0].calls:8,} {last_taken:12.3f} {last_memory / 1024:8.1f}"
-    print(f"{name:10} {first_told} {last_told} {grown[0]:12.2f} {grown[1]:12.2f}", flush=True)
-    return grown
+    """Prints the row of a solver, and gives how its time and its memory have grown since the first thousand of calls."""
+    points = list(zip(*turns))
+    first, half, last = (median(tellings) for tellings in points)
+    row = "".join(f" {tellings[0].calls:8,} {taken:11.3f} {memory / 1024:6.1f}" for tellings, (taken, memory) in zip(points, (first, half, last)))
+    grown = [last[index] / before[index] for before in (first, half) for index in (0, 1)]
+    print(f"{name:10}{row} " + " ".join(f"{ratio:12.2f}" for ratio in grown), flush=True)
+    return grown[:2]
 
 
 def run(arguments):
@@ -62,7 +63,7 @@ def run(arguments):
         names = incremental.build(folder, "retiring")
         turns = [[answer(folder, name, arguments.thousands) for name in names] for _ in range(arguments.repetitions)]
     grown = [print_solver(name, one) for name, one in zip(names, zip(*turns))]
-    if len({last.checksum for turn in turns for _, last in turn}) > 1:
+    if len({points[-1].checksum for turn in turns for points in turn}) > 1:
         print("\nthe answers differ", flush=True)
         return 1
     return 1 if max(grown[0]) > LIMIT else 0

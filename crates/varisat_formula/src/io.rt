@@ -74,7 +74,13 @@ impl<A: Allocator + Copy> MemoryTarget<A> {
 impl<A: Allocator + Copy> ProofTarget for MemoryTarget<A> {
     ghost taken = { λ t. t };
 
-    fn put(&mut self, bytes: &[u8]) -> io::Result<()> {
+    fn put(&mut self, bytes: &[u8]) -> io::Result<()>
+        requires { self.old.faults < 2 ^ 64 - 1 }
+        ensures whole { OnOk result (self.new.bytes ≡ self.old.bytes ++ bytes.now) }
+        ensures none { OnErr result (self.new.bytes ≡ self.old.bytes) }
+        ensures quiet { OnOk result (self.new.faults ≡ self.old.faults) }
+        ensures fault { OnErr result (self.new.faults ≡ self.old.faults + 1) }
+    {
         match self.bytes.extend_from_slice(bytes) {
             Ok(()) => Ok(()),
             Err(error) => {

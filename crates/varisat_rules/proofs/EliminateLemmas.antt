@@ -2,9 +2,9 @@
 use Rattle.std.proofs.Common.{◌≡◌, ℕ, zero, suc, ◌+◌, ◌/◌, ◌<◌, ◌≤◌, ◌==◌, Bool, true, false, List, [], ◌∷◌, ◌++◌, ◌⊎◌, inl, inr, ⊎_elim, sym, ap, ◌∙◌, subst, refl, length, get_or, set, take, append-nil, arith}
 use Rattle.varisat_theory.specs.promises.Membership.{◌∈◌}
 use Rattle.varisat_theory.specs.promises.Literals.{Literal, Clause, Assignment, opposite, variable_of, value, Satisfies, SatisfiesAll}
-use Rattle.varisat_theory.proofs.clauses.Members.{equal_or_not, ∈-or_not}
+use Rattle.varisat_theory.proofs.clauses.Members.{equal_or_not, ∈-or_not, ∈-append_cases}
 use Rattle.varisat_theory.proofs.clauses.Places.{∈-get_or, ∈-take_more, ∈-take_all, place_in}
-use Rattle.varisat_theory.proofs.clauses.Values.{opposite_twice, variable-opposite, true_or_opposite}
+use Rattle.varisat_theory.proofs.clauses.Values.{opposite_twice, variable-opposite, same_or_opposite, true_or_opposite}
 use Rattle.varisat_formula.specs.promises.Values.{assignment_of, with_true}
 use Rattle.varisat_rules.specs.promises.Stacks.{amended, extended, avoids}
 use Rattle.varisat_rules.specs.promises.Leading.{AreNamedBy, HasVariable, HasVariablesOf}
@@ -12,8 +12,8 @@ use Rattle.varisat_rules.proofs.LeadingLemmas.{leads_removed, told_removed, name
 use Rattle.varisat_formula.proofs.ValueLemmas.{made-true, stays-true}
 use Rattle.varisat_rules.proofs.ExtendLemmas.{thawed_more}
 use Rattle.varisat_database.specs.Databases.{DatabaseState, pushed, removed, saved, clause_at, IsLive}
-use Rattle.varisat_rules.specs.inside.States.{IsThawed, Occurs, Models, DerivesFrom, IsLaterState, ModelsRest, SatisfiesBut, Collects, IsPairResolved, ResolvesPairs, SavesClauses, Drops}
-use Rattle.varisat_rules.proofs.StateLemmas.{becomes_self, becomes_then, clause_stays, pushed_live, pushed_keeps, pushed_new, removed_live, removed_keeps, removed_even, pushed_even, satisfies_same, push_resolvent}
+use Rattle.varisat_rules.specs.inside.States.{IsThawed, Occurs, Models, DerivesFrom, IsGone, LeadIsGone, Continues, IsLaterState, SavesLed, ModelsRest, SatisfiesBut, Collects, IsPairResolved, ResolvesPairs, SavesClauses, Drops}
+use Rattle.varisat_rules.proofs.StateLemmas.{continues_self, continues_then, becomes_self, becomes_then, lead_gone, unsaved, gone_removed, clause_stays, pushed_live, pushed_keeps, pushed_new, removed_live, removed_keeps, removed_even, pushed_even, satisfies_same, push_resolvent}
 use Rattle.varisat_rules.proofs.ExtendLemmas.{extended_more, amended_cases, amended_length}
 
 -- what has a literal, in a clause that is equal
@@ -50,6 +50,10 @@ resolved_pushed s e l i j even li lj r a m =
     (λ h. inr (but_same (opposite l) a (clause_at s j) (clause_at (pushed s e) j) (sym (pushed_keeps s e j even lj).1) h))
     (r a (rest_pushed s e l a even m))
 
+no_first : (i : ℕ) (xs : List ℕ) → i ∈ take 0 xs → ⊥
+no_first i [] h = h
+no_first i (x ∷ xs) h = h
+
 pub adds_first : (s : DatabaseState) (l : Literal) (w g : List ℕ) → Collects s l w → Collects s (opposite l) g → ResolvesPairs s s l w g 0 0
 adds_first s l w g c d = record {
   becomes = becomes_self s;
@@ -58,10 +62,6 @@ adds_first s l w g c d = record {
   done = λ i j h k. absurd (no_first i w h);
   begun = λ j h. absurd (no_first j g h);
 }
-  where
-    no_first : (i : ℕ) (xs : List ℕ) → i ∈ take 0 xs → ⊥
-    no_first i [] h = h
-    no_first i (x ∷ xs) h = h
 
 -- the next row begins
 pub adds_row : (s t : DatabaseState) (l : Literal) (w g : List ℕ) (x y : ℕ) → length g ≤ y → ResolvesPairs s t l w g x y → ResolvesPairs s t l w g (x + 1) 0
@@ -75,10 +75,6 @@ adds_row s t l w g x y e r = record {
       (∈-take_more i w x 0 h);
   begun = λ j h. absurd (no_first j g h);
 }
-  where
-    no_first : (i : ℕ) (xs : List ℕ) → i ∈ take 0 xs → ⊥
-    no_first i [] h = h
-    no_first i (x ∷ xs) h = h
 
 -- the two clauses clash in another literal, so their resolvent is a tautology
 pub adds_skip : (s t : DatabaseState) (l : Literal) (w g : List ℕ) (x y : ℕ) (n : Literal) → n ∈ clause_at t (get_or w x 0) → (n ≡ l → ⊥) →
@@ -105,7 +101,8 @@ pub adds_push : (s t : DatabaseState) (l : Literal) (w g : List ℕ) (x y : ℕ)
     ResolvesPairs s t l w g x y → ResolvesPairs s (pushed t e) l w g x (y + 1)
 adds_push s t l w g x y e hx hy from left right r = record {
   becomes = becomes_then s t (pushed t e) r.becomes
-      (push_resolvent t i j l e li lj (r.ones.with i iw) left right (λ m h. ⊎_elim (λ p. inl p.0) (λ p. inr p.0) (from m h)));
+      (unsaved t (pushed t e) refl
+      (push_resolvent t i j l e li lj (r.ones.with i iw) left right (λ m h. ⊎_elim (λ p. inl p.0) (λ p. inr p.0) (from m h))));
   ones = collects_pushed t e l w no_l r.ones;
   others = collects_pushed t e (opposite l) g no_o r.others;
   done = λ p q h k. resolved_pushed t e l p q even (r.ones.live p (taken p w x h)) (r.others.live q k) (r.done p q h k);
@@ -170,7 +167,8 @@ adds_push s t l w g x y e hx hy from left right r = record {
 -- all pairs are done
 pub saves_first : (s t : DatabaseState) (l : Literal) (w g : List ℕ) (x : ℕ) → length w ≤ x → ResolvesPairs s t l w g x 0 → SavesClauses t t l w g 0
 saves_first s t l w g x h r = record {
-  becomes = becomes_self t;
+  becomes = continues_self t;
+  led = λ c m. inl m;
   others = r.others;
   ones = λ k live c. let p = place_in k w 0 (r.ones.all k live c) in (p.0, omega arith, p.1, p.2);
   each = r.ones.with;
@@ -243,12 +241,14 @@ pub saves_next : (s t : DatabaseState) (l : Literal) (w g : List ℕ) (x : ℕ) 
     ((m : Literal) → m ∈ e → m ∈ clause_at t (get_or w x 0)) → ((m : Literal) → m ∈ clause_at t (get_or w x 0) → (m ≡ l) ⊎ (m ∈ e)) →
     SavesClauses s t l w g x → SavesClauses s (removed (saved t (l ∷ e)) (get_or w x 0)) l w g (x + 1)
 saves_next s t l w g x e h small thaw part whole r = record {
-  becomes = becomes_then s t (removed (saved t (l ∷ e)) i) r.becomes (record {
+  becomes = continues_then s t (removed (saved t (l ∷ e)) i) r.becomes (record {
     more = ([], sym (append-nil t.clauses));
     count = refl;
     frozen = refl;
     reduces = λ P q. save_reduces P t l e i g small (r.each i iw) part whole r.others (λ j k. r.pairs i j iw k) thaw q;
+    gone = λ v q. gone_removed (saved t (l ∷ e)) i v (record { even = q.even; none = q.none });
   });
+  led = λ c m. ⊎_elim (r.led c) (λ k. ⊎_elim (λ q. inr (e, q)) (λ z. absurd z) k) (∈-append_cases c t.stack ((l ∷ e) ∷ []) m);
   others = collects_removed t (l ∷ e) (opposite l) g i (λ k. r.apart i iw (r.others.with i k)) r.others;
   ones = λ k live c.
       let old = removed_live t i k live in
@@ -271,8 +271,8 @@ saves_next s t l w g x e h small thaw part whole r = record {
 pub saves_end : (s t : DatabaseState) (l : Literal) (w g : List ℕ) (x : ℕ) → length w ≤ x → SavesClauses s t l w g x → (k : ℕ) → IsLive t k → l ∈ clause_at t k → ⊥
 saves_end s t l w g x h r k live c = let p = r.ones k live c in let a = p.1 in let b = p.2 in omega (arith, a, b, h)
 
-pub drops_first : (s : DatabaseState) (m : Literal) → Drops s (saved s (m ∷ [])) m
-drops_first s m = record {
+pub drops_first : (s : DatabaseState) (m : Literal) (g : List ℕ) → Drops s (saved s (m ∷ [])) m g 0
+drops_first s m g = record {
   count = refl;
   frozen = refl;
   same = refl;
@@ -280,11 +280,13 @@ drops_first s m = record {
   even = refl;
   fewer = λ k h. h;
   kept = λ k h n. h;
+  dropped = λ k h. absurd (no_first k g h);
   tells = λ P q. (q.leads, q.spoken);
 }
 
-pub drops_next : (s t : DatabaseState) (m : Literal) (i : ℕ) → m ∈ clause_at s i → Drops s t m → Drops s (removed t i) m
-drops_next s t m i h r = record {
+pub drops_next : (s t : DatabaseState) (m : Literal) (g : List ℕ) (x i : ℕ) → i ≡ get_or g x 0 → m ∈ clause_at s i → Drops s t m g x →
+    Drops s (removed t i) m g (x + 1)
+drops_next s t m g x i e h r = record {
   count = r.count;
   frozen = r.frozen;
   same = r.same;
@@ -292,6 +294,10 @@ drops_next s t m i h r = record {
   even = length-set t.live i false ∙ r.even;
   fewer = λ k live. r.fewer k (removed_live t i k live).0;
   kept = λ k live n. removed_keeps t i k (r.kept k live n) (λ q. n (subst (λ x. m ∈ clause_at s x) (sym q) h));
+  dropped = λ k h live. let old = removed_live t i k live in ⊎_elim
+      (λ p. r.dropped k p old.0)
+      (λ q. old.1 (q ∙ sym e))
+      (∈-take_more k g x 0 h);
   tells = λ P q. (
     leads_removed P t.lines t.live t.clauses i (r.even ∙ q.even ∙ ap length (sym r.same)) (r.tells P q).0,
     told_removed P t.lines (get_or t.live i false) (clause_at t i)
@@ -310,7 +316,7 @@ occurs_named P s m (k, inl h) q = (m, named_at P s.clauses k q.named m h, refl)
 occurs_named P s m (k, inr h) q = (opposite m, named_at P s.clauses k q.named (opposite m) h, variable-opposite m)
 
 -- a literal occurs whose variable was resolved away, with some clauses at these places
-pub occurs_resolved : (s t : DatabaseState) (l m : Literal) (w g : List ℕ) → m ≡ opposite l → Collects s l w → Collects t (opposite l) g → IsLaterState s t →
+pub occurs_resolved : (s t : DatabaseState) (l m : Literal) (w g : List ℕ) → m ≡ opposite l → Collects s l w → Collects t (opposite l) g → Continues s t →
     (false ≡ (length w == 0)) ⊎ (false ≡ (length g == 0)) → Occurs t m
 occurs_resolved s t l m w (y ∷ g) e c d b n = (y, inl (subst (λ x. x ∈ clause_at t y) (sym e) (d.with y (inl refl))))
 occurs_resolved s t l m (x ∷ w) [] e c d b n = (
@@ -321,9 +327,18 @@ occurs_resolved s t l m (x ∷ w) [] e c d b n = (
 occurs_resolved s t l m [] [] e c d b (inl n) = absurd (cc)
 occurs_resolved s t l m [] [] e c d b (inr n) = absurd (cc)
 
-pub drops_end : (s t : DatabaseState) (m : Literal) → m / 2 < s.var_count → IsThawed s m → Occurs s m → ((k : ℕ) → IsLive s k → opposite m ∈ clause_at s k → ⊥) →
-    Drops s t m → IsLaterState s t
-drops_end s t m small thaw occurs pure r = record { more = ([], r.same ∙ sym (append-nil s.clauses)); count = r.count; frozen = r.frozen; reduces = λ P q. reduces P q }
+pub drops_end : (s t : DatabaseState) (m : Literal) (g : List ℕ) (x : ℕ) → m / 2 < s.var_count → IsThawed s m → Occurs s m → ((k : ℕ) → IsLive s k → opposite m ∈ clause_at s k → ⊥) →
+    Drops s t m g x → Continues s t
+drops_end s t m g x small thaw occurs pure r = record {
+  more = ([], r.same ∙ sym (append-nil s.clauses));
+  count = r.count;
+  frozen = r.frozen;
+  reduces = λ P q. reduces P q;
+  gone = λ v q. record {
+    even = r.even ∙ q.even ∙ ap length (sym r.same);
+    none = λ k l live h e. q.none k l (r.fewer k live) (in_same l (clause_at t k) (clause_at s k) (at k) h) e;
+  };
+}
   where
     at : (k : ℕ) → clause_at t k ≡ clause_at s k
     at k = ap (λ (cs : List Clause). get_or cs k []) r.same
@@ -368,3 +383,42 @@ drops_end s t m small thaw occurs pure r = record { more = ([], r.same ∙ sym (
                 (λ i. (m, i, made-true vs m room))
                 (λ d. let v = old d in (v.0, v.1, stays-true vs m v.0 room (λ e. pure k live (subst (λ x. x ∈ clause_at s k) e v.1)) v.2))
                 (∈-or_not m (clause_at s k))
+
+-- the literal alone is saved
+pub drops_led : (s t : DatabaseState) (m : Literal) (g : List ℕ) (x : ℕ) → Drops s t m g x → SavesLed s t m
+drops_led s t m g x r c h =
+    ⊎_elim inl (λ k. ⊎_elim (λ q. inr ([], q)) (λ z. absurd z) k)
+    (∈-append_cases c s.stack ((m ∷ []) ∷ []) (subst (λ (st : List Clause). c ∈ st) r.stack h))
+
+-- once all clauses with it are removed, its variable is gone
+pub drops_gone : (s t : DatabaseState) (m : Literal) (g : List ℕ) (x : ℕ) → length g ≤ x → Collects s m g →
+    ((k : ℕ) → IsLive s k → opposite m ∈ clause_at s k → ⊥) → Drops s t m g x → IsGone t (variable_of m)
+drops_gone s t m g x room c pure r = record {
+  even = r.even ∙ c.even ∙ ap length (sym r.same);
+  none = λ k l live h e.
+      let i : l ∈ clause_at s k = subst (λ (cs : List Clause). l ∈ get_or cs k []) r.same h in
+      ⊎_elim
+      (λ q. r.dropped k (∈-take_all k g x room (c.all k (r.fewer k live) (subst (λ y. y ∈ clause_at s k) q i))) live)
+      (λ q. pure k (r.fewer k live) (subst (λ y. y ∈ clause_at s k) q i))
+      (same_or_opposite l m e);
+}
+
+-- A variable was resolved away: its clauses of one sign were saved, and then its other literal.
+pub resolved_away : (s t u w : DatabaseState) (l m : Literal) → m ≡ opposite l → IsLaterState s t → Continues t u → SavesLed t u l → Continues u w → SavesLed u w m →
+    IsGone w (variable_of m) → IsLaterState s w
+resolved_away s t u w l m e b d first f second gone = record {
+  continues = continues_then s t w b.continues rest;
+  settles = λ h c k. ⊎_elim
+      (λ i. ⊎_elim (λ j. lead_gone t w c rest (b.settles h c j)) (λ p. led l p.0 c p.1 own) (first c i))
+      (λ p. led m p.0 c p.1 gone)
+      (second c k);
+}
+  where
+    rest : Continues t w
+    rest = continues_then t u w d f
+
+    own : IsGone w (variable_of l)
+    own = subst (λ v. IsGone w v) (ap variable_of e ∙ variable-opposite l) gone
+
+    led : (x : Literal) (r c : Clause) → c ≡ x ∷ r → IsGone w (variable_of x) → LeadIsGone w c
+    led x r c q g = subst (λ (y : Clause). LeadIsGone w y) (sym q) g

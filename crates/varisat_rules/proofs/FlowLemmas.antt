@@ -7,7 +7,7 @@ use Rattle.varisat_theory.proofs.clauses.Places.{∈-take_more, ∈-take_all}
 use Rattle.varisat_database.specs.Databases.{DatabaseState, pushed, removed, clause_at, IsLive}
 use Rattle.varisat_rules.specs.inside.States.{IsLaterState, Collects}
 use Rattle.varisat_rules.specs.inside.Resolving.{LeavesOut}
-use Rattle.varisat_rules.proofs.StateLemmas.{becomes_self, remove_reduces, strengthened}
+use Rattle.varisat_rules.proofs.StateLemmas.{becomes_self, unsaved, gone_removed, remove_reduces, strengthened}
 
 pub becomes_same : (s t : DatabaseState) → t ≡ s → IsLaterState s t
 becomes_same s t e = subst (λ (u : DatabaseState). IsLaterState s u) (sym e) (becomes_self s)
@@ -16,7 +16,13 @@ pub becomes_next : (s t u : DatabaseState) → IsLaterState s t → u ≡ t → 
 becomes_next s t u b e = subst (λ (v : DatabaseState). IsLaterState s v) (sym e) b
 
 pub subsumed_becomes : (s t : DatabaseState) (j i : ℕ) → t ≡ removed s i → IsLive s j → (j ≡ i → ⊥) → clause_at s j ⊆ clause_at s i → IsLaterState s t
-subsumed_becomes s t j i e live n part = becomes_next s (removed s i) t (record { more = ([], sym (append-nil s.clauses)); count = refl; frozen = refl; reduces = λ P r. remove_reduces P s i j live n part r }) e
+subsumed_becomes s t j i e live n part = becomes_next s (removed s i) t (unsaved s (removed s i) refl (record {
+  more = ([], sym (append-nil s.clauses));
+  count = refl;
+  frozen = refl;
+  reduces = λ P r. remove_reduces P s i j live n part r;
+  gone = λ v h. gone_removed s i v h;
+})) e
 
 pub strengthened_becomes : (s t u : DatabaseState) (j i : ℕ) (l n : Literal) (c d e : Clause) → c ≡ clause_at s i → n ≡ opposite l → d ≡ e → t ≡ pushed s d → u ≡ removed t i →
     IsLive s j → IsLive s i → l ∈ clause_at s j → ((m : Literal) → m ∈ clause_at s j → (m ≡ l) ⊎ ((m ∈ clause_at s i) × (m ≡ opposite l → ⊥))) →

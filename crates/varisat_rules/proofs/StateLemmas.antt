@@ -2,7 +2,7 @@
 use Rattle.std.proofs.Common.{◌≡◌, ℕ, zero, suc, ◌+◌, ◌<◌, ◌≤◌, Bool, true, false, List, [], ◌∷◌, ◌++◌, ◌⊎◌, inl, inr, ⊎_elim, sym, ap, ◌∙◌, subst, refl, length, get_or, set, append-nil, arith}
 use Rattle.std.proofs.lemmas.List.{get_or_append_left, length-append, append_assoc, length-set}
 use Rattle.varisat_theory.specs.promises.Membership.{◌∈◌, ◌⊆◌}
-use Rattle.varisat_theory.specs.promises.Literals.{Literal, Clause, Assignment, opposite, value, Satisfies}
+use Rattle.varisat_theory.specs.promises.Literals.{Literal, Clause, Assignment, opposite, variable_of, value, Satisfies}
 use Rattle.varisat_theory.specs.promises.Propagation.{FalseClause, Propagate, Follows}
 use Rattle.varisat_theory.specs.promises.Derivations.{Add}
 use Rattle.varisat_theory.proofs.clauses.Members.{equal_or_not}
@@ -11,15 +11,15 @@ use Rattle.varisat_theory.proofs.clauses.Assigned.{same_set_satisfied}
 use Rattle.varisat_formula.specs.promises.Values.{assignment_of}
 use Rattle.varisat_database.specs.Databases.{DatabaseState, pushed, removed, clause_at, IsLive}
 use Rattle.varisat_database.proofs.ListLemmas.{get_or-pushed}
-use Rattle.varisat_rules.specs.inside.States.{live_clauses, Models, DerivesFrom, IsLaterState}
+use Rattle.varisat_rules.specs.inside.States.{live_clauses, Models, DerivesFrom, IsGone, LeadIsGone, IsSettled, Continues, IsLaterState}
 use Rattle.varisat_rules.specs.promises.Leading.{LeadsTo, IsNamedBy}
 use Rattle.varisat_rules.proofs.LeadingLemmas.{flagged_pushed, flagged_has, leads_add, leads_removed, told_add, told_removed, named_more, named_at}
 
-pub becomes_self : (s : DatabaseState) → IsLaterState s s
-becomes_self s = record { more = ([], sym (append-nil s.clauses)); count = refl; frozen = refl; reduces = λ P r. r }
+pub continues_self : (s : DatabaseState) → Continues s s
+continues_self s = record { more = ([], sym (append-nil s.clauses)); count = refl; frozen = refl; reduces = λ P r. r; gone = λ v h. h }
 
-pub becomes_then : (s t u : DatabaseState) → IsLaterState s t → IsLaterState t u → IsLaterState s u
-becomes_then s t u b d = record {
+pub continues_then : (s t u : DatabaseState) → Continues s t → Continues t u → Continues s u
+continues_then s t u b d = record {
   more = (
     b.more.0 ++ d.more.0,
     d.more.1 ∙ ap (λ (x : List Clause). x ++ d.more.0) b.more.1 ∙ append_assoc s.clauses b.more.0 d.more.0,
@@ -27,6 +27,28 @@ becomes_then s t u b d = record {
   count = d.count ∙ b.count;
   frozen = d.frozen ∙ b.frozen;
   reduces = λ P r. d.reduces P (b.reduces P r);
+  gone = λ v h. d.gone v (b.gone v h);
+}
+
+pub becomes_self : (s : DatabaseState) → IsLaterState s s
+becomes_self s = record { continues = continues_self s; settles = λ h. h }
+
+pub becomes_then : (s t u : DatabaseState) → IsLaterState s t → IsLaterState t u → IsLaterState s u
+becomes_then s t u b d = record {
+  continues = continues_then s t u b.continues d.continues;
+  settles = λ h. d.settles (b.settles h);
+}
+
+-- what is gone stays so
+pub lead_gone : (s t : DatabaseState) (c : Clause) → Continues s t → LeadIsGone s c → LeadIsGone t c
+lead_gone s t [] b h = tt
+lead_gone s t (l ∷ c) b h = b.gone (variable_of l) h
+
+-- nothing is saved
+pub unsaved : (s t : DatabaseState) → t.stack ≡ s.stack → Continues s t → IsLaterState s t
+unsaved s t e b = record {
+  continues = b;
+  settles = λ h c m. lead_gone s t c b (h c (subst (λ (stack : List Clause). c ∈ stack) e m));
 }
 
 get_or-beyond : {X : Type 0} (xs : List X) (d : X) (k : ℕ) → length xs ≤ k → get_or xs k d ≡ d
@@ -44,7 +66,7 @@ live_below s k e = go s.live k e
     go (x ∷ xs) (suc k) e = let h = go xs k e in omega (arith, h)
 
 -- the clause at a live place stays there
-pub clause_stays : (s t : DatabaseState) (k : ℕ) → length s.live ≡ length s.clauses → IsLive s k → IsLaterState s t → clause_at t k ≡ clause_at s k
+pub clause_stays : (s t : DatabaseState) (k : ℕ) → length s.live ≡ length s.clauses → IsLive s k → Continues s t → clause_at t k ≡ clause_at s k
 clause_stays s t k even live b =
     let h = live_below s k live in
     ap (λ (cs : List Clause). get_or cs k []) b.more.1 ∙ get_or_append_left s.clauses b.more.0 [] k (omega (arith, h, even))
@@ -112,6 +134,23 @@ removed_even s i e = length-set s.live i false ∙ e
 
 pub pushed_even : (s : DatabaseState) (c : Clause) → length s.live ≡ length s.clauses → length (pushed s c).live ≡ length (pushed s c).clauses
 pushed_even s c e = length-append s.live (true ∷ []) ∙ ap (λ n. n + 1) e ∙ sym (length-append s.clauses (c ∷ []))
+
+-- no new clause has a variable of no live clause
+pub gone_pushed : (s : DatabaseState) (e : Clause) (v : ℕ) → ((m : Literal) → m ∈ e → (k : ℕ) × IsLive s k × (m ∈ clause_at s k)) → IsGone s v →
+    IsGone (pushed s e) v
+gone_pushed s e v from r = record {
+  even = pushed_even s e r.even;
+  none = λ k l live h q. ⊎_elim
+      (λ g. r.none k l g.0 (subst (λ (c : Clause). l ∈ c) g.1 h) q)
+      (λ g. let w = from l (subst (λ (c : Clause). l ∈ c) g.1 h) in r.none w.0 l w.1 w.2 q)
+      (pushed_live s e k r.even live);
+}
+
+pub gone_removed : (s : DatabaseState) (i v : ℕ) → IsGone s v → IsGone (removed s i) v
+gone_removed s i v r = record {
+  even = removed_even s i r.even;
+  none = λ k l live h q. r.none k l (removed_live s i k live).0 h q;
+}
 
 pub satisfies_same : (a : Assignment) (c d : Clause) → c ≡ d → Satisfies a d → Satisfies a c
 satisfies_same a c d e s = subst (λ x. Satisfies a x) (sym e) s
@@ -182,7 +221,7 @@ clause_held s k even e = flagged_has s.live s.clauses k even e
 -- The resolvent of two live clauses is added.
 pub push_resolvent : (s : DatabaseState) (i j : ℕ) (l : Literal) (e : Clause) → IsLive s i → IsLive s j → l ∈ clause_at s i →
     ((m : Literal) → m ∈ clause_at s i → (m ≡ l) ⊎ (m ∈ e)) → ((m : Literal) → m ∈ clause_at s j → (m ≡ opposite l) ⊎ (m ∈ e)) →
-    ((m : Literal) → m ∈ e → (m ∈ clause_at s i) ⊎ (m ∈ clause_at s j)) → IsLaterState s (pushed s e)
+    ((m : Literal) → m ∈ e → (m ∈ clause_at s i) ⊎ (m ∈ clause_at s j)) → Continues s (pushed s e)
 push_resolvent s i j l e li lj hl left right from = record {
   more = (e ∷ [], refl);
   count = refl;
@@ -192,13 +231,14 @@ push_resolvent s i j l e li lj hl left right from = record {
       (resolvent_follows (live_clauses s) (clause_at s i) (clause_at s j) e l (clause_held s i r.even li) (clause_held s j r.even lj) hl left right)
       (λ m h. ⊎_elim (named_at P s.clauses i r.named m) (named_at P s.clauses j r.named m) (from m h))
       r;
+  gone = λ v h. gone_pushed s e v (λ m n. ⊎_elim (λ a. (i, li, a)) (λ a. (j, lj, a)) (from m n)) h;
 }
 
 -- The clause at j takes a literal from the one at i: the shorter one is added, and the other goes.
 pub strengthened : (s : DatabaseState) (j i : ℕ) (l : Literal) (e : Clause) → IsLive s j → IsLive s i → l ∈ clause_at s j →
     ((m : Literal) → m ∈ clause_at s j → (m ≡ l) ⊎ (m ∈ e)) → ((m : Literal) → m ∈ clause_at s i → (m ≡ opposite l) ⊎ (m ∈ e)) → e ⊆ clause_at s i →
     IsLaterState s (removed (pushed s e) i)
-strengthened s j i l e lj li hl left right part = record {
+strengthened s j i l e lj li hl left right part = unsaved s (removed (pushed s e) i) refl (record {
   more = (e ∷ [], refl);
   count = refl;
   frozen = refl;
@@ -209,5 +249,9 @@ strengthened s j i l e lj li hl left right part = record {
       let even = r.even in
       remove_reduces P (pushed s e) i (length s.clauses) new.0 (λ q. omega (arith, below, even, q))
       (λ m h. subst (λ c. m ∈ c) (sym old.1) (part m (subst (λ c. m ∈ c) new.1 h)))
-      ((push_resolvent s j i l e lj li hl left right (λ m h. inr (part m h))).reduces P r);
-}
+      (added.reduces P r);
+  gone = λ v h. gone_removed (pushed s e) i v (added.gone v h);
+})
+  where
+    added : Continues s (pushed s e)
+    added = push_resolvent s j i l e lj li hl left right (λ m h. inr (part m h))

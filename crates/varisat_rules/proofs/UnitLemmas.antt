@@ -12,7 +12,7 @@ use Rattle.varisat_rules.specs.inside.States.{live_clauses, Models, IsLaterState
 use Rattle.varisat_rules.specs.inside.Resolving.{IsLiveUnit, LeavesOutFalse}
 use Rattle.varisat_rules.proofs.LeadingLemmas.{named_at}
 use Rattle.varisat_rules.proofs.ResolveLemmas.{none_taken, taken_before, taken_last}
-use Rattle.varisat_rules.proofs.StateLemmas.{push_reduces, remove_reduces, pushed_new, pushed_keeps, live_below, clause_held}
+use Rattle.varisat_rules.proofs.StateLemmas.{unsaved, gone_pushed, gone_removed, push_reduces, remove_reduces, pushed_new, pushed_keeps, live_below, clause_held}
 use Rattle.varisat_rules.proofs.FlowLemmas.{becomes_next}
 
 pub only_one : (c : Clause) (l : Literal) → length c ≡ 1 → l ∈ c → c ≡ l ∷ []
@@ -97,7 +97,7 @@ pub shortened : (s t u : DatabaseState) (i : ℕ) (c d e : Clause) → c ≡ cla
     LeavesOutFalse s c e → IsLaterState s u
 shortened s t u i c d e ec ed et eu live out =
     becomes_next s (removed (pushed s e) i) u
-    (record {
+    (unsaved s (removed (pushed s e) i) refl (record {
       more = (e ∷ [], refl);
       count = refl;
       frozen = refl;
@@ -110,7 +110,8 @@ shortened s t u i c d e ec ed et eu live out =
           (λ m h. subst (λ x. m ∈ x) (sym old.1) (w.part m (subst (λ x. m ∈ x) new.1 h)))
           (push_reduces P s e (λ a m. left_satisfied a s i e live w m) (left_follows s i e r.even live w)
           (λ m h. named_at P s.clauses i r.named m (w.part m h)) r);
-    })
+      gone = λ v h. gone_removed (pushed s e) i v (gone_pushed s e v (λ m n. (i, live, w.part m n)) h);
+    }))
     (eu ∙ ap (λ (x : DatabaseState). removed x i) (et ∙ ap (λ (x : Clause). pushed s x) ed))
   where
     w : LeavesOutFalse s (clause_at s i) e

@@ -3,7 +3,7 @@ ghost use Rattle.std.specs.Prelude.{◌≡◌, ℕ, ◌/◌, ◌<◌, ◌≤◌,
 ghost use Rattle.varisat_theory.specs.promises.Membership.{◌∈◌};
 ghost use Rattle.varisat_theory.specs.promises.Literals.{opposite, variable_of};
 ghost use Rattle.varisat_database.specs.Databases.{IsLive, clause_at, removed, saved};
-ghost use Rattle.varisat_rules.specs.inside.States.{IsThawed, Occurs, IsLaterState, Collects, ResolvesPairs, SavesClauses};
+ghost use Rattle.varisat_rules.specs.inside.States.{IsThawed, Occurs, IsGone, Continues, IsLaterState, SavesLed, Collects, ResolvesPairs, SavesClauses};
 
 use crate::resolve::{holds, resolve};
 use std::alloc::{AllocError, Allocator};
@@ -93,7 +93,8 @@ fn save_all<A: Allocator + Copy>(
     requires small { variable_of lit < db.old.var_count }
     requires thawed { IsThawed db.old lit }
     requires saves { SavesClauses db.old db.old lit with.now against.now 0 }
-    ensures becomes { OnOk result (IsLaterState db.old db.new) }
+    ensures becomes { OnOk result (Continues db.old db.new) }
+    ensures led { OnOk result (SavesLed db.old db.new lit) }
     ensures pure { OnOk result ((k : ℕ) → IsLive db.new k → lit ∈ clause_at db.new k → ⊥) }
     ensures rest { OnOk result (Collects db.new (opposite lit) against.now) }
 {
@@ -113,8 +114,10 @@ fn save_literal<A: Allocator + Copy>(
     requires thawed { IsThawed db.old lit }
     requires occurs { Occurs db.old lit }
     requires pure { (k : ℕ) → IsLive db.old k → opposite lit ∈ clause_at db.old k → ⊥ }
-    requires with { (k : ℕ) → k ∈ places.now → lit ∈ clause_at db.old k }
-    ensures { OnOk result (IsLaterState db.old db.new) }
+    requires with { Collects db.old lit places.now }
+    ensures becomes { OnOk result (Continues db.old db.new) }
+    ensures led { OnOk result (SavesLed db.old db.new lit) }
+    ensures gone { OnOk result (IsGone db.new (variable_of lit)) }
 {
     db.save(&[lit])?;
     for place in places {

@@ -1,3 +1,4 @@
+pub mod CountLemmas
 pub mod LoadLemmas
 pub mod NormalLemmas
 pub mod UnloadLemmas

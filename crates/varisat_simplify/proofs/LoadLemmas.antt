@@ -1,5 +1,5 @@
 -- The clauses of a formula are loaded.
-use Rattle.std.proofs.Common.{◌≡◌, ℕ, Bool, true, false, set, List, [], ◌∷◌, ◌++◌, inl, ⊎_elim, sym, ap, ◌∙◌, subst, refl, length, get_or, append_assoc, append-nil, arith}
+use Rattle.std.proofs.Common.{◌≡◌, ℕ, ◌+◌, ◌≤◌, Bool, true, false, set, List, [], ◌∷◌, ◌++◌, inl, ⊎_elim, sym, ap, ◌∙◌, subst, refl, length, get_or, append_assoc, append-nil, arith}
 use Rattle.varisat_theory.specs.promises.Held.{SameClauses}
 use Rattle.varisat_theory.proofs.clauses.Held.{same_set-self, same_clauses-self, same_clauses-through}
 use Rattle.varisat_theory.specs.promises.Derivations.{Delete, SpeakOf}
@@ -14,6 +14,8 @@ use Rattle.varisat_rules.specs.promises.Stacks.{extended}
 use Rattle.varisat_database.specs.Databases.{DatabaseState, no_clauses, given, removed, clause_at, IsLive, deletion}
 use Rattle.varisat_rules.specs.inside.States.{live_clauses, flagged, Models}
 use Rattle.varisat_simplify.specs.inside.Loading.{IsLoaded}
+use Rattle.varisat_simplify.specs.promises.Simplified.{literal_count}
+use Rattle.varisat_simplify.proofs.CountLemmas.{counted_more}
 use Rattle.varisat_theory.specs.promises.Searches.{IsTautology}
 use Rattle.varisat_theory.proofs.clauses.Assigned.{same_set_satisfied}
 use Rattle.varisat_rules.proofs.StateLemmas.{live_below, live_pushed, pushed_keeps, pushed_live, pushed_even, pushed_new, removed_even, removed_keeps, removed_live, satisfies_same}
@@ -30,6 +32,7 @@ pub record Loads (P rest : List Clause) (n : ℕ) (frozen : List Bool) (s : Data
   pub named : AreNamedBy P s.clauses
   pub spoken : SpeakOf (IsNamedBy P) s.lines
   pub empty : s.stack ≡ []
+  pub fewer : literal_count s.clauses + literal_count rest ≤ literal_count P
   pub count : s.var_count ≡ n
   pub flags : s.frozen ≡ frozen
 
@@ -45,9 +48,15 @@ loads_first P rest n frozen s e q = subst (λ (t : DatabaseState). Loads P rest 
   named = λ c l h m. absurd h;
   spoken = tt;
   empty = refl;
+  fewer = let e = ap literal_count q in omega (arith, e);
   count = refl;
   flags = refl;
 })
+
+-- one clause more, with no more literals than the next of the rest
+fewer_next : (cs rest tail : List Clause) (c e : Clause) (n : ℕ) → rest ≡ c ∷ tail → length e ≤ length c → literal_count cs + literal_count rest ≤ n →
+    literal_count (cs ++ e ∷ []) + literal_count tail ≤ n
+fewer_next cs rest tail c e n q short h = let a = ap literal_count q in let b = counted_more cs e in omega (arith, a, b, short, h)
 
 -- the rest begins with a clause
 moved : (P front rest tail : List Clause) (c : Clause) → front ++ rest ≡ P → rest ≡ c ∷ tail → (front ++ c ∷ []) ++ tail ≡ P
@@ -94,6 +103,7 @@ loads_skip P rest tail n frozen s t u c d i e x k q et eu r =
       spoken = told_removed P s.lines (get_or (given s c).live (length s.clauses) false) (clause_at (given s c) (length s.clauses))
           (λ l h. own l (subst (λ (y : Clause). l ∈ y) (pushed_new s c r.even).1 h)) r.spoken;
       empty = r.empty;
+      fewer = fewer_next s.clauses rest tail c c (literal_count P) e (omega arith) r.fewer;
       count = r.count;
       flags = r.flags;
     })
@@ -124,9 +134,9 @@ loads_skip P rest tail n frozen s t u c d i e x k q et eu r =
         (leads_delete P s.lines (live_clauses s ++ rest) c (live_clauses s ++ tail)
         (live_clauses s, c, tail, ap (λ (l : List Clause). live_clauses s ++ l) e, same_set-self c, refl) r.leads)))
 
-pub loads_give : (P rest tail : List Clause) (n : ℕ) (frozen : List Bool) (s t : DatabaseState) (c e d : Clause) → rest ≡ c ∷ tail → SameSet c e → d ≡ e → t ≡ given s d →
-    Loads P rest n frozen s → Loads P tail n frozen t
-loads_give P rest tail n frozen s t c e d q same eq qt r = subst (λ (u : DatabaseState). Loads P tail n frozen u) (sym (qt ∙ ap (λ (x : Clause). given s x) eq)) (record {
+pub loads_give : (P rest tail : List Clause) (n : ℕ) (frozen : List Bool) (s t : DatabaseState) (c e d : Clause) → rest ≡ c ∷ tail → SameSet c e →
+    length e ≤ length c → d ≡ e → t ≡ given s d → Loads P rest n frozen s → Loads P tail n frozen t
+loads_give P rest tail n frozen s t c e d q same short eq qt r = subst (λ (u : DatabaseState). Loads P tail n frozen u) (sym (qt ∙ ap (λ (x : Clause). given s x) eq)) (record {
   front = r.front ++ c ∷ [];
   whole = moved P r.front rest tail c r.whole q;
   even = pushed_even s e r.even;
@@ -148,6 +158,7 @@ loads_give P rest tail n frozen s t c e d q same eq qt r = subst (λ (u : Databa
   named = named_more P s.clauses e (λ l h. (c, in_whole P r.front rest tail c r.whole q, same.1 l h)) r.named;
   spoken = r.spoken;
   empty = r.empty;
+  fewer = fewer_next s.clauses rest tail c e (literal_count P) q short r.fewer;
   count = r.count;
   flags = r.flags;
 })
@@ -167,6 +178,8 @@ loads_end P rest n frozen s e r = record {
     thawed = λ c m. absurd (subst (λ (st : List Clause). c ∈ st) r.empty m);
   };
   same = subst (λ (l : List Clause). SameClauses l P) (ap (λ (l : List Clause). s.clauses ++ l) e ∙ append-nil s.clauses) r.same;
+  empty = r.empty;
+  fewer = let a = r.fewer in omega (arith, a);
   count = r.count;
   flags = r.flags;
 }

@@ -1,8 +1,8 @@
 -- The live clauses as a formula.
-use Rattle.std.proofs.Common.{◌≡◌, ℕ, zero, suc, ◌+◌, ◌/◌, ◌%◌, ◌<◌, ◌≤◌, Bool, true, false, nat_eq, List, [], ◌∷◌, ◌++◌, inl, inr, ⊎_elim, sym, ap, ◌∙◌, subst, refl, length, get_or, take, take_all, append-nil, append_assoc, add-one, max, arith, get_or-set_other}
+use Rattle.std.proofs.Common.{◌≡◌, ℕ, zero, suc, ◌+◌, ◌-◌, ◌/◌, ◌%◌, ◌<◌, ◌≤◌, Bool, true, false, nat_eq, List, [], ◌∷◌, ◌++◌, ◌⊎◌, inl, inr, ⊎_elim, sym, ap, ◌∙◌, subst, refl, length, get_or, take, take_all, append-nil, append_assoc, add-one, max, arith, get_or-set_other}
 use Rattle.varisat_theory.specs.promises.Membership.{◌∈◌}
 use Rattle.std.proofs.lemmas.List.{length-append}
-use Rattle.varisat_theory.specs.promises.Literals.{Literal, Clause}
+use Rattle.varisat_theory.specs.promises.Literals.{Literal, Clause, variable_of}
 use Rattle.varisat_theory.specs.promises.Derivations.{Line}
 use Rattle.varisat_theory.specs.promises.Held.{SameClauses}
 use Rattle.varisat_theory.proofs.clauses.Held.{same_clauses_find, same_clauses-back}
@@ -15,8 +15,8 @@ use Rattle.varisat_rules.specs.promises.Leading.{LeadsTo, AreNamedBy, HasVariabl
 use Rattle.varisat_formula.specs.promises.Values.{assignment_of}
 use Rattle.varisat_rules.specs.promises.Stacks.{extended, KeepsFrozen}
 use Rattle.varisat_database.specs.Databases.{DatabaseState, clause_at}
-use Rattle.varisat_rules.specs.inside.States.{flagged, live_clauses, DerivesFrom, IsLaterState}
-use Rattle.varisat_simplify.specs.promises.Simplified.{formula_over, Finishes, IsReduced, IsMadeOf, DerivesBehind, RefutesBehind, KeepsOthers}
+use Rattle.varisat_rules.specs.inside.States.{flagged, live_clauses, DerivesFrom, IsGone, LeadIsGone, IsSettled, IsLaterState}
+use Rattle.varisat_simplify.specs.promises.Simplified.{formula_over, literal_count, IsShorter, Finishes, IsReduced, IsMadeOf, DerivesBehind, RefutesBehind, KeepsOthers}
 use Rattle.varisat_rules.proofs.StateLemmas.{clause_held, satisfies_same}
 use Rattle.varisat_rules.proofs.ExtendLemmas.{amended_cases, keeps_frozen}
 use Rattle.varisat_rules.proofs.LeadingLemmas.{flagged_from, named_at, derives_behind, refutes_behind}
@@ -45,7 +45,7 @@ listing_first s f v e = record {
     none [] cs = refl
     none (b ∷ bs) cs = refl
 
-flagged_next : (bs : List Bool) (cs : List Clause) (i : ℕ) (b : Bool) → length bs ≡ length cs → get_or bs i false ≡ b → i < length cs →
+pub flagged_next : (bs : List Bool) (cs : List Clause) (i : ℕ) (b : Bool) → length bs ≡ length cs → get_or bs i false ≡ b → i < length cs →
     flagged (take (i + 1) bs) (take (i + 1) cs) ≡ flagged (take i bs) (take i cs) ++ flagged (b ∷ []) (get_or cs i [] ∷ [])
 flagged_next bs cs i b v e h = rw add-one (go bs cs i v e h)
   where
@@ -79,10 +79,14 @@ listing_add s f g i b c room e w q t r = subst (λ (h : Formula). Listing s h (i
       ∙ sym (flagged_next s.live s.clauses i true r.even (sym q ∙ t) room));
 })
 
+-- behind the last place are all that are live
+pub all_live : (s : DatabaseState) (i : ℕ) → i ≡ length s.clauses → length s.live ≡ length s.clauses → flagged (take i s.live) (take i s.clauses) ≡ live_clauses s
+all_live s i e v =
+    ap (λ (bs : List Bool). flagged bs (take i s.clauses)) (take_all i s.live (omega (arith, e, v)))
+    ∙ ap (λ (cs : List Clause). flagged s.live cs) (take_all i s.clauses (omega (arith, e)))
+
 pub listing_end : (s : DatabaseState) (f : Formula) (i : ℕ) → i ≡ length s.clauses → Listing s f i → f ≡ formula_over s.var_count (live_clauses s)
-listing_end s f i e r = r.same ∙ ap (λ (cs : List Clause). formula_over s.var_count cs)
-    (ap (λ (bs : List Bool). flagged bs (take i s.clauses)) (take_all i s.live (let v = r.even in omega (arith, e, v)))
-    ∙ ap (λ (cs : List Clause). flagged s.live cs) (take_all i s.clauses (omega (arith, e))))
+listing_end s f i e r = r.same ∙ ap (λ (cs : List Clause). formula_over s.var_count cs) (all_live s i e r.even)
 
 -- the clauses of a formula over a count of variables, and what it counts
 over_clauses : (n : ℕ) (cs : List Clause) → (formula_over n cs).clauses ≡ cs
@@ -124,11 +128,34 @@ counted_least n m P Q h a b = go (record no_clauses { var_count = n }) Q h (λ c
     go f [] h k = h
     go f (c ∷ cs) h k = let v = needed c (λ l i. k c l (inl refl) i) in go (with_one_more f c) cs (omega (arith, h, v)) (λ d l i j. k d l (inr i) j)
 
+-- where the first literals of saved clauses are of other variables
+keeps_value : (stack : List Clause) (vs : List Bool) (v : ℕ) → ((l : Literal) (c : Clause) → (l ∷ c) ∈ stack → l / 2 ≡ v → ⊥) →
+    get_or (extended stack vs) v false ≡ get_or vs v false
+keeps_value [] vs v h = refl
+keeps_value ([] ∷ stack) vs v h = keeps_value stack vs v (λ l c m. h l c (inr m))
+keeps_value ((l ∷ c) ∷ stack) vs v h =
+    ⊎_elim (λ e. ap (λ (x : List Bool). get_or x v false) e.1)
+    (λ e. ap (λ (x : List Bool). get_or x v false) e.1
+    ∙ get_or-set_other (extended stack vs) (l / 2) v (nat_eq (l % 2) 0) false (λ e. h l c (inl refl) (sym e)))
+    (amended_cases l c (extended stack vs))
+    ∙ keeps_value stack vs v (λ k d m. h k d (inr m))
+
+-- no extension changes a variable of a live clause
+keeps_live : (t : DatabaseState) (vs : List Bool) (v : ℕ) → IsSettled t → HasVariable (live_clauses t) v →
+    get_or (extended t.stack vs) v false ≡ get_or vs v false
+keeps_live t vs v settled (m, (d, present, has), named) = keeps_value t.stack vs v (λ l c h e.
+    let gone : IsGone t (variable_of l) = settled (l ∷ c) h in
+    let k = flagged_from t.live t.clauses d present in
+    gone.none k.0 m k.1 (subst (λ (y : Clause). m ∈ y) (sym k.2) has) (named ∙ sym e))
+
 -- what the live clauses of a state make that began with those of a formula
 pub made : (f g : Formula) (s t : DatabaseState) → DerivesFrom f.clauses s → AreBelow s.var_count f.clauses →
-    ((n : ℕ) → AreBelow n f.clauses → s.var_count ≤ n) → IsLaterState s t → g ≡ formula_over t.var_count (live_clauses t) → IsMadeOf f g t.stack t.lines
-made f g s t o d c b e =
+    ((n : ℕ) → AreBelow n f.clauses → s.var_count ≤ n) → s.stack ≡ [] → IsLaterState s t → g ≡ formula_over t.var_count (live_clauses t) →
+    IsMadeOf f g t.stack t.lines
+made f g s t o d c empty later e =
+    let b = later.continues in
     let r = b.reduces f.clauses o in
+    let settled = later.settles (λ x m. absurd (subst (λ (stack : List Clause). x ∈ stack) empty m)) in
     let same : g.clauses ≡ live_clauses t = ap (λ (h : Formula). h.clauses) e ∙ over_clauses t.var_count (live_clauses t) in
     let named : AreNamedBy f.clauses g.clauses = λ x l m h.
     let k = flagged_from t.live t.clauses x (subst (λ (y : List Clause). x ∈ y) same m) in
@@ -145,6 +172,7 @@ made f g s t o d c b e =
       extends = λ vs h m. r.extends vs (let d = b.count in let x = c (length vs) h in omega (arith, x, d))
           (λ k live. m (clause_at t k) (subst (λ (l : List Clause). clause_at t k ∈ l) (sym same) (clause_held t k r.even live)));
       leads = subst (λ (l : List Clause). LeadsTo f.clauses t.lines l) (sym same) r.leads;
+      kept = λ vs v h. keeps_live t vs v settled (subst (λ (l : List Clause). HasVariable l v) same h);
       named = named;
       spoken = r.spoken;
       saved = r.saved;
@@ -160,6 +188,7 @@ made_same f g e b k = record {
   extends = λ vs b h c m.
       let d = same_clauses_find f.clauses g.clauses (same_clauses-back g.clauses f.clauses e) c m in same_set_satisfied (assignment_of vs) d.0 c d.2.0 (h d.0 d.1);
   leads = record { present = f.clauses; steps = refl; same = e };
+  kept = λ vs v h. refl;
   named = λ c l m h. let d = same_clauses_find g.clauses f.clauses e c m in (d.0, d.1, d.2.1 l h);
   spoken = tt;
   saved = λ c l m h. absurd m;
@@ -170,6 +199,31 @@ take_first [] [] = refl
 take_first [] (y ∷ ys) = refl
 take_first (x ∷ xs) ys = ap (λ (l : List _). x ∷ l) (take_first xs ys)
 
+-- the first clauses are those that were loaded
+first_loaded : (P : List Clause) (n count : ℕ) (frozen : List Bool) (t : DatabaseState) → (r : IsReduced P n frozen count t) → take count t.clauses ≡ r.loaded.clauses
+first_loaded P n count frozen t r =
+    let more = r.becomes.continues.more in
+    ap (λ (l : List Clause). take count l) more.1 ∙ ap (λ k. take k (r.loaded.clauses ++ more.0)) r.whole ∙ take_first r.loaded.clauses more.0
+
+first_clauses : (g : Formula) (count : ℕ) (t : DatabaseState) → g ≡ formula_over t.var_count (take count t.clauses) → g.clauses ≡ take count t.clauses
+first_clauses g count t e = ap (λ (k : Formula). k.clauses) e ∙ over_clauses t.var_count (take count t.clauses)
+
+first_same : (P : List Clause) (g : Formula) (n count : ℕ) (frozen : List Bool) (t : DatabaseState) → IsReduced P n frozen count t →
+    g ≡ formula_over t.var_count (take count t.clauses) → SameClauses g.clauses P
+first_same P g n count frozen t r e =
+    subst (λ (l : List Clause). SameClauses l P) (sym (first_clauses g count t e ∙ first_loaded P n count frozen t r)) r.same
+
+-- what is handed out has the same clauses, or is shorter
+pub finished_shorter : (P : List Clause) (g : Formula) (n count : ℕ) (frozen : List Bool) (t : DatabaseState) (stack : List Clause) (lines : List Line) →
+    IsReduced P n frozen count t → Finishes t count g stack lines → SameClauses g.clauses P ⊎ IsShorter g.clauses P
+finished_shorter P g n count frozen t stack lines r (inl h) =
+    let left = ap literal_count (ap (λ (k : Formula). k.clauses) h.0 ∙ over_clauses t.var_count (live_clauses t)) in
+    let first = ap literal_count (first_loaded P n count frozen t r) in
+    let short = h.3 in
+    let fewer = r.fewer in
+    inr (omega (arith, left, first, short, fewer))
+finished_shorter P g n count frozen t stack lines r (inr h) = inl (first_same P g n count frozen t r h.0)
+
 -- what is handed out is made of what was loaded
 pub finished : (f g : Formula) (n count : ℕ) (frozen : List Bool) (t : DatabaseState) (stack : List Clause) (lines : List Line) → AreBelow n f.clauses →
     ((m : ℕ) → AreBelow m f.clauses → n ≤ m) →
@@ -177,7 +231,7 @@ pub finished : (f g : Formula) (n count : ℕ) (frozen : List Bool) (t : Databas
 finished f g n count frozen t stack lines below least r (inl h) =
     subst (λ (st : List Clause). IsMadeOf f g st lines) (sym h.1) (subst (λ (ls : List Line). IsMadeOf f g t.stack ls) (sym h.2)
     (made f g r.loaded t r.reduces (subst (λ m. AreBelow m f.clauses) (sym r.vars) below)
-    (λ m b. let v = r.vars in let l = least m b in omega (arith, v, l)) r.becomes h.0))
+    (λ m b. let v = r.vars in let l = least m b in omega (arith, v, l)) r.empty r.becomes h.0))
 finished f g n count frozen t stack lines below least r (inr h) =
     subst (λ (st : List Clause). IsMadeOf f g st lines) (sym h.1) (subst (λ (ls : List Line). IsMadeOf f g [] ls) (sym h.2)
     (made_same f g same
@@ -188,19 +242,17 @@ finished f g n count frozen t stack lines below least r (inr h) =
     (λ c l i j. let d = same_clauses_find g.clauses f.clauses same c i in (d.0, d.1, d.2.1 l j))) b))))
   where
     vars : t.var_count ≡ n
-    vars = r.becomes.count ∙ r.vars
+    vars = r.becomes.continues.count ∙ r.vars
 
     e : g.clauses ≡ take count t.clauses
-    e = ap (λ (k : Formula). k.clauses) h.0 ∙ over_clauses t.var_count (take count t.clauses)
+    e = first_clauses g count t h.0
 
     same : SameClauses g.clauses f.clauses
-    same = subst (λ (l : List Clause). SameClauses l f.clauses)
-        (sym (e ∙ ap (λ (l : List Clause). take count l) r.becomes.more.1 ∙ ap (λ k. take k (r.loaded.clauses ++ r.becomes.more.0)) r.whole
-        ∙ take_first r.loaded.clauses r.becomes.more.0)) r.same
+    same = first_same f.clauses g n count frozen t r h.0
 
 -- no extension changes a frozen variable
 pub stays_frozen : (P : List Clause) (s t : DatabaseState) (frozen : List Bool) → DerivesFrom P s → s.frozen ≡ frozen → IsLaterState s t → KeepsFrozen frozen t.stack
-stays_frozen P s t frozen o e b = subst (λ (f : List Bool). KeepsFrozen f t.stack) (b.frozen ∙ e) (keeps_frozen t.frozen t.stack (b.reduces P o).thawed)
+stays_frozen P s t frozen o e b = subst (λ (f : List Bool). KeepsFrozen f t.stack) (b.continues.frozen ∙ e) (keeps_frozen t.frozen t.stack (b.continues.reduces P o).thawed)
 
 -- none that what is handed out makes
 pub finished_frozen : (P : List Clause) (g : Formula) (n count : ℕ) (frozen : List Bool) (t : DatabaseState) (stack : List Clause) (lines : List Line) →
@@ -212,19 +264,16 @@ finished_frozen P g n count frozen t stack lines r (inr h) = subst (λ (st : Lis
 -- the clauses that were loaded are among those of the state
 pub reduced_room : (P : List Clause) (n count : ℕ) (frozen : List Bool) (t : DatabaseState) → IsReduced P n frozen count t → count ≤ length t.clauses
 reduced_room P n count frozen t r =
-    let e = ap length r.becomes.more.1 ∙ length-append r.loaded.clauses r.becomes.more.0 in let w = r.whole in omega (arith, e, w)
+    let more = r.becomes.continues.more in
+    let e = ap length more.1 ∙ length-append r.loaded.clauses more.0 in let w = r.whole in omega (arith, e, w)
 
 -- none of the first
 pub first_none : (n : ℕ) (f : Formula) (cs : List Clause) → f ≡ record no_clauses { var_count = max 0 n } → f ≡ formula_over n (take 0 cs)
 first_none n f [] e = e ∙ ap (λ k. record no_clauses { var_count = k }) (largest n)
 first_none n f (c ∷ cs) e = e ∙ ap (λ k. record no_clauses { var_count = k }) (largest n)
 
--- one clause more of the first
-pub first_next : (f g : Formula) (n : ℕ) (cs : List Clause) (i : ℕ) (c : Clause) → i < length cs → g ≡ with_one_more f c → c ≡ get_or cs i [] →
-    f ≡ formula_over n (take i cs) → g ≡ formula_over n (take (i + 1) cs)
-first_next f g n cs i c h e q r =
-    e ∙ ap (λ (x : Formula). with_one_more x c) r ∙ over_more n (take i cs) c
-    ∙ ap (λ (l : List Clause). formula_over n l) (ap (λ (x : Clause). take i cs ++ x ∷ []) q ∙ sym next)
+pub take_next : (cs : List Clause) (i : ℕ) → i < length cs → take (i + 1) cs ≡ take i cs ++ get_or cs i [] ∷ []
+take_next cs i h = rw add-one (go cs i h)
   where
     go : (xs : List Clause) (k : ℕ) → k < length xs → take (suc k) xs ≡ take k xs ++ get_or xs k [] ∷ []
     go [] k n = absurd (omega (arith, n))
@@ -235,24 +284,16 @@ first_next f g n cs i c h e q r =
         none (y ∷ ys) = refl
     go (x ∷ xs) (suc k) n = ap (λ (l : List Clause). x ∷ l) (go xs k (omega (arith, n)))
 
-    next : take (i + 1) cs ≡ take i cs ++ get_or cs i [] ∷ []
-    next = rw add-one (go cs i h)
-
--- where the first literals of saved clauses are of other variables
-keeps_value : (stack : List Clause) (vs : List Bool) (v : ℕ) → ((c : Clause) (l : Literal) → c ∈ stack → l ∈ c → l / 2 ≡ v → ⊥) →
-    get_or (extended stack vs) v false ≡ get_or vs v false
-keeps_value [] vs v h = refl
-keeps_value ([] ∷ stack) vs v h = keeps_value stack vs v (λ c l m. h c l (inr m))
-keeps_value ((l ∷ c) ∷ stack) vs v h =
-    ⊎_elim (λ e. ap (λ (x : List Bool). get_or x v false) e.1)
-    (λ e. ap (λ (x : List Bool). get_or x v false) e.1
-    ∙ get_or-set_other (extended stack vs) (l / 2) v (nat_eq (l % 2) 0) false (λ e. h (l ∷ c) l (inl refl) (inl refl) (sym e)))
-    (amended_cases l c (extended stack vs))
-    ∙ keeps_value stack vs v (λ d m i. h d m (inr i))
+-- one clause more of the first
+pub first_next : (f g : Formula) (n : ℕ) (cs : List Clause) (i : ℕ) (c : Clause) → i < length cs → g ≡ with_one_more f c → c ≡ get_or cs i [] →
+    f ≡ formula_over n (take i cs) → g ≡ formula_over n (take (i + 1) cs)
+first_next f g n cs i c h e q r =
+    e ∙ ap (λ (x : Formula). with_one_more x c) r ∙ over_more n (take i cs) c
+    ∙ ap (λ (l : List Clause). formula_over n l) (ap (λ (x : Clause). take i cs ++ x ∷ []) q ∙ sym (take_next cs i h))
 
 pub others_kept : KeepsOthers
 others_kept f g stack lines m vs v n =
-    keeps_value stack vs v (λ c l i h e. n (subst (λ u. HasVariable f.clauses u) e (m.saved c l i h)))
+    keeps_value stack vs v (λ l c h e. n (subst (λ u. HasVariable f.clauses u) e (m.saved (l ∷ c) l h (inl refl))))
 
 pub derives_made : DerivesBehind
 derives_made f g stack lines more m d = derives_behind f.clauses lines g.clauses more m.leads d

@@ -1,5 +1,5 @@
 //! Clauses in which no literal stands twice.
-ghost use Rattle.std.specs.Prelude.{◌≡◌, true, false, IfOk, MatchBool};
+ghost use Rattle.std.specs.Prelude.{◌≡◌, ◌≤◌, true, false, length, IfOk, IsTrue, MatchBool};
 ghost use Rattle.varisat_theory.specs.promises.Membership.{SameSet};
 ghost use Rattle.varisat_theory.specs.promises.Searches.{IsTautology};
 
@@ -30,7 +30,8 @@ pub fn normalize<A: Allocator + Copy>(
     clause: &[Lit],
     out: &mut Vec<Lit, A>,
 ) -> Result<bool, AllocError>
-    ensures { IfOk result (λ b. MatchBool b (SameSet clause.now out.new.items) (IsTautology clause.now)) }
+    ensures same { IfOk result (λ b. MatchBool b (SameSet clause.now out.new.items) (IsTautology clause.now)) }
+    ensures fewer { IfOk result (λ b. IsTrue b → length out.new.items ≤ length clause.now) }
 {
     out.clear();
     if clause.len() > MOST_LITERALS {

@@ -1,12 +1,13 @@
 //! The simplification of a formula.
-ghost use Rattle.std.specs.Prelude.{◌≡◌, ℕ, ◌/◌, ◌<◌, ◌≤◌, ◌^◌, length, take, OnOk, IfOk, IfErr};
+ghost use Rattle.std.specs.Prelude.{◌≡◌, ◌⊎◌, ℕ, ◌-◌, ◌/◌, ◌<◌, ◌≤◌, ◌^◌, true, min, length, take, OnOk, IfOk, IfErr, IsTrue};
 ghost use Rattle.varisat_formula.specs.declared.formula.cnf.FormulaError.TheVariants.{Memory};
 ghost use Rattle.varisat_formula.specs.promises.Formulas.{AllBelow, AreBelow};
 ghost use Rattle.varisat_database.specs.Databases.{no_clauses};
 ghost use Rattle.varisat_rules.specs.inside.States.{live_clauses, IsLaterState};
 ghost use Rattle.varisat_simplify.specs.inside.Loading.{IsLoaded};
 ghost use Rattle.varisat_rules.specs.promises.Stacks.{extended, KeepsFrozen};
-ghost use Rattle.varisat_simplify.specs.promises.Simplified.{formula_over, Finishes, IsReduced, IsMadeOf};
+ghost use Rattle.varisat_simplify.specs.promises.Simplified.{formula_over, literal_count, IsShorter, Finishes, IsReduced, IsMadeOf};
+ghost use Rattle.varisat_theory.specs.promises.Held.{SameClauses};
 
 use crate::eliminate::{Scratch, eliminate};
 use crate::normal::{is_normal, normalize};
@@ -249,20 +250,38 @@ fn reduce<A: Allocator + Copy>(
     Ok(count)
 }
 
-/// Whether the live clauses have at most 19 of 20 of the literals that the clauses at the first places have.
-fn is_shorter<A: Allocator + Copy>(db: &Database<A>, count: usize) -> bool {
-    let mut before: usize = 0;
-    let mut left: usize = 0;
+/// How many literals the clauses at the first places have, live or not.
+fn first_literals<A: Allocator + Copy>(db: &Database<A>, count: usize) -> usize
+    requires { count ≤ length db.now.clauses }
+    ensures { result ≡ min (literal_count (take count db.now.clauses)) (2 ^ 64 - 1) }
+{
+    let mut sum: usize = 0;
+    for place in 0..count {
+        sum = sum.saturating_add(db.clause(place).len());
+    }
+    sum
+}
+
+/// How many literals the live clauses have.
+fn live_literals<A: Allocator + Copy>(db: &Database<A>) -> usize
+    ensures { result ≡ min (literal_count (live_clauses db.now)) (2 ^ 64 - 1) }
+{
+    let mut sum: usize = 0;
     for place in 0..db.len() {
-        let literals = db.clause(place).len();
-        if place < count {
-            before = before.saturating_add(literals);
-        }
         if db.is_live(place) {
-            left = left.saturating_add(literals);
+            sum = sum.saturating_add(db.clause(place).len());
         }
     }
-    left <= before - before / 20
+    sum
+}
+
+/// Whether the live clauses have at most 19 of 20 of the literals that the clauses at the first places have.
+fn is_shorter<A: Allocator + Copy>(db: &Database<A>, count: usize) -> bool
+    requires { count ≤ length db.now.clauses }
+    ensures { IsTrue result → IsShorter (live_clauses db.now) (take count db.now.clauses) }
+{
+    let before = first_literals(db, count);
+    live_literals(db) <= before - before / 20
 }
 
 /// What was loaded, as it is.
@@ -289,6 +308,7 @@ fn hand_out<A: Allocator + Copy>(
     db: Database<A>,
     count: usize,
 ) -> Result<Simplified<A>, FormulaError>
+    requires { IsShorter (live_clauses db) (take count db.clauses) }
     ensures made { IfOk result (λ s. Finishes db count s.formula s.stack s.history.lines) }
     ensures memory { IfErr result (λ e. e ≡ Memory) }
 {
@@ -321,9 +341,9 @@ fn finish<A: Allocator + Copy>(
 
 /// Makes a formula that has a model just where the given one has, and whose models are extended to ones of it. It
 /// counts the variables up to the highest that the given one names. Variables that are flagged in `frozen` are not
-/// resolved away, and no extension changes their values, or those of variables that the given one does not name. A
-/// formula that would hardly become shorter stays. The given one's memory is given back early. The only error is out
-/// of memory.
+/// resolved away, and no extension changes their values, those of variables that are left, or those of variables that
+/// the given one does not name. A formula stays of which more than 19 of 20 of the literals would be left. The given
+/// one's memory is given back early. The only error is out of memory.
 pub fn simplify<A: Allocator + Copy>(
     alloc: A,
     formula: CnfFormula<A>,
@@ -331,6 +351,8 @@ pub fn simplify<A: Allocator + Copy>(
 ) -> Result<Simplified<A>, FormulaError>
     ensures made { IfOk result (λ s. IsMadeOf formula s.formula s.stack s.history.lines) }
     ensures frozen { IfOk result (λ s. KeepsFrozen frozen.now s.stack) }
+    ensures shorter { IfOk result (λ s.
+        SameClauses s.formula.clauses formula.clauses ⊎ IsShorter s.formula.clauses formula.clauses) }
     ensures memory { IfErr result (λ e. e ≡ Memory) }
 {
     let count = named_count(&formula);

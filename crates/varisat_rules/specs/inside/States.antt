@@ -1,7 +1,7 @@
 -- What a database has to do with the clauses that it was made of.
 use Rattle.std.specs.Prelude.{◌≡◌, ℕ, ◌/◌, ◌<◌, ◌≤◌, Bool, true, false, List, [], ◌∷◌, ◌++◌, ◌⊎◌, length, take, slice_index_or}
 use Rattle.varisat_theory.specs.promises.Membership.{◌∈◌}
-use Rattle.varisat_theory.specs.promises.Literals.{Literal, Clause, Assignment, opposite, value, Satisfies, SatisfiesAll}
+use Rattle.varisat_theory.specs.promises.Literals.{Literal, Clause, Assignment, opposite, variable_of, value, Satisfies, SatisfiesAll}
 use Rattle.varisat_theory.specs.promises.Derivations.{SpeakOf}
 use Rattle.varisat_formula.specs.promises.Values.{assignment_of}
 use Rattle.varisat_rules.specs.promises.Stacks.{extended, avoids}
@@ -50,12 +50,37 @@ pub record DerivesFrom (P : List Clause) (s : DatabaseState) : Type 0 where
   -- the stack changes no frozen variable
   pub thawed : (c : Clause) → c ∈ s.stack → avoids s.frozen c ≡ true
 
+-- no live clause has the variable
+pub record IsGone (s : DatabaseState) (v : ℕ) : Type 0 where
+  pub even : length s.live ≡ length s.clauses
+  pub none : (k : ℕ) (l : Literal) → IsLive s k → l ∈ clause_at s k → variable_of l ≡ v → ⊥
+
+-- so it is of the variable of a clause's first literal
+abbrev pub LeadIsGone : DatabaseState → Clause → Type 0
+LeadIsGone s [] = Unit {0}
+LeadIsGone s (l ∷ c) = IsGone s (variable_of l)
+
+-- so it is of each clause of the stack, which then changes no variable of a live clause
+abbrev pub IsSettled : DatabaseState → Type 0
+IsSettled s = (c : Clause) → c ∈ s.stack → LeadIsGone s c
+
 -- What a state becomes says what it said, and has its clauses first.
-pub record IsLaterState (s t : DatabaseState) : Type 0 where
+pub record Continues (s t : DatabaseState) : Type 0 where
   pub more : (rest : List Clause) × (t.clauses ≡ s.clauses ++ rest)
   pub count : t.var_count ≡ s.var_count
   pub frozen : t.frozen ≡ s.frozen
   pub reduces : (P : List Clause) → DerivesFrom P s → DerivesFrom P t
+  -- no variable comes back
+  pub gone : (v : ℕ) → IsGone s v → IsGone t v
+
+-- The same between two steps of a simplification: the variables of what was saved are gone.
+pub record IsLaterState (s t : DatabaseState) : Type 0 where
+  pub continues : Continues s t
+  pub settles : IsSettled s → IsSettled t
+
+-- what was saved begins with the literal
+abbrev pub SavesLed : DatabaseState → DatabaseState → Literal → Type 0
+SavesLed s t l = (c : Clause) → c ∈ t.stack → (c ∈ s.stack) ⊎ ((rest : Clause) × (c ≡ l ∷ rest))
 
 -- the assignment satisfies the live clauses without the literal and its opposite
 abbrev pub ModelsRest : Literal → Assignment → DatabaseState → Type 0
@@ -89,15 +114,16 @@ pub record ResolvesPairs (s t : DatabaseState) (l : Literal) (w g : List ℕ) (x
 
 -- The clauses with the literal are saved and removed, up to the one at index x.
 pub record SavesClauses (s t : DatabaseState) (l : Literal) (w g : List ℕ) (x : ℕ) : Type 0 where
-  pub becomes : IsLaterState s t
+  pub becomes : Continues s t
+  pub led : SavesLed s t l
   pub others : Collects t (opposite l) g
   pub ones : (k : ℕ) → IsLive t k → l ∈ clause_at t k → (y : ℕ) × (x ≤ y) × (y < length w) × (slice_index_or w y 0 ≡ k)
   pub each : (k : ℕ) → k ∈ w → l ∈ clause_at t k
   pub apart : (k : ℕ) → k ∈ w → opposite l ∈ clause_at t k → ⊥
   pub pairs : (i j : ℕ) → i ∈ w → j ∈ g → IsPairResolved t l i j
 
--- The literal was saved, and of the live clauses only such with it were removed.
-pub record Drops (s t : DatabaseState) (m : Literal) : Type 0 where
+-- The literal was saved, and of the live clauses only such with it were removed, as far as the places were read.
+pub record Drops (s t : DatabaseState) (m : Literal) (places : List ℕ) (x : ℕ) : Type 0 where
   pub count : t.var_count ≡ s.var_count
   pub frozen : t.frozen ≡ s.frozen
   pub same : t.clauses ≡ s.clauses
@@ -105,4 +131,5 @@ pub record Drops (s t : DatabaseState) (m : Literal) : Type 0 where
   pub even : length t.live ≡ length s.live
   pub fewer : (k : ℕ) → IsLive t k → IsLive s k
   pub kept : (k : ℕ) → IsLive s k → (m ∈ clause_at s k → ⊥) → IsLive t k
+  pub dropped : (k : ℕ) → k ∈ take x places → IsLive t k → ⊥
   pub tells : (P : List Clause) → DerivesFrom P s → LeadsTo P t.lines (live_clauses t) × SpeakOf (IsNamedBy P) t.lines

@@ -1,5 +1,5 @@
 -- What a simplified formula is.
-use Rattle.std.specs.Prelude.{◌≡◌, ℕ, ◌≤◌, Bool, false, List, [], ◌++◌, ◌⊎◌, length, take, slice_index_or}
+use Rattle.std.specs.Prelude.{◌≡◌, ℕ, ◌+◌, ◌-◌, ◌/◌, ◌≤◌, Bool, false, List, [], ◌∷◌, ◌++◌, ◌⊎◌, length, take, slice_index_or}
 use Rattle.varisat_theory.specs.promises.Literals.{Clause, Assignment, SatisfiesAll}
 use Rattle.varisat_theory.specs.promises.Derivations.{Line, IsDerivation, Refutes, SpeakOf}
 use Rattle.varisat_theory.specs.promises.Held.{SameClauses}
@@ -14,20 +14,32 @@ use Rattle.varisat_rules.specs.inside.States.{live_clauses, DerivesFrom, IsLater
 abbrev pub formula_over : ℕ → List Clause → Formula
 formula_over n cs = with_more (record no_clauses { var_count = n }) cs
 
+-- how many literals the clauses have
+abbrev pub literal_count : List Clause → ℕ
+literal_count [] = 0
+literal_count (c ∷ cs) = length c + literal_count cs
+
+-- the clauses Q have at most 19 of 20 of the literals of P
+abbrev pub IsShorter : List Clause → List Clause → Type 0
+IsShorter Q P = literal_count Q ≤ literal_count P - literal_count P / 20
+
 -- The clauses P were loaded, so many of them, and the state was made of that.
 pub record IsReduced (P : List Clause) (n : ℕ) (frozen : List Bool) (count : ℕ) (t : DatabaseState) : Type 0 where
   pub loaded : DatabaseState
   pub reduces : DerivesFrom P loaded
   pub same : SameClauses loaded.clauses P
+  pub empty : loaded.stack ≡ []
+  pub fewer : literal_count loaded.clauses ≤ literal_count P
   pub becomes : IsLaterState loaded t
   pub vars : loaded.var_count ≡ n
   pub flags : loaded.frozen ≡ frozen
   pub whole : count ≡ length loaded.clauses
 
--- What is handed out is what is live, or the first clauses as they are.
+-- What is handed out is what is live, where that is shorter than the first clauses, or these as they are.
 abbrev pub Finishes : DatabaseState → ℕ → Formula → List Clause → List Line → Type 0
 Finishes s count g stack lines =
-    ((g ≡ formula_over s.var_count (live_clauses s)) × (stack ≡ s.stack) × (lines ≡ s.lines)) ⊎
+    ((g ≡ formula_over s.var_count (live_clauses s)) × (stack ≡ s.stack) × (lines ≡ s.lines)
+    × IsShorter (live_clauses s) (take count s.clauses)) ⊎
     ((g ≡ formula_over s.var_count (take count s.clauses)) × (stack ≡ []) × (lines ≡ []))
 
 -- The formula g was made of f. The stack extends its models, and the lines are a proof that leads to it.
@@ -46,6 +58,9 @@ pub record IsMadeOf (f g : Formula) (stack : List Clause) (lines : List Line) : 
   -- the literals of g and of the lines are some of f
   pub named : AreNamedBy f.clauses g.clauses
   pub spoken : SpeakOf (IsNamedBy f.clauses) lines
+  -- no extension changes the value of a variable that g names
+  pub kept : (vs : List Bool) (v : ℕ) → HasVariable g.clauses v →
+      slice_index_or (extended stack vs) v false ≡ slice_index_or vs v false
   -- the variables of the stack are some of f
   pub saved : HasVariablesOf f.clauses stack
 

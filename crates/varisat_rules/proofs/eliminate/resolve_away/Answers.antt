@@ -1,7 +1,7 @@
 use Rattle.std.proofs.Common.{◌/◌, false, inl, inr, get_or, refl, sym, ◌∙◌}
-use Rattle.varisat_rules.proofs.StateLemmas.{becomes_then}
+use Rattle.varisat_rules.proofs.StateLemmas.{continues_then}
 use Rattle.varisat_rules.proofs.EliminateSteps.{saves_from, small_opposite, pure_opposite, thawed_opposite}
-use Rattle.varisat_rules.proofs.EliminateLemmas.{occurs_resolved}
+use Rattle.varisat_rules.proofs.EliminateLemmas.{occurs_resolved, resolved_away}
 use Rattle.varisat_rules.proofs.eliminate.resolve_away.Goals as goal
 use Rattle.varisat_rules.proofs.eliminate.resolve_away.Goals.{else-is_empty-via-then-is_empty+else-is_empty-2, else-is_empty-via-else-is_empty}
 
@@ -13,12 +13,12 @@ save_all-requires-clause-saves g c =
 pub save_literal-requires-clause-small : goal.save_literal-requires-clause-small
 save_literal-requires-clause-small g c =
     small_opposite c.args.lit c.not.result c.args.db.now.var_count c.save_all.new.db.var_count (c.args.lit / 2) c.not.ensures refl c.requires.small
-    (sym ((c.in_ok-save_all.ensures {u = tt}).becomes.count ∙ c.add_resolvents.ensures.becomes.count))
+    (sym ((c.in_ok-save_all.ensures {u = tt}).becomes.count ∙ c.add_resolvents.ensures.becomes.continues.count))
 
 pub save_literal-requires-clause-thawed : goal.save_literal-requires-clause-thawed
 save_literal-requires-clause-thawed g c =
     thawed_opposite c.args.lit c.not.result c.save_all.new.db.frozen c.args.db.now.frozen (get_or c.args.db.now.frozen (c.args.lit / 2) false) c.not.ensures
-    ((c.in_ok-save_all.ensures {u = tt}).becomes.frozen ∙ c.add_resolvents.ensures.becomes.frozen) refl c.requires.thawed
+    ((c.in_ok-save_all.ensures {u = tt}).becomes.frozen ∙ c.add_resolvents.ensures.becomes.continues.frozen) refl c.requires.thawed
 
 pub save_literal-requires-clause-pure : goal.save_literal-requires-clause-pure
 save_literal-requires-clause-pure g c =
@@ -27,8 +27,8 @@ save_literal-requires-clause-pure g c =
 pub save_literal-requires-clause-occurs : goal.save_literal-requires-clause-occurs
 save_literal-requires-clause-occurs g c =
     occurs_resolved c.args.db.now c.save_all.new.db c.args.lit c.not.result c.args.with.now c.args.against.now c.not.ensures c.requires.with
-    (c.in_ok-save_all.ensures {u = tt}).rest (becomes_then c.args.db.now c.add_resolvents.new.db c.save_all.new.db
-    c.add_resolvents.ensures.becomes (c.in_ok-save_all.ensures {u = tt}).becomes)
+    (c.in_ok-save_all.ensures {u = tt}).rest (continues_then c.args.db.now c.add_resolvents.new.db c.save_all.new.db
+    c.add_resolvents.ensures.becomes.continues (c.in_ok-save_all.ensures {u = tt}).becomes)
     (elim c.else-is_empty.branch [
       | else-is_empty-via-then-is_empty+else-is_empty-2 w ↦ inr (w.if-is_empty-2.ensures {u = tt})
       | else-is_empty-via-else-is_empty w ↦ inl (w.if-is_empty.ensures {u = tt})
@@ -36,5 +36,7 @@ save_literal-requires-clause-occurs g c =
 
 pub returns : goal.returns
 returns g c =
-    becomes_then c.args.db.now c.save_all.new.db c.save_literal.new.db (becomes_then c.args.db.now c.add_resolvents.new.db c.save_all.new.db
-    c.add_resolvents.ensures.becomes (c.in_ok-save_all.ensures {u = tt}).becomes) (c.in_ok-save_literal.ensures {u = tt})
+    let saves = c.in_ok-save_all.ensures {u = tt} in
+    let drops = c.in_ok-save_literal.ensures {u = tt} in
+    resolved_away c.args.db.now c.add_resolvents.new.db c.save_all.new.db c.save_literal.new.db c.args.lit c.not.result c.not.ensures
+    c.add_resolvents.ensures.becomes saves.becomes saves.led drops.becomes drops.led drops.gone

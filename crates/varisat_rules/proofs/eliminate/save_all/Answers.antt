@@ -15,6 +15,9 @@ loop-place-preserved g c =
 pub returns-clause-becomes : goal.returns-clause-becomes
 returns-clause-becomes g c = c.loop-place.invariant.becomes
 
+pub returns-clause-led : goal.returns-clause-led
+returns-clause-led g c = c.loop-place.invariant.led
+
 pub returns-clause-pure : goal.returns-clause-pure
 returns-clause-pure g c =
     saves_end c.args.db.now c.loop-place.db c.args.lit c.args.with.now c.args.against.now c.loop-place.place-index c.loop-place-test.false c.loop-place.invariant

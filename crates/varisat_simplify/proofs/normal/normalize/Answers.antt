@@ -6,11 +6,11 @@ use Rattle.varisat_simplify.proofs.NormalLemmas.{set_same, set_added, set_all, t
 use Rattle.varisat_simplify.proofs.normal.normalize.Goals as goal
 use Rattle.varisat_simplify.proofs.normal.normalize.Goals.{in-Same, in-Absent+in_ok-push-in-Absent}
 
-pub returns-in-Opposite : goal.returns-in-Opposite
-returns-in-Opposite g c =
+pub returns-in-Opposite-clause-same : goal.returns-in-Opposite-clause-same
+returns-in-Opposite-clause-same g c =
     tautology_at c.args.clause.now c.loop-lit.out.items c.loop-lit.lit-index c.lit-item.result c.loop-lit-test.true
     (item_at c.args.clause.now c.loop-lit.lit-index c.lit-item.result c.loop-lit-test.true c.lit-item.is)
-    (subst (λ (x : List ℕ). opposite c.lit-item.result ∈ x) c.deref.ensures.value (c.in-Opposite.ensures {u = tt})) c.loop-lit.invariant
+    (subst (λ (x : List ℕ). opposite c.lit-item.result ∈ x) c.deref.ensures.value (c.in-Opposite.ensures {u = tt})) c.loop-lit.invariant.0
 
 pub loop-lit-preserved : goal.loop-lit-preserved
 loop-lit-preserved g c =
@@ -22,5 +22,5 @@ loop-lit-preserved g c =
           c.lit-item.result c.loop-lit-test.true at (ap (λ v. v.items) w.out-is ∙ w.in_ok-push-in-Absent.ensures.items) c.loop-lit.invariant
     ]
 
-pub returns : goal.returns
-returns g c = set_all c.args.clause.now c.loop-lit.out.items c.loop-lit.lit-index c.loop-lit-test.false c.loop-lit.invariant
+pub returns-clause-same : goal.returns-clause-same
+returns-clause-same g c = set_all c.args.clause.now c.loop-lit.out.items c.loop-lit.lit-index c.loop-lit-test.false c.loop-lit.invariant.0

@@ -10,6 +10,8 @@ returns-clause-reduced g c =
       loaded = c.load.new.db;
       reduces = r.reduces;
       same = r.same;
+      empty = r.empty;
+      fewer = r.fewer;
       becomes = becomes_next c.load.new.db c.run.new.db c.unlist.new.self
           (becomes_then c.load.new.db c.list_all.new.self c.run.new.db
           (becomes_next c.load.new.db c.propagate.new.db c.list_all.new.self (c.in_ok-propagate.ensures {u = tt}) c.list_all.ensures)

@@ -2,7 +2,7 @@ use Rattle.std.proofs.Common.{List, Bool, ◌≤◌, sym, ap, subst}
 use Rattle.varisat_formula.specs.promises.Formulas.{AreBelow}
 use Rattle.varisat_rules.specs.promises.Stacks.{KeepsFrozen}
 use Rattle.varisat_database.specs.Databases.{DatabaseState}
-use Rattle.varisat_simplify.proofs.UnloadLemmas.{finished, finished_frozen}
+use Rattle.varisat_simplify.proofs.UnloadLemmas.{finished, finished_frozen, finished_shorter}
 use Rattle.varisat_simplify.proofs.simplify.simplify.Goals as goal
 
 pub returns-clause-made : goal.returns-clause-made
@@ -18,3 +18,8 @@ returns-clause-frozen g c =
     subst (λ (f : List Bool). KeepsFrozen f c.in_ok-made.made.stack) (ap (λ (s : DatabaseState). s.frozen) (c.in_ok-db.ensures {u = tt}))
     (finished_frozen c.args.formula.clauses c.in_ok-made.made.formula c.in_ok-db.db.var_count c.in_ok-given.given c.in_ok-db.db.frozen c.reduce.new.db
     c.in_ok-made.made.stack c.in_ok-made.made.history.lines (c.in_ok-given.ensures {u = tt}).reduced (c.in_ok-made.ensures {u = tt}).made)
+
+pub returns-clause-shorter : goal.returns-clause-shorter
+returns-clause-shorter g c =
+    finished_shorter c.args.formula.clauses c.in_ok-made.made.formula c.in_ok-db.db.var_count c.in_ok-given.given c.in_ok-db.db.frozen c.reduce.new.db
+    c.in_ok-made.made.stack c.in_ok-made.made.history.lines (c.in_ok-given.ensures {u = tt}).reduced (c.in_ok-made.ensures {u = tt}).made

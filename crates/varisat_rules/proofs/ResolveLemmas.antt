@@ -6,7 +6,7 @@ use Rattle.varisat_theory.specs.promises.Literals.{Literal, Clause, opposite}
 use Rattle.varisat_theory.proofs.clauses.Members.{∈-append_left, ∈-append_right, ∈-append_cases}
 use Rattle.varisat_theory.proofs.clauses.Places.{∈-get_or, ∈-take_more, ∈-take_all}
 use Rattle.varisat_theory.proofs.clauses.Values.{same_or_opposite}
-use Rattle.varisat_rules.specs.inside.Resolving.{LeavesOut, Resolves, Clashes}
+use Rattle.varisat_rules.specs.inside.Resolving.{IsOfOthers, LeavesOut, Resolves, Clashes}
 use Rattle.varisat_rules.specs.promises.Stacks.{amended, extended}
 
 -- no element is among the first none
@@ -59,6 +59,15 @@ unseen_more c i l m e n f h = ⊎_elim f (λ q. n (e ∙ sym q)) (∈-take_more 
 
 pub unseen_all : (c : Clause) (i l : ℕ) → length c ≤ i → (l ∈ take i c → ⊥) → l ∈ c → ⊥
 unseen_all c i l h f m = f (∈-take_all l c i h m)
+
+pub others_none : (c : Clause) (l : Literal) → IsOfOthers (take 0 c) l
+others_none c l m h e = none_taken m c h
+
+pub others_more : (c : Clause) (i l m : ℕ) → m ≡ get_or c i 0 → (m / 2 ≡ l / 2 → ⊥) → IsOfOthers (take i c) l → IsOfOthers (take (i + 1) c) l
+others_more c i l m e n r k h q = ⊎_elim (λ a. r k a q) (λ p. n (ap (λ x. x / 2) (e ∙ sym p) ∙ q)) (∈-take_more k c i 0 h)
+
+pub others_all : (c : Clause) (i l : ℕ) → length c ≤ i → IsOfOthers (take i c) l → IsOfOthers c l
+others_all c i l h r m k = r m (∈-take_all m c i h k)
 
 -- the literals but for one
 pub leaves_none : (c : Clause) (l : Literal) (e : Clause) → e ≡ [] → LeavesOut (take 0 c) l e

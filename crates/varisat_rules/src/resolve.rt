@@ -10,7 +10,7 @@ use varisat_literals::Lit;
 /// How a literal occurs in a clause.
 #[derive(Clone, Copy)]
 pub enum Sign {
-    /// Not known.
+    /// The clause has neither it nor its opposite.
     Absent,
     /// The clause has it.
     Same,

@@ -1,10 +1,11 @@
 -- How many literals clauses have.
-use Rattle.std.proofs.Common.{◌≡◌, ℕ, ◌+◌, ◌^◌, ◌<◌, ◌≤◌, min, Bool, true, false, List, [], ◌∷◌, ◌++◌, sym, ap, ◌∙◌, length, get_or, take, append-nil, arith}
+use Rattle.std.proofs.Common.{◌≡◌, ℕ, ◌+◌, ◌-◌, ◌^◌, ◌<◌, min, Bool, true, false, List, [], ◌∷◌, ◌++◌, sym, ap, ◌∙◌, length, get_or, take, append-nil, arith}
 use Rattle.varisat_theory.specs.promises.Literals.{Clause}
 use Rattle.varisat_database.specs.Databases.{DatabaseState, clause_at}
 use Rattle.varisat_rules.specs.inside.States.{flagged, live_clauses}
 use Rattle.varisat_simplify.specs.promises.Simplified.{literal_count}
-use Rattle.varisat_simplify.proofs.UnloadLemmas.{take_next, flagged_next, all_live}
+use Rattle.varisat_simplify.proofs.NormalLemmas.{take_next}
+use Rattle.varisat_simplify.proofs.UnloadLemmas.{flagged_next, all_live}
 
 pub counted_more : (cs : List Clause) (c : Clause) → literal_count (cs ++ c ∷ []) ≡ literal_count cs + length c
 counted_more [] c = omega arith
@@ -17,7 +18,7 @@ CountsFirst cs i sum = sum ≡ min (literal_count (take i cs)) (2 ^ 64 - 1)
 pub counts_next : (cs : List Clause) (i sum next n : ℕ) (c : Clause) → i < length cs → c ≡ get_or cs i [] → n ≡ length c → next ≡ min (sum + n) (2 ^ 64 - 1) →
     CountsFirst cs i sum → CountsFirst cs (i + 1) next
 counts_next cs i sum next n c h q e s r =
-    let a = ap literal_count (take_next cs i h) ∙ counted_more (take i cs) (get_or cs i []) in
+    let a = ap literal_count (take_next cs i [] h) ∙ counted_more (take i cs) (get_or cs i []) in
     let b = e ∙ ap length q in
     omega (arith, a, b, s, r)
 

@@ -1,38 +1,75 @@
 -- Each literal of a clause once.
-use Rattle.std.proofs.Common.{◌≡◌, ℕ, ◌+◌, ◌<◌, ◌≤◌, [], ◌∷◌, ◌++◌, inl, ⊎_elim, sym, ap, ◌∙◌, subst, length, get_or, take, arith}
-use Rattle.std.proofs.lemmas.List.{length-append}
-use Rattle.varisat_theory.specs.promises.Membership.{◌∈◌, SameSet}
-use Rattle.varisat_theory.specs.promises.Literals.{Clause, opposite}
-use Rattle.varisat_theory.proofs.clauses.Members.{∈-append_left, ∈-append_right, ∈-append_cases}
+use Rattle.std.proofs.Common.{◌≡◌, ℕ, zero, suc, add-one, ◌+◌, ◌<◌, ◌≤◌, List, [], ◌∷◌, ◌++◌, inl, inr, ⊎_elim, sym, ap, ◌∙◌, subst, refl, length, map, get_or, take, arith}
+use Rattle.std.proofs.lemmas.List.{length-append, map-append}
+use Rattle.varisat_theory.specs.promises.Membership.{◌∈◌, SameSet, IsDistinct}
+use Rattle.varisat_theory.specs.promises.Literals.{Literal, Clause, opposite, variable_of}
+use Rattle.varisat_theory.proofs.clauses.Members.{distinct_append, ∈-append_left, ∈-append_right, ∈-append_cases}
 use Rattle.varisat_theory.proofs.clauses.Places.{∈-get_or, ∈-take_more, ∈-take_all}
 use Rattle.varisat_theory.specs.promises.Searches.{IsTautology}
+use Rattle.varisat_rules.specs.inside.Resolving.{IsOfOthers}
 use Rattle.varisat_rules.proofs.ResolveLemmas.{none_taken, taken_in, taken_before, taken_last}
 
--- the list has the literals before the place, and no more
-abbrev pub TakesBefore : Clause → ℕ → Clause → Type 0
-TakesBefore c i e = SameSet (take i c) e × (length e ≤ i)
+pub take_next : {X : Type 0} (xs : List X) (i : ℕ) (d : X) → i < length xs → take (i + 1) xs ≡ take i xs ++ get_or xs i d ∷ []
+take_next {X = X} xs i d h = rw add-one (go xs i h)
+  where
+    go : (xs : List X) (k : ℕ) → k < length xs → take (suc k) xs ≡ take k xs ++ get_or xs k d ∷ []
+    go [] k n = absurd (omega (arith, n))
+    go (x ∷ xs) zero n = ap (λ (l : List X). x ∷ l) (none xs)
+      where
+        none : (ys : List X) → take 0 ys ≡ []
+        none [] = refl
+        none (y ∷ ys) = refl
+    go (x ∷ xs) (suc k) n = ap (λ (l : List X). x ∷ l) (go xs k (omega (arith, n)))
+
+-- The list has the literals before the place, each variable of them once.
+pub record TakesBefore (c : Clause) (i : ℕ) (e : Clause) : Type 0 where
+  pub same : SameSet (take i c) e
+  pub fewer : length e ≤ i
+  pub once : IsDistinct (map variable_of e)
+
+not_named : (e : Clause) (x : Literal) → IsOfOthers e x → variable_of x ∈ map variable_of e → ⊥
+not_named [] x r h = h
+not_named (m ∷ e) x r (inl q) = r m (inl refl) (sym q)
+not_named (m ∷ e) x r (inr h) = not_named e x (λ k i. r k (inr i)) h
+
+-- a literal of another variable
+pub once_more : (e : Clause) (x : Literal) → IsOfOthers e x → IsDistinct (map variable_of e) → IsDistinct (map variable_of (e ++ x ∷ []))
+once_more e x r d = subst (λ (vs : List ℕ). IsDistinct vs) (sym (map-append variable_of e (x ∷ [])))
+    (distinct_append (map variable_of e) (variable_of x ∷ []) d ((λ z. z), tt)
+    (λ v a b. ⊎_elim (λ q. not_named e x r (subst (λ y. y ∈ map variable_of e) q a)) (λ z. z) b))
+
+pub once_before : (c : Clause) (i : ℕ) (x : Literal) → i < length c → x ≡ get_or c i 0 → IsOfOthers (take i c) x → IsDistinct (map variable_of (take i c)) →
+    IsDistinct (map variable_of (take (i + 1) c))
+once_before c i x h q r d = subst (λ e. IsDistinct (map variable_of e)) (ap (λ y. take i c ++ y ∷ []) q ∙ sym (take_next c i 0 h)) (once_more (take i c) x r d)
 
 pub set_none : (c e : Clause) → e ≡ [] → TakesBefore c 0 e
-set_none c e q = (((λ m h. absurd (none_taken m c h)), λ m h. absurd (subst (λ x. m ∈ x) q h)), let n = ap length q in omega (arith, n))
+set_none c e q = subst (λ d. TakesBefore c 0 d) (sym q) (record {
+  same = ((λ m h. absurd (none_taken m c h)), λ m h. absurd h);
+  fewer = omega arith;
+  once = tt;
+})
 
 pub set_same : (c e f : Clause) (i x : ℕ) → x ≡ get_or c i 0 → x ∈ e → f ≡ e → TakesBefore c i e → TakesBefore c (i + 1) f
-set_same c e f i x q p r (s, n) = subst (λ g. TakesBefore c (i + 1) g) (sym r) (
-  (
-    (λ m k. ⊎_elim (s.0 m) (λ w. subst (λ y. y ∈ e) (q ∙ sym w) p) (∈-take_more m c i 0 k)),
-    (λ m k. taken_before m c i (s.1 m k)),
-  ),
-  omega (arith, n),
-)
+set_same c e f i x q p r s = subst (λ g. TakesBefore c (i + 1) g) (sym r) (record {
+  same = (
+    (λ m k. ⊎_elim (s.same.0 m) (λ w. subst (λ y. y ∈ e) (q ∙ sym w) p) (∈-take_more m c i 0 k)),
+    (λ m k. taken_before m c i (s.same.1 m k)),
+  );
+  fewer = let n = s.fewer in omega (arith, n);
+  once = s.once;
+})
 
-pub set_added : (c e f : Clause) (i x : ℕ) → i < length c → x ≡ get_or c i 0 → f ≡ e ++ x ∷ [] → TakesBefore c i e → TakesBefore c (i + 1) f
-set_added c e f i x h q r (s, n) = (
-  (
-    (λ m k. subst (λ y. m ∈ y) (sym r) (⊎_elim (λ a. ∈-append_left m e (x ∷ []) (s.0 m a)) (λ w. ∈-append_right m e (x ∷ []) (inl (w ∙ sym q))) (∈-take_more m c i 0 k))),
-    (λ m k. ⊎_elim (λ a. taken_before m c i (s.1 m a)) (λ a. ⊎_elim (λ w. subst (λ y. y ∈ take (i + 1) c) (sym (w ∙ q)) (taken_last c i 0 h)) (λ z. absurd z) a)
-        (∈-append_cases m e (x ∷ []) (subst (λ y. m ∈ y) r k))),
-  ),
-  let a = ap length r ∙ length-append e (x ∷ []) in omega (arith, a, n),
-)
+pub set_added : (c e f : Clause) (i x : ℕ) → i < length c → x ≡ get_or c i 0 → IsOfOthers e x → f ≡ e ++ x ∷ [] → TakesBefore c i e →
+    TakesBefore c (i + 1) f
+set_added c e f i x h q o r s = subst (λ g. TakesBefore c (i + 1) g) (sym r) (record {
+  same = (
+    (λ m k. ⊎_elim (λ a. ∈-append_left m e (x ∷ []) (s.same.0 m a)) (λ w. ∈-append_right m e (x ∷ []) (inl (w ∙ sym q))) (∈-take_more m c i 0 k)),
+    (λ m k. ⊎_elim (λ a. taken_before m c i (s.same.1 m a)) (λ a. ⊎_elim (λ w. subst (λ y. y ∈ take (i + 1) c) (sym (w ∙ q)) (taken_last c i 0 h)) (λ z. absurd z) a)
+        (∈-append_cases m e (x ∷ []) k)),
+  );
+  fewer = let n = s.fewer in let a = length-append e (x ∷ []) in omega (arith, a, n);
+  once = once_more e x o s.once;
+})
 
 pub set_all : (c e : Clause) (i : ℕ) → length c ≤ i → SameSet (take i c) e → SameSet c e
 set_all c e i h s = ((λ m k. s.0 m (∈-take_all m c i h k)), λ m k. taken_in m c i (s.1 m k))

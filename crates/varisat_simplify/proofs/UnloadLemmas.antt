@@ -1,5 +1,5 @@
 -- The live clauses as a formula.
-use Rattle.std.proofs.Common.{◌≡◌, ℕ, zero, suc, ◌+◌, ◌-◌, ◌/◌, ◌%◌, ◌<◌, ◌≤◌, Bool, true, false, nat_eq, List, [], ◌∷◌, ◌++◌, ◌⊎◌, inl, inr, ⊎_elim, sym, ap, ◌∙◌, subst, refl, length, get_or, take, take_all, append-nil, append_assoc, add-one, max, arith, get_or-set_other}
+use Rattle.std.proofs.Common.{◌≡◌, ℕ, zero, suc, ◌+◌, ◌/◌, ◌%◌, ◌<◌, ◌≤◌, Bool, true, false, nat_eq, List, [], ◌∷◌, ◌++◌, ◌⊎◌, inl, inr, ⊎_elim, sym, ap, ◌∙◌, subst, refl, length, get_or, take, take_all, append-nil, append_assoc, add-one, max, arith, get_or-set_other}
 use Rattle.varisat_theory.specs.promises.Membership.{◌∈◌}
 use Rattle.std.proofs.lemmas.List.{length-append}
 use Rattle.varisat_theory.specs.promises.Literals.{Literal, Clause, variable_of}
@@ -15,10 +15,11 @@ use Rattle.varisat_rules.specs.promises.Leading.{LeadsTo, AreNamedBy, HasVariabl
 use Rattle.varisat_formula.specs.promises.Values.{assignment_of}
 use Rattle.varisat_rules.specs.promises.Stacks.{extended, KeepsFrozen}
 use Rattle.varisat_database.specs.Databases.{DatabaseState, clause_at}
-use Rattle.varisat_rules.specs.inside.States.{flagged, live_clauses, DerivesFrom, IsGone, LeadIsGone, IsSettled, IsLaterState}
+use Rattle.varisat_rules.specs.inside.States.{flagged, live_clauses, DerivesFrom, IsGone, IsSettled, IsLaterState}
 use Rattle.varisat_simplify.specs.promises.Simplified.{formula_over, literal_count, IsShorter, Finishes, IsReduced, IsMadeOf, DerivesBehind, RefutesBehind, KeepsOthers}
 use Rattle.varisat_rules.proofs.StateLemmas.{clause_held, satisfies_same}
 use Rattle.varisat_rules.proofs.ExtendLemmas.{amended_cases, keeps_frozen}
+use Rattle.varisat_simplify.proofs.NormalLemmas.{take_next}
 use Rattle.varisat_rules.proofs.LeadingLemmas.{flagged_from, named_at, derives_behind, refutes_behind}
 
 -- the formula has the live clauses before the place, and no others
@@ -272,24 +273,12 @@ pub first_none : (n : ℕ) (f : Formula) (cs : List Clause) → f ≡ record no_
 first_none n f [] e = e ∙ ap (λ k. record no_clauses { var_count = k }) (largest n)
 first_none n f (c ∷ cs) e = e ∙ ap (λ k. record no_clauses { var_count = k }) (largest n)
 
-pub take_next : (cs : List Clause) (i : ℕ) → i < length cs → take (i + 1) cs ≡ take i cs ++ get_or cs i [] ∷ []
-take_next cs i h = rw add-one (go cs i h)
-  where
-    go : (xs : List Clause) (k : ℕ) → k < length xs → take (suc k) xs ≡ take k xs ++ get_or xs k [] ∷ []
-    go [] k n = absurd (omega (arith, n))
-    go (x ∷ xs) zero n = ap (λ (l : List Clause). x ∷ l) (none xs)
-      where
-        none : (ys : List Clause) → take 0 ys ≡ []
-        none [] = refl
-        none (y ∷ ys) = refl
-    go (x ∷ xs) (suc k) n = ap (λ (l : List Clause). x ∷ l) (go xs k (omega (arith, n)))
-
 -- one clause more of the first
 pub first_next : (f g : Formula) (n : ℕ) (cs : List Clause) (i : ℕ) (c : Clause) → i < length cs → g ≡ with_one_more f c → c ≡ get_or cs i [] →
     f ≡ formula_over n (take i cs) → g ≡ formula_over n (take (i + 1) cs)
 first_next f g n cs i c h e q r =
     e ∙ ap (λ (x : Formula). with_one_more x c) r ∙ over_more n (take i cs) c
-    ∙ ap (λ (l : List Clause). formula_over n l) (ap (λ (x : Clause). take i cs ++ x ∷ []) q ∙ sym (take_next cs i h))
+    ∙ ap (λ (l : List Clause). formula_over n l) (ap (λ (x : Clause). take i cs ++ x ∷ []) q ∙ sym (take_next cs i [] h))
 
 pub others_kept : KeepsOthers
 others_kept f g stack lines m vs v n =

@@ -1,6 +1,7 @@
 //! Clauses in which no literal stands twice.
-ghost use Rattle.std.specs.Prelude.{◌≡◌, ◌≤◌, true, false, length, IfOk, IsTrue, MatchBool};
-ghost use Rattle.varisat_theory.specs.promises.Membership.{SameSet};
+ghost use Rattle.std.specs.Prelude.{◌≡◌, ◌<◌, ◌≤◌, ◌⊎◌, true, false, length, map, IfOk, IsTrue, MatchBool};
+ghost use Rattle.varisat_theory.specs.promises.Membership.{SameSet, IsDistinct};
+ghost use Rattle.varisat_theory.specs.promises.Literals.{variable_of};
 ghost use Rattle.varisat_theory.specs.promises.Searches.{IsTautology};
 
 use std::alloc::{AllocError, Allocator};
@@ -11,7 +12,9 @@ use varisat_rules::resolve::{Sign, sign_of};
 const MOST_LITERALS: usize = 1000;
 
 /// Whether each variable stands but once in the clause, or it is a long one.
-pub fn is_normal(clause: &[Lit]) -> bool {
+pub fn is_normal(clause: &[Lit]) -> bool
+    ensures { IsTrue result → IsDistinct (map variable_of clause.now) ⊎ (1000 < length clause.now) }
+{
     if clause.len() > MOST_LITERALS {
         return true;
     }
@@ -31,6 +34,8 @@ pub fn normalize<A: Allocator + Copy>(
     out: &mut Vec<Lit, A>,
 ) -> Result<bool, AllocError>
     ensures same { IfOk result (λ b. MatchBool b (SameSet clause.now out.new.items) (IsTautology clause.now)) }
+    ensures once { IfOk result (λ b.
+        IsTrue b → IsDistinct (map variable_of out.new.items) ⊎ (1000 < length clause.now)) }
     ensures fewer { IfOk result (λ b. IsTrue b → length out.new.items ≤ length clause.now) }
 {
     out.clear();

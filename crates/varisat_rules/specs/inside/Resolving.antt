@@ -1,16 +1,20 @@
 -- What is found of literals and clauses.
 use Rattle.std.specs.Prelude.{◌≡◌, ℕ, ◌⊎◌, [], ◌∷◌}
 use Rattle.varisat_theory.specs.promises.Membership.{◌∈◌, ◌⊆◌}
-use Rattle.varisat_theory.specs.promises.Literals.{Literal, Clause, opposite}
+use Rattle.varisat_theory.specs.promises.Literals.{Literal, Clause, opposite, variable_of}
 use Rattle.varisat_rules.specs.declared.resolve.Sign.{Sign}
 use Rattle.varisat_rules.specs.declared.resolve.Sign.TheVariants.{Absent, Same, Opposite}
 use Rattle.varisat_rules.specs.declared.resolve.Relation.{Relation}
 use Rattle.varisat_rules.specs.declared.resolve.Relation.TheVariants.{Nothing, Subsumes, Strengthens}
 use Rattle.varisat_database.specs.Databases.{DatabaseState, clause_at, IsLive}
 
+-- no literal of the clause has the literal's variable
+abbrev pub IsOfOthers : Clause → Literal → Type 0
+IsOfOthers c l = (m : Literal) → m ∈ c → variable_of m ≡ variable_of l → ⊥
+
 -- the literal occurs so in the clause
 abbrev pub OccursAs : Clause → Literal → Sign → Type 0
-OccursAs c l Absent = Unit {0}
+OccursAs c l Absent = IsOfOthers c l
 OccursAs c l Same = l ∈ c
 OccursAs c l Opposite = opposite l ∈ c
 

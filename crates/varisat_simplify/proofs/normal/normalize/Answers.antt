@@ -2,6 +2,7 @@ use Rattle.std.proofs.Common.{List, ℕ, ap, ◌∙◌, subst}
 use Rattle.varisat_theory.specs.promises.Membership.{◌∈◌}
 use Rattle.varisat_theory.specs.promises.Literals.{opposite}
 use Rattle.varisat_database.proofs.ListLemmas.{item_at}
+use Rattle.varisat_rules.specs.inside.Resolving.{IsOfOthers}
 use Rattle.varisat_simplify.proofs.NormalLemmas.{set_same, set_added, set_all, tautology_at}
 use Rattle.varisat_simplify.proofs.normal.normalize.Goals as goal
 use Rattle.varisat_simplify.proofs.normal.normalize.Goals.{in-Same, in-Absent+in_ok-push-in-Absent}
@@ -10,7 +11,7 @@ pub returns-in-Opposite-clause-same : goal.returns-in-Opposite-clause-same
 returns-in-Opposite-clause-same g c =
     tautology_at c.args.clause.now c.loop-lit.out.items c.loop-lit.lit-index c.lit-item.result c.loop-lit-test.true
     (item_at c.args.clause.now c.loop-lit.lit-index c.lit-item.result c.loop-lit-test.true c.lit-item.is)
-    (subst (λ (x : List ℕ). opposite c.lit-item.result ∈ x) c.deref.ensures.value (c.in-Opposite.ensures {u = tt})) c.loop-lit.invariant.0
+    (subst (λ (x : List ℕ). opposite c.lit-item.result ∈ x) c.deref.ensures.value (c.in-Opposite.ensures {u = tt})) c.loop-lit.invariant.same
 
 pub loop-lit-preserved : goal.loop-lit-preserved
 loop-lit-preserved g c =
@@ -19,8 +20,8 @@ loop-lit-preserved g c =
       | in-Same w ↦ set_same c.args.clause.now c.loop-lit.out.items c.match-sign_of.out.items c.loop-lit.lit-index c.lit-item.result at
           (subst (λ (x : List ℕ). c.lit-item.result ∈ x) c.deref.ensures.value (w.in-Same.ensures {u = tt})) (ap (λ v. v.items) w.out-is) c.loop-lit.invariant
       | in-Absent+in_ok-push-in-Absent w ↦ set_added c.args.clause.now c.loop-lit.out.items c.match-sign_of.out.items c.loop-lit.lit-index
-          c.lit-item.result c.loop-lit-test.true at (ap (λ v. v.items) w.out-is ∙ w.in_ok-push-in-Absent.ensures.items) c.loop-lit.invariant
+          c.lit-item.result c.loop-lit-test.true at (subst (λ (x : List ℕ). IsOfOthers x c.lit-item.result) c.deref.ensures.value (w.in-Absent.ensures {u = tt})) (ap (λ v. v.items) w.out-is ∙ w.in_ok-push-in-Absent.ensures.items) c.loop-lit.invariant
     ]
 
 pub returns-clause-same : goal.returns-clause-same
-returns-clause-same g c = set_all c.args.clause.now c.loop-lit.out.items c.loop-lit.lit-index c.loop-lit-test.false c.loop-lit.invariant.0
+returns-clause-same g c = set_all c.args.clause.now c.loop-lit.out.items c.loop-lit.lit-index c.loop-lit-test.false c.loop-lit.invariant.same

@@ -1,4 +1,4 @@
-use Rattle.std.proofs.Common.{arith, refl, sym, ap, ◌∙◌}
+use Rattle.std.proofs.Common.{arith, refl, ◌∙◌}
 use Rattle.varisat_theory.proofs.clauses.Held.{same_set-self}
 use Rattle.varisat_rules.proofs.EliminateSteps.{matched_true, matched_false}
 use Rattle.varisat_simplify.proofs.LoadLemmas.{loads_first, loads_give, loads_skip, loads_end}

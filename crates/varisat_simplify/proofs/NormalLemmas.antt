@@ -1,6 +1,7 @@
 -- Each literal of a clause once.
-use Rattle.std.proofs.Common.{◌≡◌, ℕ, zero, suc, add-one, ◌+◌, ◌<◌, ◌≤◌, List, [], ◌∷◌, ◌++◌, inl, inr, ⊎_elim, sym, ap, ◌∙◌, subst, refl, length, map, get_or, take, arith}
+use Rattle.std.proofs.Common.{◌≡◌, ℕ, add-one, ◌+◌, ◌<◌, ◌≤◌, List, [], ◌∷◌, ◌++◌, inl, inr, ⊎_elim, sym, ap, ◌∙◌, subst, refl, length, map, get_or, take, arith}
 use Rattle.std.proofs.lemmas.List.{length-append, map-append}
+use Rattle.std.proofs.Math.Seq.{take-suc}
 use Rattle.varisat_theory.specs.promises.Membership.{◌∈◌, SameSet, IsDistinct}
 use Rattle.varisat_theory.specs.promises.Literals.{Literal, Clause, opposite, variable_of}
 use Rattle.varisat_theory.proofs.clauses.Members.{distinct_append, ∈-append_left, ∈-append_right, ∈-append_cases}
@@ -10,16 +11,7 @@ use Rattle.varisat_rules.specs.inside.Resolving.{IsOfOthers}
 use Rattle.varisat_rules.proofs.ResolveLemmas.{none_taken, taken_in, taken_before, taken_last}
 
 pub take_next : {X : Type 0} (xs : List X) (i : ℕ) (d : X) → i < length xs → take (i + 1) xs ≡ take i xs ++ get_or xs i d ∷ []
-take_next {X = X} xs i d h = rw add-one (go xs i h)
-  where
-    go : (xs : List X) (k : ℕ) → k < length xs → take (suc k) xs ≡ take k xs ++ get_or xs k d ∷ []
-    go [] k n = absurd (omega (arith, n))
-    go (x ∷ xs) zero n = ap (λ (l : List X). x ∷ l) (none xs)
-      where
-        none : (ys : List X) → take 0 ys ≡ []
-        none [] = refl
-        none (y ∷ ys) = refl
-    go (x ∷ xs) (suc k) n = ap (λ (l : List X). x ∷ l) (go xs k (omega (arith, n)))
+take_next xs i d h = rw add-one (take-suc xs i d h)
 
 -- The list has the literals before the place, each variable of them once.
 pub record TakesBefore (c : Clause) (i : ℕ) (e : Clause) : Type 0 where

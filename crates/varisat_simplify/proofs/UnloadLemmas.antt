@@ -2,6 +2,7 @@
 use Rattle.std.proofs.Common.{◌≡◌, ℕ, zero, suc, ◌+◌, ◌/◌, ◌%◌, ◌<◌, ◌≤◌, Bool, true, false, nat_eq, List, [], ◌∷◌, ◌++◌, ◌⊎◌, inl, inr, ⊎_elim, sym, ap, ◌∙◌, subst, refl, length, get_or, take, take_all, append-nil, append_assoc, add-one, max, arith, get_or-set_other}
 use Rattle.varisat_theory.specs.promises.Membership.{◌∈◌}
 use Rattle.std.proofs.lemmas.List.{length-append}
+use Rattle.std.proofs.Math.Seq.{take-append_seam}
 use Rattle.varisat_theory.specs.promises.Literals.{Literal, Clause, variable_of}
 use Rattle.varisat_theory.specs.promises.Derivations.{Line}
 use Rattle.varisat_theory.specs.promises.Held.{SameClauses}
@@ -195,16 +196,11 @@ made_same f g e b k = record {
   saved = λ c l m h. absurd m;
 }
 
-take_first : {X : Type 0} (xs ys : List X) → take (length xs) (xs ++ ys) ≡ xs
-take_first [] [] = refl
-take_first [] (y ∷ ys) = refl
-take_first (x ∷ xs) ys = ap (λ (l : List _). x ∷ l) (take_first xs ys)
-
 -- the first clauses are those that were loaded
 first_loaded : (P : List Clause) (n count : ℕ) (frozen : List Bool) (t : DatabaseState) → (r : IsReduced P n frozen count t) → take count t.clauses ≡ r.loaded.clauses
 first_loaded P n count frozen t r =
     let more = r.becomes.continues.more in
-    ap (λ (l : List Clause). take count l) more.1 ∙ ap (λ k. take k (r.loaded.clauses ++ more.0)) r.whole ∙ take_first r.loaded.clauses more.0
+    ap (λ (l : List Clause). take count l) more.1 ∙ ap (λ k. take k (r.loaded.clauses ++ more.0)) r.whole ∙ take-append_seam r.loaded.clauses more.0
 
 first_clauses : (g : Formula) (count : ℕ) (t : DatabaseState) → g ≡ formula_over t.var_count (take count t.clauses) → g.clauses ≡ take count t.clauses
 first_clauses g count t e = ap (λ (k : Formula). k.clauses) e ∙ over_clauses t.var_count (take count t.clauses)

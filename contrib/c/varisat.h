@@ -191,7 +191,8 @@ int varisat_check_proof(enum varisat_format format, const char *text, size_t tex
 
 /* Simplification. */
 
-/* A simplifier makes clauses fewer before a solver takes them. Where one of its calls is refused nothing changes. */
+/* A simplifier makes clauses shorter before a solver takes them. Where one of its calls is refused nothing changes, but that the clauses
+ * of a list which come before the one that is refused are taken. */
 typedef struct varisat_simplifier varisat_simplifier;
 
 /* A new simplifier, and its end, as those of a solver. */
@@ -211,8 +212,8 @@ int varisat_simplifier_simplify(varisat_simplifier *simplifier);
 /* The clauses that are left, each ended by a 0, as varisat_add_clauses takes them. VARISAT_NOTHING before the simplification. */
 int varisat_simplifier_clauses(varisat_simplifier *simplifier, int32_t *numbers, size_t room);
 
-/* Extends a model of the clauses that are left, in any order, to the variables of all clauses that were given, in their order. A variable
- * that it does not name is taken for false, and one that no clause names is passed over. */
+/* Extends a model of the clauses that are left, in any order, to all variables up to the highest of the clauses that were given, in their
+ * order. One that the model does not name is taken for false, and one above the highest is passed over. */
 int varisat_simplifier_extend(varisat_simplifier *simplifier, const int32_t *model, size_t count, int32_t *literals, size_t room);
 
 /* IPASIR, the ten functions of ipasir.h, is in the library too. Why a solver that ipasir_init returned does nothing and answers 0 from

@@ -1,5 +1,5 @@
 -- Values by the literals of a model, and what is made of them.
-use Rattle.std.proofs.Common.{◌≡◌, ◌<◌, ◌/◌, ℕ, List, [], ◌∷◌, inl, inr, refl, sym, subst}
+use Rattle.std.proofs.Common.{◌≡◌, ◌<◌, ◌/◌, ◌⊎◌, ℕ, List, [], ◌∷◌, inl, inr, refl, sym, subst}
 use Rattle.varisat_theory.specs.promises.Membership.{◌∈◌}
 use Rattle.varisat_theory.specs.promises.Literals.{Literal, Clause, SatisfiesAll}
 use Rattle.varisat_theory.specs.promises.Derivations.{Line}
@@ -7,7 +7,8 @@ use Rattle.varisat_formula.specs.promises.Formulas.{Formula, AllBelow, AreBelow}
 use Rattle.varisat_formula.specs.promises.Values.{assignment_of, model_values}
 use Rattle.varisat_formula.proofs.ValueLemmas.{length-model, model-true}
 use Rattle.varisat_rules.specs.promises.Stacks.{extended}
-use Rattle.varisat_simplify.specs.promises.Simplified.{IsMadeOf}
+use Rattle.varisat_theory.specs.promises.Held.{SameClauses}
+use Rattle.varisat_simplify.specs.promises.Simplified.{IsMadeOf, IsShorter}
 use Rattle.varisat_calls.specs.Simplifiers.{SimplifiedFormula, Simplifier, SimplifiesFormula, IsModelOf, IsExtension}
 
 literal_below : (n : ℕ) (c : Clause) (l : Literal) → AllBelow n c → l ∈ c → l / 2 < n
@@ -39,10 +40,14 @@ extension g m ls s =
     let whole = λ (t : SatisfiesAll (assignment_of vs) m.left.clauses). s.made.1.extends vs
     (subst (λ k. AreBelow k g.given.clauses) (sym (length-model n ls)) s.below) t in
     record {
-      extends = record { same = refl; satisfies = whole; frozen = λ v f. s.keeps vs v f };
+      extends = record { same = refl; satisfies = whole; frozen = λ v f. s.keeps vs v f; left = λ v h. s.made.1.kept vs v h };
       model = λ is. whole (model_satisfies n ls m.left.clauses
           (λ c l i j. let (d, in_P, in_d) = s.made.1.named c l i j in named_below n g.given.clauses d l s.below in_P in_d) is);
     }
+
+-- what is shorter than a copy, or the same, is so beside the formula
+pub shorter_of_copy : (copy P Q : List Clause) → copy ≡ P → SameClauses Q copy ⊎ IsShorter Q copy → SameClauses Q P ⊎ IsShorter Q P
+shorter_of_copy copy P Q e = subst (λ (cs : List Clause). SameClauses Q cs ⊎ IsShorter Q cs) e
 
 -- what was made of a copy was made of the formula
 pub made_of_copy : (f copy g : Formula) (stack : List Clause) (lines : List Line) → copy.clauses ≡ f.clauses → IsMadeOf copy g stack lines →
@@ -50,4 +55,4 @@ pub made_of_copy : (f copy g : Formula) (stack : List Clause) (lines : List Line
 made_of_copy f copy g stack lines e m =
     let over : List Clause → Formula = λ cs. record { var_count = f.var_count; clauses = cs } in
     subst (λ (cs : List Clause). IsMadeOf (over cs) g stack lines) e
-    (record { below = m.below; least = m.least; keeps = m.keeps; extends = m.extends; leads = m.leads; named = m.named; spoken = m.spoken; saved = m.saved })
+    (record { below = m.below; least = m.least; keeps = m.keeps; extends = m.extends; leads = m.leads; named = m.named; spoken = m.spoken; kept = m.kept; saved = m.saved })

@@ -75,7 +75,7 @@ pub data MakesOver (numbers : List ℤ) (R : State → List Literal → Answer �
   NoRoom : n ≡ 3 → h ≡ g → MakesOver numbers R g n h
   Made : (pos 0 ∈ numbers → ⊥) → MakesNumbered (over numbers R) g n h → MakesOver numbers R g n h
 
--- The caller gives this clause, and then none: what is given next is another one.
+-- the same, where this was given of the next clause, or one of its literals is lost
 abbrev pub with_clause : Option (List Literal) → Caller → Caller
 with_clause c g = record g { clause = c }
 

@@ -1,7 +1,7 @@
 -- What a simplifier has, and what the number of a call's answer says. It is 0, 3 where memory ran out, 7 where a variable is above the
 -- limit that a solver has, 14 where a number is none of a literal or a variable, 15 before the clauses are simplified, and 19 behind that.
 -- A call that is refused changes nothing; where memory ran out for a list, another one may be there.
-use Rattle.std.specs.Prelude.{◌≡◌, ◌≢◌, ℕ, ◌≤◌, ◌<◌, ◌^◌, ℤ, pos, ◌<ℤ◌, ◌≤ℤ◌, Bool, true, false, Option, Some, None, IsSome, List, [], map, slice_index_or}
+use Rattle.std.specs.Prelude.{◌≡◌, ◌≢◌, ◌⊎◌, ℕ, ◌≤◌, ◌<◌, ◌^◌, ℤ, pos, ◌<ℤ◌, ◌≤ℤ◌, Bool, true, false, Option, Some, None, IsSome, List, [], map, slice_index_or}
 use Rattle.varisat_theory.specs.promises.Membership.{◌∈◌}
 use Rattle.varisat_theory.specs.promises.Literals.{Literal, Clause, SatisfiesAll, opposite}
 use Rattle.varisat_theory.specs.promises.Derivations.{Line}
@@ -9,7 +9,9 @@ use Rattle.varisat_literals.specs.promises.Numbers.{literal_numbered, variable_n
 use Rattle.varisat_formula.specs.promises.Formulas.{Formula, no_clauses, with_one_more, AreBelow}
 use Rattle.varisat_formula.specs.promises.Values.{assignment_of, model_values}
 use Rattle.varisat_rules.specs.promises.Stacks.{extended, KeepsFrozen}
-use Rattle.varisat_simplify.specs.promises.Simplified.{IsMadeOf}
+use Rattle.varisat_theory.specs.promises.Held.{SameClauses}
+use Rattle.varisat_rules.specs.promises.Leading.{HasVariable}
+use Rattle.varisat_simplify.specs.promises.Simplified.{IsMadeOf, IsShorter}
 use Rattle.varisat_calls.specs.Lists.{AreWithinLimit, clause_numbers, value_numbers}
 
 -- the clauses that are left, and the stack that extends their models
@@ -40,10 +42,12 @@ given_of None f n cs = f
 given_of (Some stack) f n cs = record { var_count = n; clauses = cs }
 
 -- What was made of the formula while these variables were frozen: what satisfies it satisfies what is left, and values that satisfy
--- what is left are extended to ones that satisfy it, where no frozen variable has another value.
+-- what is left are extended to ones that satisfy it, where no frozen variable has another value. Its clauses are the same, or have fewer
+-- literals.
 pub record SimplifiesFormula (g : Formula) (frozen : List Bool) (m : SimplifiedFormula) : Type 0 where
   pub made : (lines : List Line) × IsMadeOf g m.left m.stack lines
   pub keeps : KeepsFrozen frozen m.stack
+  pub shorter : SameClauses m.left.clauses g.clauses ⊎ IsShorter m.left.clauses g.clauses
   pub below : AreBelow g.var_count g.clauses
   pub small : g.var_count ≤ 2 ^ 31
 
@@ -78,8 +82,8 @@ pub data Freezes (variable : ℤ) (g : Simplifier) (n : ℕ) (h : Simplifier) : 
 
 -- The clauses are simplified, once.
 pub data Simplifies (g : Simplifier) (n : ℕ) (h : Simplifier) : Type 0 where
-  Simplified : (m : SimplifiedFormula) → SimplifiesFormula g.given g.frozen m → g.made ≡ None → n ≡ 0 → h ≡ record g { made = Some m } →
-      Simplifies g n h
+  Simplified : (m : SimplifiedFormula) → SimplifiesFormula g.given g.frozen m → g.made ≡ None → n ≡ 0 →
+      h ≡ record g { made = Some m } → Simplifies g n h
   TooLate : IsSome g.made → IsRefusedFor 19 g n h → Simplifies g n h
   NoRoom : g.made ≡ None → IsRefusedFor 3 g n h → Simplifies g n h
 
@@ -95,23 +99,24 @@ pub record IsModelOf (P : List Clause) (ls : List Literal) : Type 0 where
   pub meets : (c : Clause) → c ∈ P → (l : Literal) × (l ∈ c) × (l ∈ ls)
   pub apart : (l : Literal) → l ∈ ls → opposite l ∈ ls → ⊥
 
--- What is made of values of all variables of the clauses that were given: where they satisfy what is left it satisfies these, and no
--- frozen variable has another value.
+-- What is made of values of all variables up to the highest that was given: where they satisfy what is left it satisfies the clauses
+-- that were given, and no frozen variable has another value, nor one of the clauses that are left.
 pub record ExtendsValues (g : Formula) (flags : List Bool) (m : SimplifiedFormula) (vs ws : List Bool) : Type 0 where
   pub same : ws ≡ extended m.stack vs
   pub satisfies : SatisfiesAll (assignment_of vs) m.left.clauses → SatisfiesAll (assignment_of ws) g.clauses
   pub frozen : (v : ℕ) → slice_index_or flags v false ≡ true → slice_index_or ws v false ≡ slice_index_or vs v false
+  pub left : (v : ℕ) → HasVariable m.left.clauses v → slice_index_or ws v false ≡ slice_index_or vs v false
 
--- Values of all variables of the clauses that were given are listed, which are made of those by the literals of the numbers. They satisfy
--- these clauses where the literals are a model of the clauses that are left.
+-- Values of all variables up to the highest that was given are listed, which are made of those by the literals of the numbers. They satisfy
+-- the clauses that were given where the literals are a model of those that are left.
 pub record IsExtension (g : Simplifier) (m : SimplifiedFormula) (ls : List Literal) (ws : List Bool) : Type 0 where
   pub extends : ExtendsValues g.given g.frozen m (model_values g.given.var_count ls) ws
   pub model : IsModelOf m.left.clauses ls → SatisfiesAll (assignment_of ws) g.given.clauses
 
 -- A model of the clauses that are left is extended to one of those that were given.
 pub data Extends (numbers : List ℤ) (g : Simplifier) (n : ℕ) (h : Simplifier) : Type 0 where
-  Extended : (m : SimplifiedFormula) (ws : List Bool) → (pos 0 ∈ numbers → ⊥) → IsExtension g m (map literal_numbered numbers) ws →
-      g.made ≡ Some m → n ≡ 0 →
+  Extended : (m : SimplifiedFormula) (ws : List Bool) → (pos 0 ∈ numbers → ⊥) →
+      IsExtension g m (map literal_numbered numbers) ws → g.made ≡ Some m → n ≡ 0 →
       h ≡ record g { list = value_numbers ws } → Extends numbers g n h
   Zero : pos 0 ∈ numbers → IsRefusedFor 14 g n h → Extends numbers g n h
   Nothing : g.made ≡ None → IsRefusedFor 15 g n h → Extends numbers g n h

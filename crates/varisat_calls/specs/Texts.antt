@@ -1,5 +1,5 @@
 -- DIMACS texts that a caller gives in pieces, and texts whose proof is checked.
-use Rattle.std.specs.Prelude.{◌≡◌, ◌⊎◌, ℕ, List, [], Option, Some, None, Result, Ok, Err}
+use Rattle.std.specs.Prelude.{◌≡◌, ◌≢◌, ◌⊎◌, ℕ, List, [], Option, Some, None, Result, Ok, Err}
 use Rattle.varisat_theory.specs.promises.Literals.{IsSatisfiable}
 use Rattle.varisat_formula.specs.declared.dimacs.error.DimacsError.{DimacsError}
 use Rattle.varisat_formula.specs.promises.Dimacs.{dimacs}
@@ -7,7 +7,9 @@ use Rattle.varisat_formula.specs.promises.Rest.{Progress, begin, AdvancesBy, Run
 use Rattle.varisat_solver.specs.promises.ClauseCalls.{AddsFormula}
 use Rattle.varisat_solver.specs.promises.Refusals.{refusal_number}
 use Rattle.varisat_solver.specs.promises.Represented.{LeadsRepresented}
+use Rattle.varisat_formula.specs.declared.dimacs.error.DimacsErrorKind.TheVariants as kind
 use Rattle.varisat_solver.specs.declared.solver.SolverError.{SolverError}
+use Rattle.varisat_solver.specs.declared.solver.SolverError.TheVariants.{OutOfMemory, Dimacs}
 use Rattle.varisat_calls.specs.Callers.{Answer, Caller}
 
 -- how far the text came, or the beginning of one
@@ -28,12 +30,17 @@ pub record AddsClauses (read : Progress) (answer : Answer) (text : Option Progre
   pub call : LeadsRepresented g.solver (λ s t. AddsFormula s read.reading.clauses answer t) h.solver
   pub rest : h ≡ record g { solver = h.solver; text = text }
 
+-- the refusal for a fault of a text: memory that ran out in the reader is returned as in any call
+abbrev pub IsRefusedText : DimacsError → SolverError → Type 0
+IsRefusedText fault e =
+    ((fault.kind ≡ kind.OutOfMemory) × (e ≡ OutOfMemory)) ⊎ ((fault.kind ≢ kind.OutOfMemory) × (e ≡ Dimacs fault))
+
 -- The clauses that ended are added, and then the text goes on, or its fault is reported. A text that is refused is over.
 pub data AddsRead (read : Progress) (g : Caller) (n : ℕ) (h : Caller) : Type 0 where
   GoesOn : read.reading.fault ≡ None → n ≡ 0 →
       AddsClauses read (Ok tt) (Some (without_clauses read)) g h → AddsRead read g n h
-  HasFault : (e : DimacsError) → read.reading.fault ≡ Some e → n ≡ 13 →
-      AddsClauses read (Ok tt) None g h → AddsRead read g n h
+  HasFault : (fault : DimacsError) (e : SolverError) → read.reading.fault ≡ Some fault → IsRefusedText fault e →
+      n ≡ refusal_number e → AddsClauses read (Ok tt) None g h → AddsRead read g n h
   Refused : (e : SolverError) → n ≡ refusal_number e → AddsClauses read (Err e) None g h → AddsRead read g n h
 
 -- the next piece is read, and what ended in it is added
@@ -44,8 +51,8 @@ Feeds piece g n h = (read : Progress) × ReadsFurther (text_of g.text) piece rea
 pub data EndsRead (read : Progress) (g : Caller) (r : Result ℕ ℕ) (h : Caller) : Type 0 where
   Ended : read.reading.fault ≡ None → r ≡ Ok read.reading.highest →
       AddsClauses read (Ok tt) None g h → EndsRead read g r h
-  HasFault : (e : DimacsError) → read.reading.fault ≡ Some e → r ≡ Err 13 →
-      AddsClauses read (Ok tt) None g h → EndsRead read g r h
+  HasFault : (fault : DimacsError) (e : SolverError) → read.reading.fault ≡ Some fault → IsRefusedText fault e →
+      r ≡ Err (refusal_number e) → AddsClauses read (Ok tt) None g h → EndsRead read g r h
   Refused : (e : SolverError) → r ≡ Err (refusal_number e) → AddsClauses read (Err e) None g h → EndsRead read g r h
 
 -- the text ends, which is over then

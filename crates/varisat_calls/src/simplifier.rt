@@ -1,7 +1,8 @@
 //! Clauses that are simplified before a solver is given them.
-ghost use Rattle.std.specs.Prelude.{◌≡◌, ◌≤◌, ◌<◌, ◌^◌, IfOk, OnOk};
+ghost use Rattle.std.specs.Prelude.{◌≡◌, ◌⊎◌, ◌≤◌, ◌<◌, ◌^◌, IfOk, OnOk};
 ghost use Rattle.varisat_rules.specs.promises.Stacks.{extended, KeepsFrozen};
-ghost use Rattle.varisat_simplify.specs.promises.Simplified.{IsMadeOf};
+ghost use Rattle.varisat_simplify.specs.promises.Simplified.{IsMadeOf, IsShorter};
+ghost use Rattle.varisat_theory.specs.promises.Held.{SameClauses};
 ghost use Rattle.varisat_formula.specs.promises.Values.{model_values};
 ghost use Rattle.varisat_calls.specs.Lists.{value_numbers};
 
@@ -40,6 +41,8 @@ fn simplified<A: Allocator + Copy>(
 ) -> Result<Simplified<A>, FormulaError>
     ensures made { IfOk result (λ s. IsMadeOf formula.now s.formula s.stack s.history.lines) }
     ensures frozen { IfOk result (λ s. KeepsFrozen frozen.now s.stack) }
+    ensures shorter { IfOk result (λ s.
+        SameClauses s.formula.clauses formula.now.clauses ⊎ IsShorter s.formula.clauses formula.now.clauses) }
 {
     let copy = copy_of(alloc, formula)?;
     let made = simplify(alloc, copy, frozen)?;
@@ -205,7 +208,7 @@ impl<A: Allocator + Copy> Simplifier<A> {
         }
     }
 
-    /// Lists values of all variables of the clauses that were given, by a model of those that are left.
+    /// Lists values of all variables up to the highest that was given, by a model of the clauses that are left.
     pub fn extend(&mut self, numbers: &[i32]) -> u8
         ensures { Extends numbers.now self.old result self.new }
     {

@@ -23,7 +23,7 @@ options of solve, in any order, each at most once:
     --marked         write it as marked text, with the clauses of FILE
     --check          have each step of the search checked
     --max-steps N    give up after N steps
-    --heap BYTES     give the search so many bytes of memory
+    --heap BYTES     give the solver so many bytes of memory
     --no-simplify    search the formula as it is
     --progress       show on standard error how far the search is
 

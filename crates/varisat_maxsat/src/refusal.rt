@@ -1,6 +1,7 @@
 //! Why no answer is returned.
 ghost use Rattle.std.specs.Prelude.{◌≡◌};
 ghost use Rattle.varisat_maxsat.specs.declared.refusal.MaxSatError.TheVariants.{OutOfMemory};
+ghost use Rattle.varisat_maxsat.specs.inside.Errors.{error_of_formula, error_of_refusal};
 
 use std::alloc::{AllocError, AllocFailed};
 use thiserror::Error;
@@ -22,7 +23,7 @@ pub enum MaxSatError {
     /// The least cost is 2^64 or more.
     #[error("the least cost is 2^64 or more")]
     CostOverflow,
-    /// The searches made all the steps that they may, or no more can be counted.
+    /// The searches made all the steps that they may, or no more can be counted, or what is counted comes to no end.
     #[error("the searches made all the steps that they may")]
     StepsSpent,
     /// Who takes the solutions ended the search.
@@ -39,12 +40,16 @@ impl From<AllocError> for MaxSatError {
 }
 
 impl<T: Drop> From<AllocFailed<T>> for MaxSatError {
+    ghost from_gives = { λ _ e. e ≡ OutOfMemory };
+
     fn from(_error: AllocFailed<T>) -> MaxSatError {
         MaxSatError::OutOfMemory
     }
 }
 
 impl From<FormulaError> for MaxSatError {
+    ghost from_gives = { λ fault e. e ≡ error_of_formula fault };
+
     fn from(error: FormulaError) -> MaxSatError {
         match error {
             FormulaError::Full => MaxSatError::VariableLimit,
@@ -54,6 +59,8 @@ impl From<FormulaError> for MaxSatError {
 }
 
 impl From<Refusal> for MaxSatError {
+    ghost from_gives = { λ refusal e. e ≡ error_of_refusal refusal };
+
     fn from(refusal: Refusal) -> MaxSatError {
         match refusal {
             Refusal::OutOfMemory => MaxSatError::OutOfMemory,

@@ -7,7 +7,7 @@ ghost use Rattle.varisat_solver.specs.inside.Representations.{Represents};
 ghost use Rattle.varisat.specs.promises.Decided.{Decided, concluded, allowed_steps};
 ghost use Rattle.varisat.specs.promises.Proven.{CanCountFault, prepared, DecidesBy};
 ghost use Rattle.varisat_solve.specs.inside.Extending.{conclusion_of_all};
-ghost use Rattle.varisat_solve.specs.promises.Solving.{AreLow, Concluded, IsRefusedText, line_refusal, TakesLead, SpendsOver, SpendsSimplified, SpendsFirst, FailsOver, FailsSimplified, FailsFirst};
+ghost use Rattle.varisat_solve.specs.promises.Solving.{AreLow, Concluded, IsRefusedText, line_refusal, TakesLead, SpendsOver, SpendsSimplified, is_simplified, SpendsFirst, FailsOver, FailsSimplified, FailsFirst};
 
 use crate::lines::write_history;
 use crate::models::{extend_model, named_count};
@@ -36,6 +36,13 @@ pub struct ProgramOptions {
     pub simplify: bool,
 }
 
+/// Whether the formula is simplified first: that is wanted, and no proof is written as marked text.
+fn is_simplified(options: ProgramOptions) -> bool
+    ensures { result ≡ is_simplified options }
+{
+    options.simplify && !matches!(options.search.format, ProofFormat::Marked)
+}
+
 /// Decides a DIMACS CNF text, whose formula is simplified first where that is wanted, unless a proof is written as marked text.
 pub fn decide<W: ProofTarget, A: Allocator + Copy, S: ByteSource, E: Write, C: Clock>(
     alloc: A,
@@ -56,7 +63,7 @@ pub fn decide<W: ProofTarget, A: Allocator + Copy, S: ByteSource, E: Write, C: C
     ensures fails { IfErr result
         (λ error. FailsFirst W.taken options target.old (S.input cnf.old) (S.input cnf.new) error) }
 {
-    if options.simplify && !matches!(options.search.format, ProofFormat::Marked) {
+    if is_simplified(options) {
         decide_simplified(alloc, cnf, target, options.search, clock, err)
     } else {
         decide_text(alloc, cnf, target, options.search, err)

@@ -23,10 +23,10 @@ pub enum WcnfFault {
     /// A line begins neither with `h`, nor with a weight, nor with `p` or `c`.
     #[error("expected h, a weight, p wcnf or c")]
     Start,
-    /// The header is not `p wcnf VARIABLES CLAUSES TOP`.
-    #[error("expected p wcnf VARIABLES CLAUSES TOP")]
+    /// The header is not `p wcnf VARIABLES CLAUSES`, maybe with a TOP, or another one or a clause came before it.
+    #[error("expected p wcnf VARIABLES CLAUSES TOP, once and in front of the clauses")]
     Header,
-    /// A literal is no number.
+    /// A word of a clause is neither 0 nor the number of a literal.
     #[error("expected a literal")]
     Literal,
     /// A variable is past the limit of 2^28.
@@ -52,10 +52,11 @@ pub struct Heading {
     pub top: Option<u64>,
 }
 
-/// The problem as far as it was read, and the weight from which on a clause must be satisfied.
+/// The problem as far as it was read, whether a header or a clause came, and the weight from which on a clause must be satisfied.
 #[derive(Drop)]
 struct Reader<A: Allocator + Copy> {
     problem: Problem<A>,
+    has_begun: bool,
     top: Option<u64>,
 }
 
@@ -64,7 +65,7 @@ impl<A: Allocator + Copy> Model for Reader<A> {
 
     ghost Value = { texts.WcnfReading };
 
-    ghost view = { λ r. record { problem = r.problem; top = r.top } };
+    ghost view = { λ r. record { problem = r.problem; begun = r.has_begun; top = r.top } };
 }
 
 /// The first line, and what stands behind its end, if it ends.
@@ -195,7 +196,7 @@ fn heading_by(
     Ok(Heading { variables, top })
 }
 
-/// The greatest weight, which may be absent.
+/// The weight from which on a clause must be satisfied, which may be absent.
 fn top_of(line: &[u8]) -> Option<Option<u64>>
     ensures { result ≡ top_of (words line.now) }
 {
@@ -238,6 +239,10 @@ impl<A: Allocator + Copy> Reader<A> {
         ensures err { IfErr result (λ e. after_heading self.old (heading_of (words line.now)) ≡ Err e) }
     {
         let heading = parse_header(line)?;
+        if self.has_begun {
+            return Err(WcnfFault::Header);
+        }
+        self.has_begun = true;
         self.problem.set_var_count(heading.variables as usize);
         self.top = heading.top;
         Ok(())
@@ -251,7 +256,10 @@ impl<A: Allocator + Copy> Reader<A> {
     {
         parse_clause(line, clause)?;
         match self.problem.add_hard(clause) {
-            Ok(()) => Ok(()),
+            Ok(()) => {
+                self.has_begun = true;
+                Ok(())
+            }
             Err(_) => Err(WcnfFault::OutOfMemory),
         }
     }
@@ -269,7 +277,10 @@ impl<A: Allocator + Copy> Reader<A> {
     {
         parse_clause(line, clause)?;
         match self.problem.add_soft(weight, clause) {
-            Ok(()) => Ok(()),
+            Ok(()) => {
+                self.has_begun = true;
+                Ok(())
+            }
             Err(_) => Err(WcnfFault::OutOfMemory),
         }
     }
@@ -337,6 +348,7 @@ pub fn parse<A: Allocator + Copy>(text: &[u8], alloc: A) -> Result<Problem<A>, W
 {
     let mut reader = Reader {
         problem: Problem::new_in(alloc),
+        has_begun: false,
         top: None,
     };
     let mut clause = Vec::new(alloc);

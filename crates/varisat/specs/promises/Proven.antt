@@ -121,13 +121,6 @@ abbrev pub DecidesBy : {W : Type 0} → (W → Taken) → SolveOptions → Input
 DecidesBy taken o old new target back conclusion =
     DecidesProven taken o.format (allowed_steps o.max_steps) old new target back conclusion
 
--- so it is, to a conclusion of this status
-abbrev pub DecidesWithStatus : {W : Type 0} → (W → Taken) → SolveOptions → Input → Input → Option W → Option W → ℕ →
-    Type 0
-DecidesWithStatus taken o old new target back status =
-    (conclusion : Conclusion) × DecidesBy taken o old new target back conclusion
-    × (status ≡ conclusion_status conclusion)
-
 -- Nothing is found out only where the search of the text's clauses made all its steps, in a new solver that has settings, a checker and a
 -- proof as the options ask.
 abbrev pub SpendsSteps : {W : Type 0} → (W → Taken) → SolveOptions → Option W → Input → Input → Conclusion → Type 0

@@ -62,7 +62,7 @@ pub record Found : Type 0 where
   pub values : List Bool
   pub goes_on : Bool
 
--- Solutions, the last one first, of which each costs less than the one before it, behind which the search was to go on.
+-- Solutions, the last one first: each costs less than the one that was found before it, after which the search was to go on.
 abbrev pub Improve : Problem → List Found → Type 0
 Improve p [] = Unit {0}
 Improve p (f ∷ []) = IsSolution p f.cost f.values

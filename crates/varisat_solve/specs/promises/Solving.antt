@@ -1,5 +1,5 @@
 -- How the program's `solve` decides a text whose formula is simplified first, and when it fails.
-use Rattle.std.specs.Prelude.{◌≡◌, ◌≢◌, ◌⊎◌, ℕ, ◌^◌, ◌<◌, true, false, List, Option, Some, None, Result, Ok, Err}
+use Rattle.std.specs.Prelude.{◌≡◌, ◌≢◌, ◌⊎◌, ℕ, ◌^◌, ◌<◌, Bool, true, ◌&&◌, not, MatchBool, List, Option, Some, None, Result, Ok, Err}
 use Rattle.varisat_theory.specs.promises.Membership.{◌∈◌}
 use Rattle.varisat_theory.specs.promises.Literals.{Literal, Clause}
 use Rattle.varisat_theory.specs.promises.Derivations.{Line}
@@ -107,17 +107,20 @@ SpendsSimplified {W} taken o target old new Unknown =
     (m : Made old new) × (led : Option W) × TakesLead taken o.format target m.lines (Ok tt) led
     × SpendsOver (prepared taken o.format o.check o.max_steps led) m.into.clauses Unknown
 
--- The formula is simplified first, if that is wanted, and unless a proof has lines for the clauses of the text.
+-- whether the formula is simplified first: that is wanted, and no proof has lines for the clauses of the text
+abbrev pub is_simplified : ProgramOptions → Bool
+is_simplified o = o.simplify && not (has_marks o.search.format)
+
+-- when deciding the text fails
 abbrev pub FailsFirst : {W : Type 0} → (W → Taken) → ProgramOptions → Option W → Input → Input → SolverError → Type 0
 FailsFirst taken o target old new e =
-    FailsBy taken o.search target old new e
-    ⊎ ((o.simplify ≡ true) × (has_marks o.search.format ≡ false) × FailsSimplified taken o.search target old new e)
+    MatchBool (is_simplified o) (FailsSimplified taken o.search target old new e) (FailsBy taken o.search target old new e)
 
--- the steps are spent where nothing is found out, on the text's formula or on what it is made into
+-- the steps are spent where nothing is found out, on what the formula is made into or on the text's own
 abbrev pub SpendsFirst : {W : Type 0} → (W → Taken) → ProgramOptions → Option W → Input → Input → Conclusion → Type 0
 SpendsFirst taken o target old new conclusion =
-    SpendsSteps taken o.search target old new conclusion
-    ⊎ ((o.simplify ≡ true) × (has_marks o.search.format ≡ false) × SpendsSimplified taken o.search target old new conclusion)
+    MatchBool (is_simplified o) (SpendsSimplified taken o.search target old new conclusion)
+    (SpendsSteps taken o.search target old new conclusion)
 
 -- What the program's `solve` comes to: deciding fails, nothing is printed, and the status is that of a fault; or the text is decided, with a
 -- proof from its own clauses, and the conclusion for these is printed.

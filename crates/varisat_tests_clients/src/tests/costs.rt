@@ -67,6 +67,10 @@ fn a_fault_has_its_line(rt: HostRuntime) {
     assert!(rt; solved(alloc, "h 1 0 2\n") == End::Fault(1, WcnfFault::End));
     assert!(rt; solved(alloc, "\n\n3 1 y 0\n") == End::Fault(3, WcnfFault::Literal));
     assert!(rt; solved(alloc, "p cnf 1 1\n") == End::Fault(1, WcnfFault::Header));
+    assert!(rt;
+        solved(alloc, "p wcnf 1 1\n1 1 0\np wcnf 1 1\n") == End::Fault(3, WcnfFault::Header)
+    );
+    assert!(rt; solved(alloc, "c\nh 1 0\np wcnf 1 1 9\n") == End::Fault(3, WcnfFault::Header));
     assert!(rt; solved(alloc, "h 268435457 0\n") == End::Fault(1, WcnfFault::VariableLimit));
     assert!(rt; solved(alloc, "18446744073709551616 1 0\n") == End::Fault(1, WcnfFault::Start));
 }

@@ -12,11 +12,12 @@ abbrev pub value_digits : List Bool → List ℕ
 value_digits [] = []
 value_digits (v ∷ vs) = (if v then 49 else 48) ∷ value_digits vs
 
--- what is printed of an optimum, or of a solution that is not known to be one, and the status
+-- what is printed of an optimum, or of a solution that is not known to be one
 abbrev pub verdict_line : Bool → List ℕ
 verdict_line true = codes "s OPTIMUM FOUND\n"
 verdict_line false = codes "s UNKNOWN\n"
 
+-- and the status
 abbrev pub solution_status : Bool → ℕ
 solution_status true = 30
 solution_status false = 0
@@ -25,10 +26,11 @@ solution_status false = 0
 abbrev pub solution_text : Bool → List Bool → List ℕ
 solution_text is_optimum values = verdict_line is_optimum ++ codes "v " ++ value_digits values ++ codes "\n"
 
--- a line for each solution, the first one of which comes last in the list
+-- the line of a cost
 abbrev pub cost_line : ℕ → List ℕ
 cost_line cost = codes "o " ++ decimal cost ++ codes "\n"
 
+-- those of solutions in the order in which they were found: the list has the last one first
 abbrev pub cost_lines : List Found → List ℕ
 cost_lines [] = []
 cost_lines (f ∷ fs) = cost_lines fs ++ cost_line f.cost

@@ -1,5 +1,5 @@
 -- What a WCNF text means, in the new format and in the old one.
-use Rattle.std.specs.Prelude.{ℕ, ◌+◌, ◌^◌, max, Bool, false, if◌then◌else◌, nat_lt, nat_le, ◌==◌, List, [], ◌∷◌, ◌++◌, map, Option, Some, None, option_map, Result, Ok, Err, codes, bytes_eq}
+use Rattle.std.specs.Prelude.{ℕ, ◌+◌, ◌^◌, max, Bool, true, false, if◌then◌else◌, nat_lt, nat_le, ◌==◌, List, [], ◌∷◌, ◌++◌, map, Option, Some, None, option_map, Result, Ok, Err, codes, bytes_eq}
 use Rattle.std.specs.List.{slice_split}
 use Rattle.varisat_theory.specs.promises.Literals.{Clause}
 use Rattle.varisat_literals.specs.promises.Numbers.{variable_limit}
@@ -34,16 +34,18 @@ clause_from c _ = Err fault.End
 abbrev pub clause_of : List (List ℕ) → Result Clause WcnfFault
 clause_of ws = clause_from [] (map meaning ws)
 
--- What was read so far: a problem, and in the old format the weight from which on a clause is hard.
+-- What was read so far: a problem, whether a header or a clause came, and in the old format the weight from which on a clause is hard.
 pub record WcnfReading : Type 0 where
   pub problem : Problem
+  pub begun : Bool
   pub top : Option ℕ
 
 -- a clause more, which is added as a hard or a soft one
-abbrev pub after_clause : (Clause → Problem → Problem) → WcnfReading → Result Clause WcnfFault → Result WcnfReading WcnfFault
+abbrev pub after_clause : (Clause → Problem → Problem) → WcnfReading → Result Clause WcnfFault →
+    Result WcnfReading WcnfFault
 after_clause add r (Err f) = Err f
 after_clause add r (Ok c) =
-    Ok (record r { problem = record (add c r.problem) { variables = max r.problem.variables (variables_of c) } })
+    Ok (record r { problem = record (add c r.problem) { variables = max r.problem.variables (variables_of c) }; begun = true })
 
 -- whether a clause of the weight is hard
 abbrev pub is_hard : Option ℕ → ℕ → Bool
@@ -55,13 +57,14 @@ abbrev pub after_weight : Option ℕ → WcnfReading → Result Clause WcnfFault
 after_weight None r c = Err fault.Start
 after_weight (Some w) r c = if is_hard r.top w then after_clause with_hard r c else after_clause (with_soft w) r c
 
--- A header: how many variables and clauses there are, and the weight from which on a clause is hard, if it names one.
+-- A header: how many variables there are at least; how many clauses, which is not checked; and the weight from which on a clause is
+-- hard, if it names one.
 abbrev pub heading_by : Option ℕ → Option ℕ → Option (Option ℕ) → Result Heading WcnfFault
 heading_by (Some v) (Some count) (Some top) =
     if nat_lt variable_limit v then Err fault.VariableLimit else Ok (record { variables = v; top = top })
 heading_by _ _ _ = Err fault.Header
 
--- the greatest weight, if there is one
+-- the weight from which on a clause is hard, if there is one
 abbrev pub top_of : List (List ℕ) → Option (Option ℕ)
 top_of [] = Some None
 top_of (w ∷ []) = option_map Some (below_limit (number w))
@@ -70,14 +73,16 @@ top_of (w ∷ more ∷ ws) = None
 -- what follows the `p` of a header
 abbrev pub heading_of : List (List ℕ) → Result Heading WcnfFault
 heading_of (name ∷ v ∷ count ∷ ws) =
-    if bytes_eq name (codes "wcnf") then heading_by (below_limit (number v)) (below_limit (number count)) (top_of ws) else Err fault.Header
+    if bytes_eq name (codes "wcnf") then heading_by (below_limit (number v)) (below_limit (number count)) (top_of ws)
+    else Err fault.Header
 heading_of _ = Err fault.Header
 
--- what a header makes of the reading
+-- what a header makes of the reading: it comes first
 abbrev pub after_heading : WcnfReading → Result Heading WcnfFault → Result WcnfReading WcnfFault
 after_heading r (Err f) = Err f
 after_heading r (Ok h) =
-    Ok (record { problem = record r.problem { variables = max r.problem.variables h.variables }; top = h.top })
+    if r.begun then Err fault.Header
+    else Ok (record { problem = record r.problem { variables = max r.problem.variables h.variables }; begun = true; top = h.top })
 
 -- a word that begins with `c`
 abbrev pub is_comment : List ℕ → Bool
@@ -104,4 +109,4 @@ after_lines (Ok r) n (line ∷ lines) = after_lines (at_line n (after_line r (wo
 
 -- what a text means
 abbrev pub wcnf : List ℕ → Result WcnfReading WcnfError
-wcnf text = after_lines (Ok (record { problem = starting 0; top = None })) 1 (slice_split is_line_feed text)
+wcnf text = after_lines (Ok (record { problem = starting 0; begun = false; top = None })) 1 (slice_split is_line_feed text)

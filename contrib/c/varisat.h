@@ -114,7 +114,7 @@ int varisat_failed_core(varisat *solver, int32_t *literals, size_t room);
 /* Whether the literal is one of this core, 1 or 0. */
 int varisat_is_failed(varisat *solver, int32_t literal);
 
-/* The list that was returned last once more, as for one that was longer than its room. */
+/* The list that was returned last once more, as for one that was longer than its room; none after one for which memory ran out. */
 int varisat_last_list(varisat *solver, int32_t *numbers, size_t room);
 
 /* Variables. */

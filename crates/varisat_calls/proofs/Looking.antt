@@ -1,5 +1,5 @@
 -- The literals of a list that are kept, and what is returned of one of them.
-use Rattle.std.proofs.Common.{◌≡◌, ℕ, ℤ, inl, refl, sym, ap, subst, ◌∙◌}
+use Rattle.std.proofs.Common.{◌≡◌, ℕ, ℤ, [], inl, refl, sym, ap, subst, ◌∙◌}
 use Rattle.std.specs.Prelude.{Bool, List, Err}
 use Rattle.std.specs.declared.alloc.AllocError.{AllocError}
 use Rattle.varisat_theory.specs.promises.Membership.{◌∈◌}
@@ -20,7 +20,7 @@ model-lost g x call s st =
     (t, (list, (inl (valid, may), same)), stands)
 
 -- then it is not returned
-pub model-unlisted : (g h : Caller) (n : ℕ) (x : AllocError) → n ≡ 3 → h ≡ g →
+pub model-unlisted : (g h : Caller) (n : ℕ) (x : AllocError) → n ≡ 3 → h ≡ record g { returned = [] } →
     LeadsRepresented g.solver (λ s t. ReturnsModel s (Err x) t) g.solver → ReturnsListOf ReturnsModel g n h
 model-unlisted g h n x three same call =
     subst (λ k. ReturnsListOf ReturnsModel g n k) (sym same) (NoRoom three (model-lost g.solver x call) refl)

@@ -1,5 +1,5 @@
 -- How the calls of a caller are those of its solver.
-use Rattle.std.proofs.Common.{◌≡◌, ℕ, ℤ, pos, ◌≤ℤ◌, Option, Some, None, List, Result, Ok, Err, map, refl, sym, ap, subst, ◌∙◌}
+use Rattle.std.proofs.Common.{◌≡◌, ℕ, ℤ, pos, ◌≤ℤ◌, Option, Some, None, List, [], Result, Ok, Err, map, refl, sym, ap, subst, ◌∙◌}
 use Rattle.std.specs.declared.alloc.AllocError.{AllocError}
 use Rattle.varisat_theory.specs.promises.Membership.{◌∈◌}
 use Rattle.varisat_theory.specs.promises.Literals.{Literal, Clause}
@@ -83,9 +83,11 @@ names-returned g h us shows returned rest =
     Returned us refl shows (rest ∙ ap (λ ts. let made : Caller = record g { solver = h.solver; returned = ts } in made) returned)
 
 -- or there was no room for them
-pub no-room : (g mid h : Caller) (us : List ℕ) (n : ℕ) → n ≡ 3 → h ≡ mid → ShowsNames us g mid →
+pub no-room : (g mid h : Caller) (us : List ℕ) (n : ℕ) → n ≡ 3 → h ≡ record mid { returned = [] } → ShowsNames us g mid →
     mid ≡ record g { solver = mid.solver; returned = mid.returned } → ShowsHidden g n h
-no-room g mid h us n number same shows rest = subst (λ x. ShowsHidden g n x) (sym same) (NoRoom us number shows rest)
+no-room g mid h us n number same shows rest =
+    let without : Caller → Caller = λ x. record x { returned = [] } in
+    subst (λ x. ShowsHidden g n x) (sym same) (NoRoom us number shows (ap without rest))
 
 -- 3. Proofs.
 

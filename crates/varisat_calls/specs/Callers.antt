@@ -121,13 +121,13 @@ pub data SetsMode (variable : ℤ) (mode : Option SamplingMode) (g : Caller) (n 
 abbrev pub ReturnsSome : (State → Result (Option (List Literal)) AllocError → State → Type 0) → State → State → Type 0
 ReturnsSome R s t = (list : List Literal) × R s (Ok (Some list)) t
 
--- The list is returned that the solver returns, if it does. It is 3 where there is one but no room for it, and then another one may be returned.
+-- The list is returned that the solver returns, if it does. It is 3 where there is one but no room for it, and then none is returned.
 pub data ReturnsListOf (R : State → Result (Option (List Literal)) AllocError → State → Type 0) (g : Caller)
     (n : ℕ) (h : Caller) : Type 0 where
   Returned : (list : List Literal) → n ≡ 0 → LeadsRepresented g.solver (λ s t. R s (Ok (Some list)) t) h.solver →
       h ≡ record g { returned = returned_numbers list } → ReturnsListOf R g n h
   Nothing : n ≡ 15 → LeadsRepresented g.solver (λ s t. R s (Ok None) t) h.solver → h ≡ g → ReturnsListOf R g n h
-  NoRoom : n ≡ 3 → LeadsRepresented g.solver (ReturnsSome R) h.solver → h ≡ record g { returned = h.returned } →
+  NoRoom : n ≡ 3 → LeadsRepresented g.solver (ReturnsSome R) h.solver → h ≡ record g { returned = [] } →
       ReturnsListOf R g n h
 
 -- hidden variables come back under these names
@@ -139,7 +139,7 @@ pub data ShowsHidden (g : Caller) (n : ℕ) (h : Caller) : Type 0 where
   Returned : (us : List ℕ) → n ≡ 0 → ShowsNames us g h →
       h ≡ record g { solver = h.solver; returned = returned_names us } → ShowsHidden g n h
   NoRoom : (us : List ℕ) → n ≡ 3 → ShowsNames us g h →
-      h ≡ record g { solver = h.solver; returned = h.returned } → ShowsHidden g n h
+      h ≡ record g { solver = h.solver; returned = [] } → ShowsHidden g n h
   Refused : (e : SolverError) → n ≡ refusal_number e → Makes Observes g (Err e) h → ShowsHidden g n h
 
 -- a proof opens in the format, for a target without bytes

@@ -257,6 +257,15 @@ impl<A: Allocator + Copy> Caller<A> {
         self.answer(set)
     }
 
+    /// No list is returned, since memory ran out.
+    fn run_out(&mut self) -> u8
+        ensures number { result ≡ 3 }
+        ensures frame { self.new ≡ record self.old { returned = [] } }
+    {
+        self.returned.clear();
+        self.refuse(SolverError::OutOfMemory)
+    }
+
     /// Tells the model, or 15 where there is none.
     pub fn model(&mut self) -> u8
         ensures { ReturnsListOf (λ s r t. ReturnsList (by_state.model s) s r t) self.old result self.new }
@@ -264,10 +273,10 @@ impl<A: Allocator + Copy> Caller<A> {
         match self.solver.model() {
             Ok(Some(lits)) => match list_numbers(&mut self.returned, &lits) {
                 Ok(()) => DONE,
-                Err(_) => self.refuse(SolverError::OutOfMemory),
+                Err(_) => self.run_out(),
             },
             Ok(None) => NOTHING,
-            Err(_) => self.refuse(SolverError::OutOfMemory),
+            Err(_) => self.run_out(),
         }
     }
 
@@ -278,7 +287,7 @@ impl<A: Allocator + Copy> Caller<A> {
         match self.solver.failed_core() {
             Some(core) => match list_numbers(&mut self.returned, core) {
                 Ok(()) => DONE,
-                Err(_) => self.refuse(SolverError::OutOfMemory),
+                Err(_) => self.run_out(),
             },
             None => NOTHING,
         }
@@ -321,7 +330,7 @@ impl<A: Allocator + Copy> Caller<A> {
         match self.solver.observe_internal_vars() {
             Ok(vars) => match list_names(&mut self.returned, &vars) {
                 Ok(()) => DONE,
-                Err(_) => self.refuse(SolverError::OutOfMemory),
+                Err(_) => self.run_out(),
             },
             Err(error) => self.refuse(error),
         }

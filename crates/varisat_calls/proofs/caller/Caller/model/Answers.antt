@@ -11,5 +11,5 @@ returns-in-Ok g c = rw (← c.self.view_is)
 
 pub returns : goal.returns
 returns g c =
-    model-unlisted c.args.self.now c.refuse-in-Err.new.self c.refuse-in-Err.result c.in-Err.field-0 c.refuse-in-Err.ensures.number
-    c.refuse-in-Err.ensures.frame (rw (← c.self.view_is) c.in-Err.ensures.call)
+    model-unlisted c.args.self.now c.run_out-in-Err.new.self c.run_out-in-Err.result c.in-Err.field-0 c.run_out-in-Err.ensures.number
+    c.run_out-in-Err.ensures.frame (rw (← c.self.view_is) c.in-Err.ensures.call)

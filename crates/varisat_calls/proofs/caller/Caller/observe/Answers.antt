@@ -10,8 +10,8 @@ returns-in-Ok-list_names g c = rw (← c.self.view_is)
 
 pub returns-in-Ok : goal.returns-in-Ok
 returns-in-Ok g c = rw (← c.self.view_is)
-    (no-room _ _ _ c.in-Ok.vars.items _ c.refuse.ensures.number c.refuse.ensures.frame c.in-Ok.ensures refl)
+    (no-room _ _ _ c.in-Ok.vars.items _ c.run_out.ensures.number c.run_out.ensures.frame c.in-Ok.ensures refl)
 
 pub returns : goal.returns
 returns g c = rw (← c.self.view_is)
-    (Refused c.in-Err.error c.refuse-in-Err.ensures.number (made _ _ _ _ _ c.refuse-in-Err.ensures.frame c.in-Err.ensures refl))
+    (Refused c.in-Err.error c.refuse.ensures.number (made _ _ _ _ _ c.refuse.ensures.frame c.in-Err.ensures refl))

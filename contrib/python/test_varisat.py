@@ -1,7 +1,9 @@
 """Tests of the module varisat: python3 test_varisat.py"""
+import copy
 import io
 import itertools
 import os
+import pickle
 import random
 import signal
 import threading
@@ -59,6 +61,11 @@ class Calls(unittest.TestCase):
         with Solver(bootstrap_with=[[1, 2], [-2, 3]]) as solver:
             self.assertEqual(len({tuple(model) for model in solver.enum_models()}), 4)
 
+    def test_copies(self):
+        for owner in (Solver([[1]]), Simplifier([[1]])):
+            for call in (copy.copy, copy.deepcopy, pickle.dumps):
+                self.assertRaises(TypeError, call, owner)
+
     def test_modes(self):
         with Solver([[1, 2]]) as solver:
             solver.hide_var(2)
@@ -102,6 +109,27 @@ class Calls(unittest.TestCase):
             threading.Timer(0.2, os.kill, (os.getpid(), signal.SIGINT)).start()
             self.assertRaises(KeyboardInterrupt, solver.solve)
             self.assertFalse(solver.solve(assumptions=[1, 12]))
+            solver.interrupt()
+            solver.clear_interrupt()
+            self.assertIsNone(solver.solve(steps=3000))
+            self.assertGreater(solver.accum_stats()["steps"], 3000)
+
+    def test_a_second_search(self):
+        # The pigeons fit unless 91 is assumed, and 90 and 91 exclude each other.
+        with Solver([[-91, *clause] for clause in pigeons(8)] + [[-90, -91]]) as solver:
+            def search():
+                for call in (lambda: solver.solve([90, 91]), solver.delete):
+                    with self.assertRaises(VarisatError) as refused:
+                        call()
+                    self.assertEqual(refused.exception.number, -18)
+                asked.append(solver.accum_stats()["steps"])
+
+            asked = []
+            solver.set_terminate(search)
+            self.assertFalse(solver.solve([91]))
+            self.assertEqual(solver.get_core(), [91])
+            self.assertTrue(asked)
+            self.assertFalse(solver.solve([90, 91]))
 
     def test_proofs(self):
         clauses = pigeons(6)

@@ -11,7 +11,7 @@ import ctypes.util
 import os
 import tempfile
 from array import array
-from typing import Any, BinaryIO, Callable, Iterable, Iterator, List, Optional, Protocol
+from typing import Any, BinaryIO, Callable, Iterable, Iterator, List, NoReturn, Optional, Protocol
 
 __all__ = ["Simplifier", "Solver", "Varisat", "VarisatError", "check_proof", "version"]
 __version__ = "1.0.0"
@@ -47,7 +47,7 @@ def _load() -> ctypes.CDLL:
         "new": (_pointer, [_size]), "free": (_int, [_pointer]), "error_text": (_text, [_pointer]), "version": (_text, []),
         "add_clauses": (_int, [_pointer, _pointer, _size]), "assume": (_int, [_pointer, _pointer, _size]),
         "read_dimacs": (_int, [_pointer, _text, _size]), "end_dimacs": (_int, [_pointer]),
-        "solve_steps": (_int, [_pointer, ctypes.c_uint64]), "interrupt": (_int, [_pointer]), "is_valid": (_int, [_pointer]),
+        "solve_steps": (_int, [_pointer, ctypes.c_uint64]), "is_valid": (_int, [_pointer]),
         "model": (_int, _list), "failed_core": (_int, _list), "observe_internal_vars": (_int, _list), "last_list": (_int, _list),
         "new_var": (_int, [_pointer]), "witness_var": (_int, [_pointer, ctypes.c_int32]),
         "sample_var": (_int, [_pointer, ctypes.c_int32]), "hide_var": (_int, [_pointer, ctypes.c_int32]),
@@ -109,6 +109,11 @@ def _fit(kind: str, value: int) -> int:
     return array(kind, [value])[0]
 
 
+def _refuse_copy(self: Any) -> NoReturn:
+    """Two owners of one solver of the library would both free it."""
+    raise TypeError(f"a {type(self).__name__} can be neither copied nor pickled")
+
+
 class Solver:
     """A solver of growing formulas. MemoryError and VarisatError are refusals."""
 
@@ -119,6 +124,8 @@ class Solver:
         self._solver = _lib.varisat_new(_fit("Q", heap_limit))
         if not self._solver:
             raise MemoryError
+        # The search that is under way, if one is.
+        self._search: dict[str, object] = {}
         self._target, self._written = proof, None
         # How many of the bytes that are written the target took.
         self._handed = 0
@@ -157,13 +164,16 @@ class Solver:
     def _done(self, answer: int) -> int:
         # The call of another thread is under way, and writes to the file.
         if answer == _BUSY:
-            raise VarisatError(answer, "Another call of this solver is under way")
+            self._refuse_second()
         if self._written:
             self._hand_on()
         if answer >= 0:
             return answer
         text = _lib.varisat_error_text(self._solver).decode()
         raise MemoryError(text) if answer == _OUT_OF_MEMORY else VarisatError(answer, text)
+
+    def _refuse_second(self) -> NoReturn:
+        raise VarisatError(_BUSY, "Another call of this solver is under way")
 
     def close_proof(self) -> None:
         """Ends the proof."""
@@ -206,6 +216,17 @@ class Solver:
         of set_terminate said so: the next call goes on. Ctrl-C ends it too, and the solver stays as it is."""
         numbers = array("i", assumptions)
         steps = None if steps is None else _fit("Q", steps)
+        this = object()
+        try:
+            # Between its rounds the library would take the assumptions of a second search. Of two threads one sets the default.
+            if self._search.setdefault("this", this) is not this:
+                self._refuse_second()
+            return self._solve(numbers, steps)
+        finally:
+            if self._search.get("this") is this:
+                self._search.clear()
+
+    def _solve(self, numbers: array, steps: Optional[int]) -> Optional[bool]:
         address, size = numbers.buffer_info()
         self._status = None
         self._done(_lib.varisat_assume(self._solver, address, size))
@@ -233,12 +254,12 @@ class Solver:
         self._terminate = function
 
     def interrupt(self) -> None:
-        """Ends the search that another thread makes, or the next one."""
+        """Ends the search that another thread makes, or the next one. That search then forgets it."""
         self._is_interrupted = True
-        _lib.varisat_interrupt(self._solver)
 
     def clear_interrupt(self) -> None:
-        """Nothing: a search that was interrupted forgets that."""
+        """Forgets an interrupt() that no search saw."""
+        self._is_interrupted = False
 
     def get_status(self) -> Optional[bool]:
         """The last answer, as long as nothing was given since."""
@@ -303,10 +324,13 @@ class Solver:
 
     def delete(self) -> None:
         """Frees the memory, as the end of a `with` does."""
+        if self._search:
+            self._refuse_second()
+        solver, self._solver = self._solver, None
         # While another thread's call is under way it writes to the file.
-        if self._solver and _lib.varisat_free(self._solver) == _BUSY:
-            raise VarisatError(_BUSY, "Another call of this solver is under way")
-        self._solver = None
+        if solver and _lib.varisat_free(solver) == _BUSY:
+            self._solver = solver
+            self._refuse_second()
         if self._written:
             self._written.close()
             self._written = None
@@ -321,6 +345,8 @@ class Solver:
 
     def __exit__(self, *_: object) -> None:
         self.delete()
+
+    __reduce__ = _refuse_copy
 
 
 class Simplifier:
@@ -375,6 +401,8 @@ class Simplifier:
     def __del__(self) -> None:
         if getattr(self, "_simplifier", None):
             _lib.varisat_simplifier_free(self._simplifier)
+
+    __reduce__ = _refuse_copy
 
 
 Varisat = Solver

@@ -61,6 +61,22 @@ class Calls(unittest.TestCase):
         with Solver(bootstrap_with=[[1, 2], [-2, 3]]) as solver:
             self.assertEqual(len({tuple(model) for model in solver.enum_models()}), 4)
 
+    def test_variables(self):
+        with Solver([[1, -4]]) as solver:
+            solver.solve(assumptions=[6])
+            self.assertEqual((solver.nof_vars(), solver.new_var(), solver.nof_vars()), (6, 7, 7))
+            solver.witness_var(7)
+            self.assertRaises(VarisatError, solver.append_formula, [[9], [7]])
+            self.assertEqual((solver.nof_vars(), solver.new_var()), (9, 10))
+            # A refusal of the module itself comes before any clause.
+            self.assertRaises(VarisatError, solver.append_formula, [[12], [1 << 29]])
+            self.assertEqual((solver.nof_vars(), solver.new_var()), (10, 11))
+            solver.hide_var(13)
+            self.assertEqual((solver.nof_vars(), solver.new_var()), (13, 13))
+            # Without a model as well.
+            solver.append_formula([[]])
+            self.assertRaises(VarisatError, solver.add_clause, [1 << 29])
+
     def test_copies(self):
         for owner in (Solver([[1]]), Simplifier([[1]])):
             for call in (copy.copy, copy.deepcopy, pickle.dumps):
@@ -71,7 +87,7 @@ class Calls(unittest.TestCase):
             solver.hide_var(2)
             solver.add_clause([-2])
             self.assertTrue(solver.solve())
-            self.assertEqual(solver.observe_internal_vars(), [3])
+            self.assertEqual((solver.observe_internal_vars(), solver.nof_vars()), ([3], 3))
             with self.assertRaises(VarisatError) as refused:
                 solver.add_clause([3])
             self.assertEqual(refused.exception.number, -6)
@@ -86,6 +102,13 @@ class Calls(unittest.TestCase):
             for call in (solver.hide_var, solver.witness_var, solver.sample_var):
                 self.assertRaises(OverflowError, call, (1 << 32) + 1)
             self.assertRaises(OverflowError, solver.solve, steps=-1)
+            self.assertRaises(ValueError, solver.solve, [1, 0])
+            self.assertRaises(ValueError, solver.hide_var, -1)
+            self.assertRaises(TypeError, solver.read_dimacs, io.StringIO("1 0"))
+            solver.delete()
+            self.assertRaisesRegex(VarisatError, "deleted", solver.solve)
+        self.assertRaises(ValueError, Solver, format="lrat")
+        self.assertRaises(TypeError, Solver, proof="a name")
         self.assertRaises(OverflowError, Solver, reduce_locals_interval=-1)
         self.assertRaises(OverflowError, Simplifier, frozen=[(1 << 32) + 1])
         self.assertRaises(VarisatError, Solver, vsids_decay=3)
@@ -140,8 +163,15 @@ class Calls(unittest.TestCase):
                 self.assertFalse(solver.solve())
                 solver.close_proof()
             self.assertTrue(check_proof(text, target.getvalue(), format))
+            self.assertTrue(check_proof(bytearray(text), memoryview(target.getvalue()), format))
             self.assertRaises(VarisatError, check_proof, b"1 2 0", target.getvalue(), format)
+            with self.assertRaisesRegex(VarisatError, "line 2 of the text") as refused:
+                check_proof(b"1 2 0\nx", b"", format)
+            self.assertEqual((refused.exception.number, refused.exception.place), (-13, 2))
+            self.assertRaisesRegex(VarisatError, "byte 0 of the proof", check_proof, text, b"x", format)
+            self.assertRaises(TypeError, check_proof, text.decode(), b"", format)
             self.assertEqual(self.proof_in_pieces(clauses, format), target.getvalue())
+        self.assertRaises(ValueError, check_proof, text, b"", "lrat")
         with open("/dev/full", "wb", buffering=0) as target, Solver(proof=target) as solver:
             self.assertRaises(OSError, solver.append_formula, [[1], [2, 1, 2]])
 
@@ -171,6 +201,8 @@ class Calls(unittest.TestCase):
                 return super().read(size)
 
         with Solver() as solver:
+            self.assertRaises(OSError, solver.read_dimacs, Torn(b"4 2 0\n"))
+            self.assertEqual(solver.nof_vars(), 4)
             self.assertRaises(OSError, solver.read_dimacs, Torn(b"1 2 0 3 "))
             solver.read_dimacs(io.BytesIO(b"-1 0"))
             self.assertTrue(solver.solve())
@@ -192,6 +224,9 @@ class Calls(unittest.TestCase):
             simplifier.append_formula([[1]])
         self.assertEqual(refused.exception.number, -19)
         self.assertRaises(ValueError, Simplifier, [[1, 0]])
+        self.assertRaises(ValueError, Simplifier, [[1]], frozen=[0])
+        self.assertRaises(ValueError, simplifier.extend, [0])
+        self.assertRaisesRegex(VarisatError, "not simplified yet", Simplifier([[1]]).extend, [1])
         with self.assertRaises(MemoryError):
             Simplifier(pigeons(20), heap_limit=10000)
 

@@ -9,6 +9,7 @@ import signal
 import threading
 import time
 import unittest
+from array import array
 
 from varisat import Simplifier, Solver, VarisatError, check_proof
 
@@ -32,6 +33,15 @@ def pigeons(n):
         for p, q in itertools.combinations(range(n), 2):
             clauses.append([-(p * (n - 1) + h + 1), -(q * (n - 1) + h + 1)])
     return clauses
+
+
+class Formula:
+    """As PySAT's: what it is iterated over, which its attribute may lack."""
+    def __init__(self, clauses):
+        self.made, self.clauses, self.atmosts = clauses, [], []
+
+    def __iter__(self):
+        return iter(self.made)
 
 
 class Calls(unittest.TestCase):
@@ -60,6 +70,17 @@ class Calls(unittest.TestCase):
     def test_enum_models(self):
         with Solver(bootstrap_with=[[1, 2], [-2, 3]]) as solver:
             self.assertEqual(len({tuple(model) for model in solver.enum_models()}), 4)
+
+    def test_formulas(self):
+        plain = type("Plain", (), {"clauses": [[1, 2], [-1]]})()
+        for formula in (plain, Formula([[1, 2], [-1]]), ((1, 2), {-1}), (iter(clause) for clause in [[1, 2], array("q", [-1])])):
+            with Solver(bootstrap_with=formula) as solver:
+                self.assertEqual((solver.nof_clauses(), solver.solve(), solver.get_model()), (2, True, [-1, 2]))
+        (limited := Formula([[1, 2]])).atmosts.append([[1, 2], 1])
+        self.assertRaises(NotImplementedError, Solver, limited)
+        with Solver() as solver:
+            self.assertIsNone(solver.add_clause([1]))
+            self.assertTrue(solver.add_clause([2], no_return=False))
 
     def test_variables(self):
         with Solver([[1, -4]]) as solver:

@@ -136,8 +136,11 @@ def _literals(numbers: Iterable[int]) -> array:
 
 def _numbers_of(formula: Iterable[Iterable[int]]) -> tuple[array, int]:
     """The literals of the clauses, each ended by a 0, and how many clauses there are."""
+    if getattr(formula, "atmosts", None):
+        raise NotImplementedError("only clauses are taken, and no cardinality constraints")
     numbers, count = array("i"), 0
-    for clause in getattr(formula, "clauses", formula):
+    # A PySAT formula makes its clauses once it is iterated over.
+    for clause in formula if hasattr(formula, "__iter__") else getattr(formula, "clauses", formula):
         numbers.extend(iter(clause))
         numbers.append(0)
         count += 1
@@ -230,18 +233,19 @@ class Solver:
             raise VarisatError(_VARIABLE_LIMIT, "The variable limit is passed")
         self._top = max(self._top, top)
 
-    def add_clause(self, clause: Iterable[int], no_return: bool = True) -> None:
-        """Accepts a clause."""
-        self.append_formula([clause])
+    def add_clause(self, clause: Iterable[int], no_return: bool = True) -> Optional[bool]:
+        """Accepts a clause. Where no_return is False it returns True, which says nothing of models."""
+        return self.append_formula([clause], no_return)
 
-    def append_formula(self, formula: Iterable[Iterable[int]], no_return: bool = True) -> None:
-        """Accepts the clauses of a list of lists, or of a PySAT CNF."""
+    def append_formula(self, formula: Iterable[Iterable[int]], no_return: bool = True) -> Optional[bool]:
+        """Accepts the clauses of a list of lists, or of a PySAT CNF, and returns as add_clause does."""
         numbers, count = _numbers_of(formula)
         self._use(numbers)
         address, size = numbers.buffer_info()
         self._status = None
         self._done(_lib.varisat_add_clauses(self._solver, address, size))
         self._clauses += count
+        return None if no_return else True
 
     def read_dimacs(self, file: BinaryIO) -> None:
         """Accepts the clauses of a DIMACS CNF text, of a file that is open in binary; after a fault, those before it."""

@@ -116,8 +116,8 @@ static const char *text_of(int error) {
     case VARISAT_PROOF_IO: return "Error writing proof file";
     case VARISAT_OUT_OF_MEMORY: return "Out of memory";
     case VARISAT_INVALID: return "The solver is invalid after an unrecoverable error";
-    case VARISAT_BAD_ARGUMENT: return "No solver, no list, no such setting, mode or format, or the literal 0";
-    case VARISAT_NOTHING: return "There is no model, core or proof";
+    case VARISAT_BAD_ARGUMENT: return "No solver, list, setting, format or variable, clauses that no 0 ends, or the literal 0";
+    case VARISAT_NOTHING: return "There is no model, core or proof, or the model has no such variable";
     default: return NULL;
     }
 }

@@ -38,7 +38,7 @@ static void right_calls(void) {
     CHECK(varisat_solve(s) == VARISAT_SATISFIABLE);
     CHECK(is_list(varisat_model(s, list, ROOM), 2, (int32_t[]){-1, 2}));
     CHECK(varisat_value(s, 2) == 1 && varisat_value(s, -2) == 0 && varisat_value(s, -1) == 1);
-    CHECK(varisat_value(s, 3) == VARISAT_NOTHING);
+    CHECK(varisat_value(s, 3) == VARISAT_NOTHING && strstr(varisat_error_text(s), "no such variable"));
     CHECK(varisat_assume(s, LITS(1, -2)) == 0);
     CHECK(varisat_solve(s) == VARISAT_UNSATISFIABLE);
     CHECK(varisat_failed_core(s, list, ROOM) >= 1 && varisat_is_failed(s, -2) == 1 && varisat_is_failed(s, 2) == 0);
@@ -49,6 +49,7 @@ static void right_calls(void) {
     CHECK(varisat_new_var(s) == 3);
     CHECK(varisat_add_clause(s, NULL, 0) == 0 && varisat_solve(s) == VARISAT_UNSATISFIABLE);
     CHECK(varisat_failed_core(s, list, ROOM) == 0 && varisat_is_failed(s, 1) == 0);
+    CHECK(varisat_add_clause(s, LITS(0x10000001)) == 0 && varisat_add_clause(s, LITS(0)) == VARISAT_BAD_ARGUMENT);
     CHECK(varisat_free(s) == 0);
 }
 
@@ -98,7 +99,8 @@ static void wrong_calls(void) {
     CHECK(varisat_add_clause(s, LITS(1, 0, 2)) == VARISAT_BAD_ARGUMENT);
     CHECK(varisat_error(s) == VARISAT_BAD_ARGUMENT && strstr(varisat_error_text(s), "literal 0"));
     CHECK(varisat_add_clause(s, NULL, 3) == VARISAT_BAD_ARGUMENT && varisat_assume(s, NULL, 3) == VARISAT_BAD_ARGUMENT);
-    CHECK(varisat_add_clauses(s, one, 1) == VARISAT_BAD_ARGUMENT && varisat_assume(s, LITS(0)) == VARISAT_BAD_ARGUMENT);
+    CHECK(varisat_add_clauses(s, one, 1) == VARISAT_BAD_ARGUMENT && strstr(varisat_error_text(s), "no 0 ends"));
+    CHECK(varisat_assume(s, LITS(0)) == VARISAT_BAD_ARGUMENT);
     CHECK(varisat_value(s, 0) == VARISAT_BAD_ARGUMENT && varisat_is_failed(s, 0) == VARISAT_BAD_ARGUMENT);
     CHECK(varisat_value(s, 1) == VARISAT_NOTHING && varisat_is_failed(s, 1) == VARISAT_NOTHING);
     CHECK(varisat_model(s, NULL, 1) == VARISAT_BAD_ARGUMENT && varisat_last_list(s, NULL, 1) == VARISAT_BAD_ARGUMENT);

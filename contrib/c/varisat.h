@@ -9,7 +9,7 @@
  *
  * Threads: solvers share nothing. One call at a time uses a solver, from whatever thread; a second one is refused as VARISAT_BUSY, and
  * so is a call from within a callback of that solver. varisat_interrupt alone may be called at any time, also in a signal handler.
- * Nothing finds out a solver that was freed, or a pointer that has fewer members than its count says. */
+ * Nothing finds out a solver that was freed, or a pointer that has fewer members than its count says; an error as a count is refused. */
 #ifndef VARISAT_H
 #define VARISAT_H
 

@@ -101,6 +101,12 @@ static void wrong_calls(void) {
     CHECK(varisat_add_clause(s, NULL, 3) == VARISAT_BAD_ARGUMENT && varisat_assume(s, NULL, 3) == VARISAT_BAD_ARGUMENT);
     CHECK(varisat_add_clauses(s, one, 1) == VARISAT_BAD_ARGUMENT && strstr(varisat_error_text(s), "no 0 ends"));
     CHECK(varisat_assume(s, LITS(0)) == VARISAT_BAD_ARGUMENT);
+    /* Errors that are taken for counts. */
+    const size_t error = (size_t)VARISAT_NOTHING;
+    CHECK(varisat_add_clause(s, one, error) == VARISAT_BAD_ARGUMENT && varisat_assume(s, one, error) == VARISAT_BAD_ARGUMENT);
+    CHECK(varisat_add_clauses(s, one, error) == VARISAT_BAD_ARGUMENT && varisat_read_dimacs(s, "1 0", error) == VARISAT_BAD_ARGUMENT);
+    CHECK(varisat_check_proof(VARISAT_DRAT, "1 0", error, "0", 1, NULL) == VARISAT_BAD_ARGUMENT);
+    CHECK(varisat_check_proof(VARISAT_DRAT, "1 0", 3, "0", error, NULL) == VARISAT_BAD_ARGUMENT);
     CHECK(varisat_value(s, 0) == VARISAT_BAD_ARGUMENT && varisat_is_failed(s, 0) == VARISAT_BAD_ARGUMENT);
     CHECK(varisat_value(s, 1) == VARISAT_NOTHING && varisat_is_failed(s, 1) == VARISAT_NOTHING);
     CHECK(varisat_model(s, NULL, 1) == VARISAT_BAD_ARGUMENT && varisat_last_list(s, NULL, 1) == VARISAT_BAD_ARGUMENT);
@@ -328,6 +334,9 @@ static void simplifiers(void) {
     CHECK(is_list(varisat_simplifier_extend(s, LITS(-3, 9, 1, INT32_MIN), list, ROOM), 3, (int32_t[]){1, -2, -3}));
     CHECK(is_list(varisat_simplifier_extend(s, NULL, 0, list, 0), 3, list) && varisat_simplifier_extend(s, LITS(1, 0), list, ROOM) == VARISAT_BAD_ARGUMENT);
     CHECK(varisat_simplifier_extend(s, NULL, 1, list, ROOM) == VARISAT_BAD_ARGUMENT && varisat_simplifier_clauses(s, NULL, 1) == VARISAT_BAD_ARGUMENT);
+    CHECK(varisat_simplifier_extend(s, list, (size_t)-1, list, ROOM) == VARISAT_BAD_ARGUMENT);
+    CHECK(varisat_simplifier_add_clause(s, list, (size_t)-1) == VARISAT_BAD_ARGUMENT);
+    CHECK(varisat_simplifier_add_clauses(s, list, (size_t)-1) == VARISAT_BAD_ARGUMENT);
     CHECK(varisat_simplifier_free(s) == 0 && varisat_simplifier_free(NULL) == 0 && varisat_simplifier_simplify(NULL) == VARISAT_BAD_ARGUMENT);
     /* no clauses, and one without literals */
     for (int empty = 0; empty < 2; empty++) {

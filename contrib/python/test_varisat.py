@@ -136,6 +136,14 @@ class Calls(unittest.TestCase):
         self.assertRaises(TypeError, Solver, vsids_decai=900)
         with self.assertRaises(MemoryError):
             Solver(pigeons(20), heap_limit=10000)
+        with Solver(heap_limit=10000) as solver:
+            self.assertTrue(solver.is_valid())
+            self.assertRaises(MemoryError, solver.append_formula, pigeons(20))
+            self.assertFalse(solver.is_valid())
+            # The number is the call's, and the text tells what came before.
+            with self.assertRaisesRegex(VarisatError, "memory") as refused:
+                solver.solve()
+            self.assertEqual(refused.exception.number, -4)
 
     def test_interrupts(self):
         with Solver(pigeons(12)) as solver:

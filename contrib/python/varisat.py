@@ -365,6 +365,10 @@ class Solver:
         self._use(variables := self._listed(_lib.varisat_observe_internal_vars))
         return variables
 
+    def is_valid(self) -> bool:
+        """Whether the solver can go on. After a MemoryError, or what self_check finds wrong, it may not: then all changes are refused."""
+        return self._done(_lib.varisat_is_valid(self._solver)) == 1
+
     def nof_vars(self) -> int:
         """The highest variable that a call named or returned. Of a text with a fault none counts."""
         return self._top

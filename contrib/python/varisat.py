@@ -378,7 +378,7 @@ class Solver:
         return self._clauses
 
     def accum_stats(self) -> dict[str, int]:
-        """The COUNTERS, among them the bytes of memory in use."""
+        """The COUNTERS, among them the bytes of memory in use. All are 0 while another thread's call is under way."""
         return {name: _lib.varisat_count(self._solver, number) for number, name in enumerate(COUNTERS)}
 
     def delete(self) -> None:

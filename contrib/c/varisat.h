@@ -129,8 +129,9 @@ int varisat_sample_var(varisat *solver, int32_t variable);
 /* Frees its name; the variable lives on in the clauses. From then on a check of an open proof may fail. */
 int varisat_hide_var(varisat *solver, int32_t variable);
 
-/* Brings hidden variables back as witnesses, and returns their names. One whose value is forced, or that no clause of several literals
- * names, may stay hidden. Where a valid solver has no memory for that list they are back all the same, and the next model lists them. */
+/* Brings hidden variables back as witnesses, and returns their new names; which variable has which is not promised. One whose value is
+ * forced, or that no clause of several literals names, may stay hidden. Where a valid solver has no memory for that list they are back all
+ * the same, and the next model lists them. */
 int varisat_observe_internal_vars(varisat *solver, int32_t *variables, size_t room);
 
 /* Settings and counters. */

@@ -360,8 +360,8 @@ class Solver:
         self._set_mode(_lib.varisat_hide_var, variable)
 
     def observe_internal_vars(self) -> List[int]:
-        """Brings hidden variables back as witnesses, and returns their names. Those whose value is forced, or that no clause of several
-        literals names, may stay hidden."""
+        """Brings hidden variables back as witnesses, and returns their new names; which variable has which is not promised. Those whose
+        value is forced, or that no clause of several literals names, may stay hidden."""
         self._use(variables := self._listed(_lib.varisat_observe_internal_vars))
         return variables
 

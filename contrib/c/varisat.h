@@ -8,7 +8,8 @@
  * A call that returns a list copies as many of its numbers as there is room for, and returns how many there are.
  *
  * Threads: solvers share nothing. One call at a time uses a solver, from whatever thread; a second one is refused as VARISAT_BUSY, and
- * so is a call from within a callback of that solver. varisat_interrupt alone may be called at any time, also in a signal handler.
+ * so is a call from within a callback of that solver. A callback has to return: none may throw or jump out. varisat_interrupt alone may
+ * be called at any time, also in a signal handler.
  * Nothing finds out a solver that was freed, or a pointer that has fewer members than its count says; an error as a count is refused. */
 #ifndef VARISAT_H
 #define VARISAT_H

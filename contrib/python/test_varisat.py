@@ -1,4 +1,5 @@
 """Tests of the module varisat: python3 test_varisat.py"""
+import contextlib
 import copy
 import io
 import itertools
@@ -6,6 +7,7 @@ import os
 import pickle
 import random
 import signal
+import sys
 import threading
 import time
 import unittest
@@ -166,22 +168,62 @@ class Calls(unittest.TestCase):
             self.assertIsNone(solver.solve(steps=3000))
             self.assertGreater(solver.accum_stats()["steps"], 3000)
 
-    def test_a_second_search(self):
+    def test_second_calls(self):
         # The pigeons fit unless 91 is assumed, and 90 and 91 exclude each other.
         with Solver([[-91, *clause] for clause in pigeons(8)] + [[-90, -91]]) as solver:
-            def search():
-                for call in (lambda: solver.solve([90, 91]), solver.delete):
+            def call():
+                for second in (lambda: solver.solve([90, 91]), lambda: solver.add_clause([-91]), solver.get_model, solver.delete):
                     with self.assertRaises(VarisatError) as refused:
-                        call()
+                        second()
                     self.assertEqual(refused.exception.number, -18)
                 asked.append(solver.accum_stats()["steps"])
 
             asked = []
-            solver.set_terminate(search)
+            solver.set_terminate(call)
             self.assertFalse(solver.solve([91]))
             self.assertEqual(solver.get_core(), [91])
             self.assertTrue(asked)
             self.assertFalse(solver.solve([90, 91]))
+
+    def test_threads(self):
+        # A proof has its bytes once, and in order, where threads take turns in giving clauses and searching.
+        class Slow(io.BytesIO):
+            def write(self, piece):
+                time.sleep(0)
+                return super().write(piece)
+
+        clauses, target = pigeons(6), Slow()
+        left = [[clause] for clause in clauses]
+
+        def take_turns(call):
+            while True:
+                try:
+                    return call()
+                except VarisatError as refused:
+                    if refused.number != -18:
+                        raise
+
+        def give():
+            with contextlib.suppress(IndexError):
+                while formula := left.pop():
+                    take_turns(lambda: solver.append_formula(formula))
+                    take_turns(lambda: solver.solve(steps=2))
+
+        with Solver(proof=target, format="marked") as solver:
+            threads = [threading.Thread(target=give) for _ in range(3)]
+            interval = sys.getswitchinterval()
+            sys.setswitchinterval(1e-6)
+            try:
+                for thread in threads:
+                    thread.start()
+                for thread in threads:
+                    thread.join()
+            finally:
+                sys.setswitchinterval(interval)
+            self.assertFalse(solver.solve())
+            solver.close_proof()
+        text = "".join(" ".join(map(str, clause)) + " 0\n" for clause in clauses).encode()
+        self.assertTrue(check_proof(text, target.getvalue(), "marked"))
 
     def test_proofs(self):
         clauses = pigeons(6)

@@ -8,6 +8,7 @@ from __future__ import annotations
 
 import ctypes
 import ctypes.util
+import functools
 import os
 import tempfile
 from array import array
@@ -154,6 +155,24 @@ def _refuse_copy(self: Any) -> NoReturn:
     raise TypeError(f"a {type(self).__name__} can be neither copied nor pickled")
 
 
+def _alone(call: Any) -> Any:
+    """Has a second call of the same solver refused until this one has ended: a search is many calls of the library, between which it could
+    change, and a proof is handed on behind each."""
+    @functools.wraps(call)
+    def alone(self: Solver, *words: Any, **options: Any) -> Any:
+        this = object()
+        try:
+            # Of two threads one sets the default.
+            if self._calls.setdefault("this", this) is not this:
+                self._refuse_second()
+            return call(self, *words, **options)
+        finally:
+            if self._calls.get("this") is this:
+                self._calls.clear()
+
+    return alone
+
+
 class Solver:
     """A solver of growing formulas. MemoryError and VarisatError are refusals."""
 
@@ -167,8 +186,8 @@ class Solver:
         self._solver = _lib.varisat_new(_fit("Q", heap_limit))
         if not self._solver:
             raise MemoryError("too little memory for a solver")
-        # The search that is under way, if one is.
-        self._search: dict[str, object] = {}
+        # The call that is under way, if one is.
+        self._calls: dict[str, object] = {}
         self._target, self._written = proof, None
         # How many of the bytes that are written the target took.
         self._handed = 0
@@ -218,6 +237,7 @@ class Solver:
     def _refuse_second(self) -> NoReturn:
         raise VarisatError(_BUSY, "Another call of this solver is under way")
 
+    @_alone
     def close_proof(self) -> None:
         """Ends the proof."""
         self._done(_lib.varisat_close_proof(self._solver))
@@ -237,6 +257,7 @@ class Solver:
         """Accepts a clause. Where no_return is False it returns True, which says nothing of models."""
         return self.append_formula([clause], no_return)
 
+    @_alone
     def append_formula(self, formula: Iterable[Iterable[int]], no_return: bool = True) -> Optional[bool]:
         """Accepts the clauses of a list of lists, or of a PySAT CNF, and returns as add_clause does."""
         numbers, count = _numbers_of(formula)
@@ -247,6 +268,7 @@ class Solver:
         self._clauses += count
         return None if no_return else True
 
+    @_alone
     def read_dimacs(self, file: BinaryIO) -> None:
         """Accepts the clauses of a DIMACS CNF text, of a file that is open in binary; after a fault, those before it."""
         self._status = None
@@ -259,22 +281,12 @@ class Solver:
             raise
         self._top = max(self._top, self._done(_lib.varisat_end_dimacs(self._solver)))
 
+    @_alone
     def solve(self, assumptions: Iterable[int] = (), steps: Optional[int] = None) -> Optional[bool]:
         """Are the clauses satisfiable under the assumptions? None where so many steps are spent, interrupt() was called, or the function
         of set_terminate said so: the next call goes on. Ctrl-C ends it too, and the solver stays as it is."""
         numbers = _literals(assumptions)
         steps = None if steps is None else _fit("Q", steps)
-        this = object()
-        try:
-            # Between its rounds the library would take the assumptions of a second search. Of two threads one sets the default.
-            if self._search.setdefault("this", this) is not this:
-                self._refuse_second()
-            return self._solve(numbers, steps)
-        finally:
-            if self._search.get("this") is this:
-                self._search.clear()
-
-    def _solve(self, numbers: array, steps: Optional[int]) -> Optional[bool]:
         self._use(numbers)
         address, size = numbers.buffer_info()
         self._status = None
@@ -320,10 +332,12 @@ class Solver:
         self._done(_lib.varisat_last_list(self._solver, literals, count))
         return list(literals)
 
+    @_alone
     def get_model(self) -> Optional[List[int]]:
         """After True: the variables in use with their values."""
         return self._listed(_lib.varisat_model) if self._status else None
 
+    @_alone
     def get_core(self) -> Optional[List[int]]:
         """After False: some of the assumptions which fail with the clauses, none where those have no model."""
         return self._listed(_lib.varisat_failed_core) if self._status is False else None
@@ -336,6 +350,7 @@ class Solver:
             yield model
             self.add_clause([-literal for literal in model])
 
+    @_alone
     def new_var(self) -> int:
         """The least free variable, which comes into use."""
         self._status = None
@@ -343,6 +358,7 @@ class Solver:
         self._top = max(self._top, variable)
         return variable
 
+    @_alone
     def _set_mode(self, call: Callable[..., int], variable: int) -> None:
         self._use([variable := _variable(variable)])
         self._done(call(self._solver, variable))
@@ -359,12 +375,14 @@ class Solver:
         """Frees its name; the variable lives on in the clauses."""
         self._set_mode(_lib.varisat_hide_var, variable)
 
+    @_alone
     def observe_internal_vars(self) -> List[int]:
         """Brings hidden variables back as witnesses, and returns their new names; which variable has which is not promised. Those whose
         value is forced, or that no clause of several literals names, may stay hidden."""
         self._use(variables := self._listed(_lib.varisat_observe_internal_vars))
         return variables
 
+    @_alone
     def is_valid(self) -> bool:
         """Whether the solver can go on. After a MemoryError, or what self_check finds wrong, it may not: then all changes are refused."""
         return self._done(_lib.varisat_is_valid(self._solver)) == 1
@@ -381,10 +399,9 @@ class Solver:
         """The COUNTERS, among them the bytes of memory in use. All are 0 while another thread's call is under way."""
         return {name: _lib.varisat_count(self._solver, number) for number, name in enumerate(COUNTERS)}
 
+    @_alone
     def delete(self) -> None:
         """Frees the memory, as the end of a `with` does."""
-        if self._search:
-            self._refuse_second()
         solver, self._solver = self._solver, None
         # While another thread's call is under way it writes to the file.
         if solver and _lib.varisat_free(solver) == _BUSY:

@@ -130,10 +130,15 @@ static int leave(varisat *solver, int answer) {
     if (answer < 0 && !solver->is_lost) {
         const char *text = text_of(answer);
         memset(solver->text, 0, TEXT);
-        if (text)
-            strncpy(solver->text, text, TEXT - 1);
-        else
+        if (!text) {
+            /* Without the limit, which may leave no room for a text. */
+            charged = NULL;
             caller_refusal_copy(&solver->handle, (uint8_t *)solver->text, TEXT - 1);
+            charged = &solver->user.account;
+            text = "Refused, and there is no memory for the reason";
+        }
+        if (!solver->text[0])
+            strncpy(solver->text, text, TEXT - 1);
         solver->error = answer;
         solver->is_lost = !is_valid(solver);
     }

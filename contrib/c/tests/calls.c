@@ -224,6 +224,7 @@ static void heaps(void) {
     for (size_t limit = 1; limit < 400000; limit += limit / 3 + 1) {
         varisat *s = varisat_new(limit);
         if (!s) continue;
+        CHECK(varisat_set(s, VARISAT_VSIDS_DECAY, 3) == VARISAT_OUT_OF_RANGE && strstr(varisat_error_text(s), "vsids_decay"));
         int answer = 0, n = 6;
         for (int p = 0; p < n && !answer; p++) {
             for (int h = 0; h < n - 1 && !answer; h++) answer = varisat_add(s, p * (n - 1) + h + 1);

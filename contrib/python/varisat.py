@@ -12,7 +12,7 @@ import functools
 import os
 import tempfile
 from array import array
-from typing import Any, BinaryIO, Callable, Iterable, Iterator, List, NoReturn, Optional, Protocol, Sequence
+from typing import Any, BinaryIO, Callable, Iterable, Iterator, List, NoReturn, Optional, Protocol, Sequence, TypeVar, cast
 
 __all__ = ["Simplifier", "Solver", "Varisat", "VarisatError", "check_proof", "version"]
 __version__ = "1.0.0"
@@ -155,7 +155,10 @@ def _refuse_copy(self: Any) -> NoReturn:
     raise TypeError(f"a {type(self).__name__} can be neither copied nor pickled")
 
 
-def _alone(call: Any) -> Any:
+_Call = TypeVar("_Call", bound=Callable[..., Any])
+
+
+def _alone(call: _Call) -> _Call:
     """Has a second call of the same solver refused until this one has ended: a search is many calls of the library, between which it could
     change, and a proof is handed on behind each."""
     @functools.wraps(call)
@@ -170,7 +173,7 @@ def _alone(call: Any) -> Any:
             if self._calls.get("this") is this:
                 self._calls.clear()
 
-    return alone
+    return cast(_Call, alone)
 
 
 class Solver:

@@ -99,6 +99,12 @@ class Calls(unittest.TestCase):
             # Without a model as well.
             solver.append_formula([[]])
             self.assertRaises(VarisatError, solver.add_clause, [1 << 29])
+        # Iterables may call the solver to which they are given.
+        with Solver() as solver:
+            solver.append_formula((solver.new_var(), solver.new_var()) for _ in range(2))
+            solver.add_clause(-solver.new_var() for _ in range(2))
+            self.assertTrue(solver.solve(solver.new_var() for _ in range(1)))
+            self.assertEqual((solver.nof_clauses(), solver.nof_vars(), solver.get_model()[6]), (3, 7, 7))
 
     def test_copies(self):
         for owner in (Solver([[1]]), Simplifier([[1]])):

@@ -260,16 +260,19 @@ class Solver:
         """Accepts a clause. Where no_return is False it returns True, which says nothing of models."""
         return self.append_formula([clause], no_return)
 
-    @_alone
     def append_formula(self, formula: Iterable[Iterable[int]], no_return: bool = True) -> Optional[bool]:
         """Accepts the clauses of a list of lists, or of a PySAT CNF, and returns as add_clause does."""
-        numbers, count = _numbers_of(formula)
+        # Before the call, as what is iterated over may call new_var.
+        self._add(*_numbers_of(formula))
+        return None if no_return else True
+
+    @_alone
+    def _add(self, numbers: array, count: int) -> None:
         self._use(numbers)
         address, size = numbers.buffer_info()
         self._status = None
         self._done(_lib.varisat_add_clauses(self._solver, address, size))
         self._clauses += count
-        return None if no_return else True
 
     @_alone
     def read_dimacs(self, file: BinaryIO) -> None:
@@ -284,12 +287,13 @@ class Solver:
             raise
         self._top = max(self._top, self._done(_lib.varisat_end_dimacs(self._solver)))
 
-    @_alone
     def solve(self, assumptions: Iterable[int] = (), steps: Optional[int] = None) -> Optional[bool]:
         """Are the clauses satisfiable under the assumptions? None where so many steps are spent, interrupt() was called, or the function
         of set_terminate said so: the next call goes on. Ctrl-C ends it too, and the solver stays as it is."""
-        numbers = _literals(assumptions)
-        steps = None if steps is None else _fit("Q", steps)
+        return self._solve(_literals(assumptions), None if steps is None else _fit("Q", steps))
+
+    @_alone
+    def _solve(self, numbers: array, steps: Optional[int]) -> Optional[bool]:
         self._use(numbers)
         address, size = numbers.buffer_info()
         self._status = None

@@ -116,8 +116,8 @@ static const char *text_of(int error) {
     case VARISAT_PROOF_IO: return "Error writing proof file";
     case VARISAT_OUT_OF_MEMORY: return "Out of memory";
     case VARISAT_INVALID: return "The solver is invalid after an unrecoverable error";
-    case VARISAT_BAD_ARGUMENT: return "No solver, no list, no such setting, mode or format, or the literal 0";
-    case VARISAT_NOTHING: return "There is no model, core or proof";
+    case VARISAT_BAD_ARGUMENT: return "No solver, list, setting, format or variable, clauses that no 0 ends, or the literal 0";
+    case VARISAT_NOTHING: return "There is no model, core or proof, or the model has no such variable";
     default: return NULL;
     }
 }
@@ -130,10 +130,15 @@ static int leave(varisat *solver, int answer) {
     if (answer < 0 && !solver->is_lost) {
         const char *text = text_of(answer);
         memset(solver->text, 0, TEXT);
-        if (text)
-            strncpy(solver->text, text, TEXT - 1);
-        else
+        if (!text) {
+            /* Without the limit, which may leave no room for a text. */
+            charged = NULL;
             caller_refusal_copy(&solver->handle, (uint8_t *)solver->text, TEXT - 1);
+            charged = &solver->user.account;
+            text = "Refused, and there is no memory for the reason";
+        }
+        if (!solver->text[0])
+            strncpy(solver->text, text, TEXT - 1);
         solver->error = answer;
         solver->is_lost = !is_valid(solver);
     }
@@ -216,6 +221,11 @@ int varisat_is_valid(varisat *solver) {
 
 /* Clauses. */
 
+/* Whether so many members of this size can stand there: they cannot where the count was a negative number, as an error is. */
+static bool is_slice(const void *at, size_t count, size_t size) { return at ? count <= PTRDIFF_MAX / size : !count; }
+
+static bool are_numbers(const int32_t *numbers, size_t count) { return is_slice(numbers, count, sizeof *numbers); }
+
 /* A slice that is never null. */
 static const void *slice(const void *at) {
     static const int32_t none;
@@ -223,11 +233,11 @@ static const void *slice(const void *at) {
 }
 
 int varisat_add_clause(varisat *solver, const int32_t *literals, size_t count) {
-    BEGIN(enter_change(solver, literals || !count));
+    BEGIN(enter_change(solver, are_numbers(literals, count)));
     return changed(solver, caller_add_clause(&solver->handle, slice(literals), count));
 }
 
-static bool are_clauses(const int32_t *numbers, size_t count) { return !count || (numbers && !numbers[count - 1]); }
+static bool are_clauses(const int32_t *numbers, size_t count) { return are_numbers(numbers, count) && (!count || !numbers[count - 1]); }
 
 /* Gives the clauses one by one. */
 static int add_each(uint8_t (*add)(struct handle *, const int32_t *, size_t), struct handle *handle, const int32_t *numbers, size_t count) {
@@ -251,7 +261,7 @@ int varisat_add(varisat *solver, int32_t literal) {
 }
 
 int varisat_read_dimacs(varisat *solver, const char *piece, size_t size) {
-    BEGIN(enter_change(solver, piece || !size));
+    BEGIN(enter_change(solver, is_slice(piece, size, 1)));
     return changed(solver, caller_feed(&solver->handle, slice(piece), size));
 }
 
@@ -263,7 +273,7 @@ int varisat_end_dimacs(varisat *solver) {
 /* Searches. */
 
 int varisat_assume(varisat *solver, const int32_t *literals, size_t count) {
-    BEGIN(enter_change(solver, literals || !count));
+    BEGIN(enter_change(solver, are_numbers(literals, count)));
     int number = caller_assume(&solver->handle, slice(literals), count);
     /* Under a proof that bars assumptions none are made, so that the empty list is assumed already. */
     return changed(solver, number == -VARISAT_PROOF_OPEN && !count ? 0 : number);
@@ -429,7 +439,7 @@ int varisat_self_check(varisat *solver) {
 
 int varisat_check_proof(enum varisat_format format, const char *text, size_t text_size, const void *proof, size_t proof_size, uint64_t *place) {
     uint64_t unused;
-    if ((!text && text_size) || (!proof && proof_size) || format > VARISAT_MARKED)
+    if (!is_slice(text, text_size, 1) || !is_slice(proof, proof_size, 1) || format > VARISAT_MARKED)
         return VARISAT_BAD_ARGUMENT;
     struct account *before = charged;
     charged = NULL;
@@ -473,7 +483,7 @@ int varisat_simplifier_free(varisat_simplifier *simplifier) {
 }
 
 int varisat_simplifier_add_clause(varisat_simplifier *simplifier, const int32_t *literals, size_t count) {
-    BEGIN(enter_simplifier(simplifier, literals || !count));
+    BEGIN(enter_simplifier(simplifier, are_numbers(literals, count)));
     return end(&simplifier->user, -simplifier_add_clause(&simplifier->handle, slice(literals), count));
 }
 
@@ -508,6 +518,6 @@ int varisat_simplifier_clauses(varisat_simplifier *simplifier, int32_t *numbers,
 }
 
 int varisat_simplifier_extend(varisat_simplifier *simplifier, const int32_t *model, size_t count, int32_t *literals, size_t room) {
-    BEGIN(enter_simplifier(simplifier, (model || !count) && (literals || !room)));
+    BEGIN(enter_simplifier(simplifier, are_numbers(model, count) && (literals || !room)));
     return listed(simplifier, simplifier_extend(&simplifier->handle, slice(model), count), literals, room);
 }

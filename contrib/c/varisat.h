@@ -8,8 +8,9 @@
  * A call that returns a list copies as many of its numbers as there is room for, and returns how many there are.
  *
  * Threads: solvers share nothing. One call at a time uses a solver, from whatever thread; a second one is refused as VARISAT_BUSY, and
- * so is a call from within a callback of that solver. varisat_interrupt alone may be called at any time, also in a signal handler.
- * Nothing finds out a solver that was freed, or a pointer that has fewer members than its count says. */
+ * so is a call from within a callback of that solver. A callback has to return: none may throw or jump out. varisat_interrupt alone may
+ * be called at any time, also in a signal handler.
+ * Nothing finds out a solver that was freed, or a pointer that has fewer members than its count says; an error as a count is refused. */
 #ifndef VARISAT_H
 #define VARISAT_H
 
@@ -42,8 +43,8 @@ enum {
     VARISAT_PROOF_TOO_LATE = -11,    /* something was accepted before the proof or the checker */
     VARISAT_OUT_OF_RANGE = -12,      /* a value out of its setting's range */
     VARISAT_DIMACS = -13,            /* a fault of a text; the clauses before it stay */
-    VARISAT_BAD_ARGUMENT = -14,      /* no solver, no list, no setting, the literal 0 */
-    VARISAT_NOTHING = -15,           /* there is no model, core or proof */
+    VARISAT_BAD_ARGUMENT = -14,      /* no solver, no list, clauses that no 0 ends, no setting, the literal 0, no variable */
+    VARISAT_NOTHING = -15,           /* there is no model, core or proof, or the model has no such variable */
     VARISAT_WRONG_PROOF = -16,       /* a line of a proof is wrong */
     VARISAT_OTHER_CLAUSE = -17,      /* a marked proof was given a clause that the text has not */
     VARISAT_BUSY = -18,              /* another call of this solver is under way */
@@ -67,7 +68,7 @@ const char *varisat_error_text(varisat *solver);
 /* Whether the solver can be used. */
 int varisat_is_valid(varisat *solver);
 
-/* Clauses. */
+/* Clauses. Once they are known to have no model each further clause is accepted, whatever variables it names. */
 
 /* Accepts a clause of so many literals. */
 int varisat_add_clause(varisat *solver, const int32_t *literals, size_t count);
@@ -75,8 +76,8 @@ int varisat_add_clause(varisat *solver, const int32_t *literals, size_t count);
 /* Accepts clauses, each of which a 0 ends, up to the first that is refused. */
 int varisat_add_clauses(varisat *solver, const int32_t *numbers, size_t count);
 
-/* Puts a literal behind the clause that is being given, or accepts that clause at 0. One of which a literal found no memory is refused
- * as a whole. */
+/* Puts a literal behind the clause that is being given, or accepts that clause at 0: no search counts it before. One of which a literal
+ * found no memory is refused as a whole. */
 int varisat_add(varisat *solver, int32_t literal);
 
 /* Accepts the clauses that end in the next piece of a DIMACS CNF text. A fault ends the text. */
@@ -105,7 +106,7 @@ int varisat_set_terminate(varisat *solver, int (*terminate)(void *data), void *d
 /* The variables in use with their values, in their order, if the last thing that was found out is that there is a model. */
 int varisat_model(varisat *solver, int32_t *literals, size_t room);
 
-/* Whether the literal is true in this model, 1 or 0. */
+/* Whether the literal is true in this model, 1 or 0. A variable that is not in use is VARISAT_NOTHING, which is not 0. */
 int varisat_value(varisat *solver, int32_t literal);
 
 /* Some of the assumptions which fail together with the clauses, if the last thing that was found out is that they do. */
@@ -126,10 +127,11 @@ int varisat_new_var(varisat *solver);
 int varisat_witness_var(varisat *solver, int32_t variable);
 int varisat_sample_var(varisat *solver, int32_t variable);
 
-/* Frees its name; the variable lives on in the clauses. */
+/* Frees its name; the variable lives on in the clauses. From then on a check of an open proof may fail. */
 int varisat_hide_var(varisat *solver, int32_t variable);
 
-/* Brings hidden variables back as witnesses, and returns their names. Where a valid solver has no memory for that list they are back all
+/* Brings hidden variables back as witnesses, and returns their new names; which variable has which is not promised. One whose value is
+ * forced, or that no clause of several literals names, may stay hidden. Where a valid solver has no memory for that list they are back all
  * the same, and the next model lists them. */
 int varisat_observe_internal_vars(varisat *solver, int32_t *variables, size_t room);
 

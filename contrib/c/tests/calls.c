@@ -38,7 +38,7 @@ static void right_calls(void) {
     CHECK(varisat_solve(s) == VARISAT_SATISFIABLE);
     CHECK(is_list(varisat_model(s, list, ROOM), 2, (int32_t[]){-1, 2}));
     CHECK(varisat_value(s, 2) == 1 && varisat_value(s, -2) == 0 && varisat_value(s, -1) == 1);
-    CHECK(varisat_value(s, 3) == VARISAT_NOTHING);
+    CHECK(varisat_value(s, 3) == VARISAT_NOTHING && strstr(varisat_error_text(s), "no such variable"));
     CHECK(varisat_assume(s, LITS(1, -2)) == 0);
     CHECK(varisat_solve(s) == VARISAT_UNSATISFIABLE);
     CHECK(varisat_failed_core(s, list, ROOM) >= 1 && varisat_is_failed(s, -2) == 1 && varisat_is_failed(s, 2) == 0);
@@ -49,6 +49,7 @@ static void right_calls(void) {
     CHECK(varisat_new_var(s) == 3);
     CHECK(varisat_add_clause(s, NULL, 0) == 0 && varisat_solve(s) == VARISAT_UNSATISFIABLE);
     CHECK(varisat_failed_core(s, list, ROOM) == 0 && varisat_is_failed(s, 1) == 0);
+    CHECK(varisat_add_clause(s, LITS(0x10000001)) == 0 && varisat_add_clause(s, LITS(0)) == VARISAT_BAD_ARGUMENT);
     CHECK(varisat_free(s) == 0);
 }
 
@@ -98,7 +99,14 @@ static void wrong_calls(void) {
     CHECK(varisat_add_clause(s, LITS(1, 0, 2)) == VARISAT_BAD_ARGUMENT);
     CHECK(varisat_error(s) == VARISAT_BAD_ARGUMENT && strstr(varisat_error_text(s), "literal 0"));
     CHECK(varisat_add_clause(s, NULL, 3) == VARISAT_BAD_ARGUMENT && varisat_assume(s, NULL, 3) == VARISAT_BAD_ARGUMENT);
-    CHECK(varisat_add_clauses(s, one, 1) == VARISAT_BAD_ARGUMENT && varisat_assume(s, LITS(0)) == VARISAT_BAD_ARGUMENT);
+    CHECK(varisat_add_clauses(s, one, 1) == VARISAT_BAD_ARGUMENT && strstr(varisat_error_text(s), "no 0 ends"));
+    CHECK(varisat_assume(s, LITS(0)) == VARISAT_BAD_ARGUMENT);
+    /* Errors that are taken for counts. */
+    const size_t error = (size_t)VARISAT_NOTHING;
+    CHECK(varisat_add_clause(s, one, error) == VARISAT_BAD_ARGUMENT && varisat_assume(s, one, error) == VARISAT_BAD_ARGUMENT);
+    CHECK(varisat_add_clauses(s, one, error) == VARISAT_BAD_ARGUMENT && varisat_read_dimacs(s, "1 0", error) == VARISAT_BAD_ARGUMENT);
+    CHECK(varisat_check_proof(VARISAT_DRAT, "1 0", error, "0", 1, NULL) == VARISAT_BAD_ARGUMENT);
+    CHECK(varisat_check_proof(VARISAT_DRAT, "1 0", 3, "0", error, NULL) == VARISAT_BAD_ARGUMENT);
     CHECK(varisat_value(s, 0) == VARISAT_BAD_ARGUMENT && varisat_is_failed(s, 0) == VARISAT_BAD_ARGUMENT);
     CHECK(varisat_value(s, 1) == VARISAT_NOTHING && varisat_is_failed(s, 1) == VARISAT_NOTHING);
     CHECK(varisat_model(s, NULL, 1) == VARISAT_BAD_ARGUMENT && varisat_last_list(s, NULL, 1) == VARISAT_BAD_ARGUMENT);
@@ -216,6 +224,7 @@ static void heaps(void) {
     for (size_t limit = 1; limit < 400000; limit += limit / 3 + 1) {
         varisat *s = varisat_new(limit);
         if (!s) continue;
+        CHECK(varisat_set(s, VARISAT_VSIDS_DECAY, 3) == VARISAT_OUT_OF_RANGE && strstr(varisat_error_text(s), "vsids_decay"));
         int answer = 0, n = 6;
         for (int p = 0; p < n && !answer; p++) {
             for (int h = 0; h < n - 1 && !answer; h++) answer = varisat_add(s, p * (n - 1) + h + 1);
@@ -326,6 +335,9 @@ static void simplifiers(void) {
     CHECK(is_list(varisat_simplifier_extend(s, LITS(-3, 9, 1, INT32_MIN), list, ROOM), 3, (int32_t[]){1, -2, -3}));
     CHECK(is_list(varisat_simplifier_extend(s, NULL, 0, list, 0), 3, list) && varisat_simplifier_extend(s, LITS(1, 0), list, ROOM) == VARISAT_BAD_ARGUMENT);
     CHECK(varisat_simplifier_extend(s, NULL, 1, list, ROOM) == VARISAT_BAD_ARGUMENT && varisat_simplifier_clauses(s, NULL, 1) == VARISAT_BAD_ARGUMENT);
+    CHECK(varisat_simplifier_extend(s, list, (size_t)-1, list, ROOM) == VARISAT_BAD_ARGUMENT);
+    CHECK(varisat_simplifier_add_clause(s, list, (size_t)-1) == VARISAT_BAD_ARGUMENT);
+    CHECK(varisat_simplifier_add_clauses(s, list, (size_t)-1) == VARISAT_BAD_ARGUMENT);
     CHECK(varisat_simplifier_free(s) == 0 && varisat_simplifier_free(NULL) == 0 && varisat_simplifier_simplify(NULL) == VARISAT_BAD_ARGUMENT);
     /* no clauses, and one without literals */
     for (int empty = 0; empty < 2; empty++) {

@@ -107,7 +107,7 @@ int main(void) {
             continue;
         }
         int answered = is_answered(solver, &bytes);
-        CHECK(answered ? bytes > 0 : varisat_error(solver) != 0);
+        CHECK(answered ? bytes > 0 : varisat_error(solver) != 0 && *varisat_error_text(solver));
         CHECK(varisat_free(solver) == 0);
         if (answered) break;
         refused++;

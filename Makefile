@@ -7,6 +7,9 @@ UNPROVED =
 PREFIX = /usr/local
 DESTDIR =
 
+# What is installed names its folder to those who are in another one.
+$(if $(filter-out /%,$(firstword $(PREFIX))),$(error PREFIX=$(PREFIX) is no absolute path))
+
 BIN = $(PREFIX)/bin
 LIBEXEC = $(PREFIX)/libexec/varisat
 MAN = $(PREFIX)/share/man/man1

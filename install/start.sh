@@ -16,15 +16,17 @@ decompressor_of() {
   esac
 }
 
-# Writes the text of the compressed file $1 to a file that has no name and is open as number $2. It is there to its end before the
-# program starts: what a cut archive has of a text may be a text too.
+# Writes the text of the compressed file $1 to a file that has no name and is open as `number`, which the user did not take. It is there
+# to its end before the program starts: what a cut archive has of a text may be a text too.
 decompress() {
   tool=$(decompressor_of "$1")
   command -v "$tool" >/dev/null || fail "'$1': the command $tool is not there"
   text=$(mktemp) || fail "'$1': no place to decompress it"
-  eval "exec $2<>\"\$text\""
+  number=3
+  while [ -e "/dev/fd/$number" ]; do number=$((number + 1)); done
+  eval "exec $number<>\"\$text\""
   rm "$text"
-  "$tool" -dc <"$1" >"/dev/fd/$2" || fail "'$1': cannot be decompressed"
+  "$tool" -dc <"$1" >"/dev/fd/$number" || fail "'$1': cannot be decompressed"
 }
 
 # Stops where a proof would be written over its formula, or under a name that belongs to another format.
@@ -48,8 +50,8 @@ start() {
       solve2 | check2 | check3)
         if [ -n "$(decompressor_of "$word")" ] && [ -f "$word" ] && [ -r "$word" ]; then
           formula=$word
-          decompress "$word" $((place + 6))
-          word=/dev/fd/$((place + 6))
+          decompress "$word"
+          word=/dev/fd/$number
         fi
         ;;
       solve*) [ "$before" != --proof ] || refuse_proof "$formula" "$word" ;;

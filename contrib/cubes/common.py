@@ -1,4 +1,6 @@
 """What the scripts share: how a formula, cubes and the cores of a proof are read, and where the program is."""
+import contextlib
+import math
 import os
 import re
 import subprocess
@@ -14,11 +16,35 @@ def stop(why):
     sys.exit(2)
 
 
+def end(main):
+    """Runs a script, and ends with its status: with 2 where a file or stream fails, also one that is written only as all ends."""
+    try:
+        try:
+            status = main()
+        except SystemExit as ended:
+            status = ended.code
+        if sys.stdout:
+            sys.stdout.flush()
+    except OSError as error:
+        with contextlib.suppress(OSError):
+            print(f"{Path(sys.argv[0]).name}: {error}", file=sys.stderr)
+        # Python would try to write once more, and end with another status.
+        os._exit(2)
+    sys.exit(status)
+
+
 def positive(text):
     """A number above 0; argparse ends with 2 where it is none."""
     if int(text) < 1:
         raise ValueError
     return int(text)
+
+
+def duration(text):
+    """A number of seconds, from 0."""
+    if not 0 <= float(text) < math.inf:
+        raise ValueError
+    return float(text)
 
 
 def program():
@@ -27,13 +53,13 @@ def program():
     for path in [os.environ["VARISAT"]] if "VARISAT" in os.environ else [HERE / "varisat", built]:
         if os.path.isfile(path) and os.access(path, os.X_OK):
             return os.path.abspath(path)
-    stop(f"the program varisat is not there: no {path}; `./varisat --prove` at the top builds it, or VARISAT names it")
+    stop(f"the program varisat is not there: no {path}; `./varisat --prove` at the top builds it, or VARISAT names what `./varisat --which` tells")
 
 
 def varisat(*words, **options):
-    """Runs the program, and returns its status and what it printed."""
-    ran = subprocess.run([program(), *words], stdout=subprocess.PIPE, stderr=subprocess.STDOUT, **options)
-    return ran.returncode, ran.stdout.decode(errors="replace").strip()
+    """Runs the program, and returns its status and what it printed: on standard error, where it printed nothing else."""
+    ran = subprocess.run([program(), *words], stdout=subprocess.PIPE, stderr=subprocess.PIPE, **options)
+    return ran.returncode, (ran.stdout or ran.stderr).decode(errors="replace").strip()
 
 
 def read_bytes(path):
@@ -44,13 +70,16 @@ def read_bytes(path):
 
 
 def read_formula(path):
-    """The clauses of a DIMACS CNF file, each as a list of its literals as they stand. The program reads the file before, so
-    that a fault in it is found by the same rules as everywhere."""
-    status, told = varisat("solve", os.path.join(".", path), "--no-simplify", "--max-steps", "0")
+    """The clauses of a DIMACS CNF file, each as a list of its literals as they stand. The program reads the same bytes before, so
+    that a fault in them is found by the same rules as everywhere."""
+    if os.path.exists(path) and not os.path.isfile(path):
+        stop(f"{path} is no file that can be read again")
+    text = read_bytes(path)
+    status, told = varisat("solve", "-", "--no-simplify", "--max-steps", "0", input=text)
     if status not in (0, 10, 20):
         stop(f"{path}: {told}")
     clauses = [[]]
-    for line in read_bytes(path).split(b"\n"):
+    for line in text.split(b"\n"):
         if line[:1] not in (b"c", b"p"):
             for literal in map(int, line.split()):
                 if literal:

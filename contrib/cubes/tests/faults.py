@@ -107,6 +107,14 @@ def try_faults(folder):
         fault(copy / "batch 4.marked")
         expect((1, "s NOT VERIFIED", *told), ("check", PIGEONS, copy))
     expect((2, "invalid positive value"), ("check", PIGEONS, folder / "right", "--jobs", "0"))
+    expect((2, "usage: split"), ("split", PIGEONS, "2", "0"))
+    expect((2, "invalid duration value"), ("work", PIGEONS, folder / "right/batch 4.cubes", "--seconds", "nan"))
+    # A pipe that is read twice is an empty formula, of which each model is one.
+    expect((2, "no file that can be read again"), ("check", "/dev/stdin", folder / "fault 12"), input="1 0 -1 0")
+    with open("/dev/full", "w") as full:
+        words = [HERE / "check", PIGEONS, folder / "right"]
+        ran = subprocess.run(words, stdout=full, stderr=subprocess.PIPE, env={**os.environ, "PYTHONUNBUFFERED": ""})
+        assert ran.returncode == 2 and b"No space left" in ran.stderr, ran
     other = folder / "other.cnf"
     other.write_text(PIGEONS.read_text().replace("p cnf 56 204\n1 2 ", "p cnf 56 204\n"))
     expect((1, "batch 0.marked: `varisat", "s NOT VERIFIED"), ("check", other, folder / "right"))

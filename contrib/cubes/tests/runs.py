@@ -83,6 +83,8 @@ def try_limits(folder):
     expect((2, "check ended with status 2"), ("run", PIGEONS, "--dir", full, "--jobs", "2"))
     assert (full / "model").exists()
     expect((2, "invalid positive value"), ("run", PIGEONS, "--dir", full, "--batch", "0"))
+    expect((2, "/dev/null has no cube"), ("run", PIGEONS, "--dir", folder / "none", "--cubes", "/dev/null"))
+    expect((2, "/dev/null has no host"), ("run", PIGEONS, "--dir", folder / "none", "--hosts", "/dev/null"))
 
 
 def try_document(folder):

@@ -15,6 +15,7 @@ pub const WITNESS_VAR: c_int = -6;
 pub const ASSUMED_VAR: c_int = -8;
 pub const CLAUSE_AFTER_SOLVE: c_int = -9;
 pub const PROOF_OPEN: c_int = -10;
+pub const PROOF_TOO_LATE: c_int = -11;
 pub const NOTHING: c_int = -15;
 
 #[repr(C)]

@@ -54,7 +54,6 @@ pub struct Solver<'a> {
     numbers: Vec<i32>,
     // What `failed_core` lends, until the solver changes.
     core: OnceCell<Option<Vec<Lit>>>,
-    is_empty: bool,
     is_invalid: bool,
 }
 
@@ -65,7 +64,6 @@ impl<'a> Default for Solver<'a> {
             config: SolverConfig::default(),
             numbers: vec![],
             core: OnceCell::new(),
-            is_empty: true,
             is_invalid: false,
         }
     }
@@ -141,7 +139,6 @@ impl<'a> Solver<'a> {
 
     /// Check the satisfiability of the current formula.
     pub fn solve(&mut self) -> Result<bool, SolverError> {
-        self.is_empty = false;
         self.core = OnceCell::new();
         assert!(
             !self.is_invalid,
@@ -174,14 +171,15 @@ impl<'a> Solver<'a> {
 
     /// Generate a proof of unsatisfiability during solving.
     pub fn write_proof(&mut self, target: impl io::Write + 'a, format: ProofFormat) {
-        assert!(self.is_empty, "called after clauses were added");
         let format = match format {
             ProofFormat::Drat => 0,
             ProofFormat::BinaryDrat => 1,
             ProofFormat::Varisat => panic!("ProofFormat::Varisat is not written by this solver"),
         };
-        let answer = self.library.write_proof(format, Box::new(target));
-        assert!(answer == 0, "{}", self.library.error_text());
+        match self.library.write_proof(format, Box::new(target)) {
+            PROOF_OPEN => panic!("a proof is open"),
+            answer => self.changed(answer),
+        }
     }
 
     /// Stop generating a proof of unsatisfiability.
@@ -200,26 +198,22 @@ impl<'a> Solver<'a> {
 
     /// Generate and check a proof on the fly.
     pub fn enable_self_checking(&mut self) {
-        assert!(self.is_empty, "called after clauses were added");
         let answer = self.library.self_check();
         self.changed(answer);
-        self.is_empty = true;
     }
 
     /// Generate a proof and process it using a [`ProofProcessor`]: this solver has no such call, and panics.
     pub fn add_proof_processor(&mut self, _processor: &'a mut dyn ProofProcessor) {
-        assert!(self.is_empty, "called after clauses were added");
         panic!("proof processors are not offered by this solver");
     }
 
     /// Ends a call that changes the solver. Wrong calls panic, as in the original; so do memory and limits that are spent.
     fn changed(&mut self, answer: c_int) {
-        self.is_empty = false;
         self.core = OnceCell::new();
         match answer {
             PROOF_IO | 0.. => {}
-            // `solve` tells that the writer failed.
-            INVALID if self.library.has_error() => {}
+            INVALID if self.is_told() => {}
+            PROOF_TOO_LATE => panic!("called after clauses were added, or a variable or assumption"),
             WITNESS_VAR => panic!("witness variables cannot be constrained"),
             ASSUMED_VAR => panic!("cannot change sampling mode of assumption variable"),
             CLAUSE_AFTER_SOLVE => panic!("incremental clause additions not supported by DRAT proofs"),
@@ -233,8 +227,14 @@ impl<'a> Solver<'a> {
         match listed {
             Ok(numbers) => Some(numbers.into_iter().map(|it| Lit::from_dimacs(it as isize)).collect()),
             Err(NOTHING) => None,
+            Err(INVALID) if self.is_told() => None,
             Err(_) => panic!("{}", self.library.error_text()),
         }
+    }
+
+    /// Whether `solve` tells or has told why the solver is invalid.
+    fn is_told(&self) -> bool {
+        self.is_invalid || self.library.has_error()
     }
 
     /// An error from which there is no way back.

@@ -105,6 +105,10 @@ fn a_writer_that_fails() {
         other => panic!("{other:?}"),
     }
     assert!(solver.close_proof().is_ok());
+    // What was told once is no reason to panic before the next `solve`.
+    solver.add_formula(&square());
+    solver.assume(&lits(&[1]));
+    assert!(solver.model().is_none() && solver.failed_core().is_none() && solver.observe_internal_vars().is_empty());
 }
 
 #[test]
@@ -132,6 +136,23 @@ fn assumptions_under_a_proof() {
     solver.write_proof(io::sink(), ProofFormat::Drat);
     solver.assume(&[]);
     solver.assume(&lits(&[1]));
+}
+
+#[test]
+#[should_panic(expected = "called after clauses were added, or a variable or assumption")]
+fn a_proof_behind_a_variable() {
+    let mut solver = Solver::new();
+    solver.new_var();
+    solver.write_proof(io::sink(), ProofFormat::Drat);
+}
+
+#[test]
+#[should_panic(expected = "a proof is open")]
+fn two_proofs() {
+    let mut solver = Solver::new();
+    assert!(solver.solve().unwrap());
+    solver.write_proof(io::sink(), ProofFormat::Drat);
+    solver.write_proof(io::sink(), ProofFormat::BinaryDrat);
 }
 
 #[test]

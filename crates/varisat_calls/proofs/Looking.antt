@@ -1,5 +1,5 @@
 -- The literals of a list that are kept, and what is returned of one of them.
-use Rattle.std.proofs.Common.{◌≡◌, ℕ, ℤ, [], inl, refl, sym, ap, subst, ◌∙◌}
+use Rattle.std.proofs.Common.{◌≡◌, ℕ, ℤ, [], inl, refl, sym, subst, ◌∙◌}
 use Rattle.std.specs.Prelude.{Bool, List, Err}
 use Rattle.std.specs.declared.alloc.AllocError.{AllocError}
 use Rattle.varisat_theory.specs.promises.Membership.{◌∈◌}

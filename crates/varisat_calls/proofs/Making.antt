@@ -18,7 +18,7 @@ use Rattle.varisat_solver.specs.promises.Represented.{LeadsRepresented}
 use Rattle.varisat_solver.specs.promises.Calls.{Solves, Configures, by_state}
 use Rattle.varisat_solver.specs.promises.ClauseCalls.{AddsFormula}
 use Rattle.varisat_solver.specs.promises.ProofCalls.{OpensProof}
-use Rattle.varisat_solver.specs.promises.Usage.{ChangesMode}
+use Rattle.varisat_solver.specs.promises.Usage.{Observes, ChangesMode}
 use Rattle.varisat_solver.specs.promises.Refusals.{refusal_number}
 use Rattle.varisat_solver.specs.declared.solver.SolverError.TheVariants as error
 use Rattle.varisat_solver.specs.declared.solver.SolverError.{SolverError}
@@ -83,11 +83,9 @@ names-returned g h us shows returned rest =
     Returned us refl shows (rest ∙ ap (λ ts. let made : Caller = record g { solver = h.solver; returned = ts } in made) returned)
 
 -- or there was no room for them
-pub no-room : (g mid h : Caller) (us : List ℕ) (n : ℕ) → n ≡ 3 → h ≡ record mid { returned = [] } → ShowsNames us g mid →
-    mid ≡ record g { solver = mid.solver; returned = mid.returned } → ShowsHidden g n h
-no-room g mid h us n number same shows rest =
-    let without : Caller → Caller = λ x. record x { returned = [] } in
-    subst (λ x. ShowsHidden g n x) (sym same) (NoRoom us number shows (ap without rest))
+pub no-room : (g h : Caller) (after : Summary) (us : List ℕ) (n : ℕ) → n ≡ 3 → h ≡ record g { solver = after; returned = [] } →
+    LeadsRepresented g.solver (λ s t. Observes s (Ok us) t) after → ShowsHidden g n h
+no-room g h after us n number same shows = subst (λ x. ShowsHidden g n x) (sym same) (NoRoom us number shows refl)
 
 -- 3. Proofs.
 

@@ -10,7 +10,7 @@ returns-in-Ok-list_names g c = rw (← c.self.view_is)
 
 pub returns-in-Ok : goal.returns-in-Ok
 returns-in-Ok g c = rw (← c.self.view_is)
-    (no-room _ _ _ c.in-Ok.vars.items _ c.run_out.ensures.number c.run_out.ensures.frame c.in-Ok.ensures refl)
+    (no-room _ _ _ c.in-Ok.vars.items _ c.run_out.ensures.number c.run_out.ensures.frame c.in-Ok.ensures)
 
 pub returns : goal.returns
 returns g c = rw (← c.self.view_is)

@@ -433,7 +433,7 @@ class Solver:
 
 
 class Simplifier:
-    """Makes clauses fewer before a solver takes them: variables that are not frozen may be eliminated. Freeze those that later clauses or
+    """Makes clauses shorter before a solver takes them: variables that are not frozen may be eliminated. Freeze those that later clauses or
     assumptions name. MemoryError and VarisatError are refusals, which change nothing."""
 
     def __init__(self, clauses: Iterable[Iterable[int]] = (), frozen: Iterable[int] = (), heap_limit: int = 0):

@@ -1,4 +1,4 @@
-"""What the run-time checks of the program without proofs cost."""
+"""The program without proofs beside the proved one."""
 import datetime
 import os
 import statistics

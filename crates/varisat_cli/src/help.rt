@@ -48,7 +48,8 @@ Prints one of
 
 Options, in any order, each at most once:
 
-    --proof P        write a DRAT proof to the file P, which is made or emptied; it must not be FILE
+    --proof P        write a DRAT proof to the file P, which is made or emptied; it must not be FILE,
+                     nor the file to which standard output goes
     --binary         write the proof in the binary format; only with --proof
     --marked         write it as marked text, in which the clauses of FILE stand too; only with --proof,
                      and not with --binary

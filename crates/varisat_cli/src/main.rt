@@ -129,34 +129,43 @@ struct CheckWords<'a> {
     is_drat: bool,
 }
 
-// Reads the words of `check`, of which `--drat` comes first.
+// Reads the words of `check`: the options come behind the files, in any order, but `--drat` may come first.
 fn check_words(words: &[String]) -> Option<CheckWords<'_>> {
     let (first, behind) = words.split_first()?;
-    let is_drat = first.as_str() == "--drat";
-    let operands = if is_drat { behind } else { words };
+    let is_first = first.as_str() == DRAT_OPTION;
+    let operands = if is_first { behind } else { words };
     let (cnf, others) = operands.split_first()?;
     let (proof, options) = others.split_first()?;
-    let format = check_format(options)?;
-    if is_drat && format == ProofFormat::Marked {
-        return None;
-    }
-    Some(CheckWords {
+    let mut found = CheckWords {
         cnf: cnf.as_str(),
         proof: proof.as_str(),
-        format,
-        is_drat,
-    })
+        format: ProofFormat::Drat,
+        is_drat: is_first,
+    };
+    for option in options {
+        found.set(option.as_str())?;
+    }
+    if found.is_drat && found.format == ProofFormat::Marked {
+        return None;
+    }
+    Some(found)
 }
 
-// The format of the proof that `check` reads: text, binary with `--binary`, or marked text with `--marked`.
-fn check_format(options: &[String]) -> Option<ProofFormat> {
-    let Some((option, others)) = options.split_first() else {
-        return Some(ProofFormat::Drat);
-    };
-    match option.as_str() {
-        "--binary" if others.is_empty() => Some(ProofFormat::BinaryDrat),
-        "--marked" if others.is_empty() => Some(ProofFormat::Marked),
-        _ => None,
+// The option by which `check` takes lines of solvers that simplify.
+const DRAT_OPTION: &str = "--drat";
+
+impl CheckWords<'_> {
+    // Takes an option. None is for one that there is not, or that came before.
+    fn set(&mut self, option: &str) -> Option<()> {
+        match option {
+            DRAT_OPTION if !self.is_drat => self.is_drat = true,
+            "--binary" if self.format == ProofFormat::Drat => {
+                self.format = ProofFormat::BinaryDrat;
+            }
+            "--marked" if self.format == ProofFormat::Drat => self.format = ProofFormat::Marked,
+            _ => return None,
+        }
+        Some(())
     }
 }
 
@@ -288,8 +297,13 @@ const STANDARD_INPUT: &str = "-";
 // The file that the system has for standard input.
 const INPUT_FILE: &str = "/dev/stdin";
 
+// The file that the system has for standard output.
+const OUTPUT_FILE: &str = "/dev/stdout";
+
 // Why the file of a proof is neither made nor emptied.
 const SAME_FILE: &str = "the formula is in this file, which a proof would overwrite";
+
+const PRINTED_FILE: &str = "what is printed goes to this file, which a proof would overwrite";
 
 // Decides the formula in a file, or on standard input. It is opened before the file of a proof.
 fn solve(rt: &HostRuntime, path: &str, words: &SolveWords<'_>) -> u8 {
@@ -318,6 +332,9 @@ fn solve_from<R: Read + Drop>(
     let proof_path = words.proof.unwrap_or("");
     if is_written_over(rt, found, words.proof) {
         return print_file_fault(&mut err, proof_path, &SAME_FILE);
+    }
+    if is_printed_over(rt, words.proof) {
+        return print_file_fault(&mut err, proof_path, &PRINTED_FILE);
     }
     match create_target(rt, words.proof) {
         Ok(mut proof) => decide_from(rt, cnf, &mut proof, words),
@@ -349,13 +366,21 @@ fn decide_from<R: Read + Drop>(
     }
 }
 
-// Whether a proof would be written over the file of the formula, under whatever name.
-fn is_written_over(rt: &HostRuntime, cnf: Option<Metadata>, proof: Option<&str>) -> bool {
-    let (Some(cnf), Some(path)) = (cnf, proof) else {
+// Whether a proof would be written over the file that has this metadata, under whatever name.
+fn is_written_over(rt: &HostRuntime, other: Option<Metadata>, proof: Option<&str>) -> bool {
+    let (Some(other), Some(path)) = (other, proof) else {
         return false;
     };
     match fs::metadata(rt, path) {
-        Ok(found) => is_same_file(&cnf, &found),
+        Ok(found) => is_same_file(&other, &found),
+        Err(_) => false,
+    }
+}
+
+// Whether a proof would be written over the file to which standard output goes. A terminal or a pipe takes both.
+fn is_printed_over(rt: &HostRuntime, proof: Option<&str>) -> bool {
+    match fs::metadata(rt, OUTPUT_FILE) {
+        Ok(printed) => printed.is_file() && is_written_over(rt, Some(printed), proof),
         Err(_) => false,
     }
 }

@@ -102,67 +102,83 @@ moves-alike p q g (call.Add n) (answer.Search r) m h = absurd m
 moves-alike p q g (call.Add n) (answer.Value r) m h = absurd m
 moves-alike p q g (call.Add n) (answer.HasFailed r) m h = absurd m
 moves-alike p q g (call.Add n) (answer.Refusal r) m h = absurd m
+moves-alike p q g (call.Add n) (answer.Steps r) m h = absurd m
 moves-alike p q g (call.Assume n) answer.Done m h = assume-agrees n p q g m h
 moves-alike p q g (call.Assume n) (answer.Search r) m h = absurd m
 moves-alike p q g (call.Assume n) (answer.Value r) m h = absurd m
 moves-alike p q g (call.Assume n) (answer.HasFailed r) m h = absurd m
 moves-alike p q g (call.Assume n) (answer.Refusal r) m h = absurd m
+moves-alike p q g (call.Assume n) (answer.Steps r) m h = absurd m
 moves-alike p q g call.Begin answer.Done m h = begin-agrees p q g m h
 moves-alike p q g call.Begin (answer.Search r) m h = absurd m
 moves-alike p q g call.Begin (answer.Value r) m h = absurd m
 moves-alike p q g call.Begin (answer.HasFailed r) m h = absurd m
 moves-alike p q g call.Begin (answer.Refusal r) m h = absurd m
+moves-alike p q g call.Begin (answer.Steps r) m h = absurd m
 moves-alike p q g call.Search answer.Done m h = absurd m
 moves-alike p q g call.Search (answer.Search r) m h = search-agrees r p q g m h
 moves-alike p q g call.Search (answer.Value r) m h = absurd m
 moves-alike p q g call.Search (answer.HasFailed r) m h = absurd m
 moves-alike p q g call.Search (answer.Refusal r) m h = absurd m
+moves-alike p q g call.Search (answer.Steps r) m h = absurd m
 moves-alike p q g (call.LimitSteps n) answer.Done m h = limit-agrees n p q g m h
 moves-alike p q g (call.LimitSteps n) (answer.Search r) m h = absurd m
 moves-alike p q g (call.LimitSteps n) (answer.Value r) m h = absurd m
 moves-alike p q g (call.LimitSteps n) (answer.HasFailed r) m h = absurd m
 moves-alike p q g (call.LimitSteps n) (answer.Refusal r) m h = absurd m
+moves-alike p q g (call.LimitSteps n) (answer.Steps r) m h = absurd m
 moves-alike p q g (call.Value n) answer.Done m h = absurd m
 moves-alike p q g (call.Value n) (answer.Search r) m h = absurd m
 moves-alike p q g (call.Value n) (answer.Value r) m h = same-agrees p q g m.1 h
 moves-alike p q g (call.Value n) (answer.HasFailed r) m h = absurd m
 moves-alike p q g (call.Value n) (answer.Refusal r) m h = absurd m
+moves-alike p q g (call.Value n) (answer.Steps r) m h = absurd m
 moves-alike p q g (call.HasFailed n) answer.Done m h = absurd m
 moves-alike p q g (call.HasFailed n) (answer.Search r) m h = absurd m
 moves-alike p q g (call.HasFailed n) (answer.Value r) m h = absurd m
 moves-alike p q g (call.HasFailed n) (answer.HasFailed r) m h = same-agrees p q g m.1 h
 moves-alike p q g (call.HasFailed n) (answer.Refusal r) m h = absurd m
+moves-alike p q g (call.HasFailed n) (answer.Steps r) m h = absurd m
 moves-alike p q g call.Refusal answer.Done m h = absurd m
 moves-alike p q g call.Refusal (answer.Search r) m h = absurd m
 moves-alike p q g call.Refusal (answer.Value r) m h = absurd m
 moves-alike p q g call.Refusal (answer.HasFailed r) m h = absurd m
 moves-alike p q g call.Refusal (answer.Refusal r) m h = same-agrees p q g m.1 h
+moves-alike p q g call.Refusal (answer.Steps r) m h = absurd m
+moves-alike p q g call.Steps answer.Done m h = absurd m
+moves-alike p q g call.Steps (answer.Search r) m h = absurd m
+moves-alike p q g call.Steps (answer.Value r) m h = absurd m
+moves-alike p q g call.Steps (answer.HasFailed r) m h = absurd m
+moves-alike p q g call.Steps (answer.Refusal r) m h = absurd m
+moves-alike p q g call.Steps (answer.Steps r) m h = same-agrees p q g m.1 h
 
 -- a search ends as it may
-search-decides : (r : SearchEnd) (p q : Past) (g : Given) → IsSearchEnd r p q → Agrees p g → IsRightAnswer g call.Search (answer.Search r)
-search-decides r p q g (past.Refused o e) a = subst (λ x. IsRightAnswer g call.Search (answer.Search x)) (sym o) tt
+search-decides : (r : SearchEnd) (p q : Past) (g : Given) → IsSearchEnd r p q → Agrees p g → IsRightAnswer g (answer.Search r)
+search-decides r p q g (past.Refused o e) a = subst (λ x. IsRightAnswer g (answer.Search x)) (sym o) tt
 search-decides r p q g (past.Satisfiable o f m few e) a =
     let (s, makes, all, assumed) = m.satisfied in
-    subst (λ x. IsRightAnswer g call.Search (answer.Search x)) (sym o) (subst (λ (x : Given). IsSatisfiableWith x.clauses x.assumed) (a f) (s, all, assumed))
+    subst (λ x. IsRightAnswer g (answer.Search x)) (sym o) (subst (λ (x : Given). IsSatisfiableWith x.clauses x.assumed) (a f) (s, all, assumed))
 search-decides r p q g (past.Unsatisfiable o f m few e) a =
-    subst (λ x. IsRightAnswer g call.Search (answer.Search x)) (sym o)
+    subst (λ x. IsRightAnswer g (answer.Search x)) (sym o)
     (λ h. let (s, all, assumed) = subst (λ (x : Given). IsSatisfiableWith x.clauses x.assumed) (sym (a f)) h in
     m.1 (s, all, (λ l i. assumed l (m.0 l i))))
-search-decides r p q g (past.Interrupted o f m few e) a = subst (λ x. IsRightAnswer g call.Search (answer.Search x)) (sym o) tt
+search-decides r p q g (past.Interrupted o f m few e) a = subst (λ x. IsRightAnswer g (answer.Search x)) (sym o) tt
 
-decides : (p q : Past) (g : Given) (c : Call) (a : Answer) → Makes p c a q → Agrees p g → IsRightAnswer g c a
-decides p q g (call.Add n) a m h = tt
-decides p q g (call.Assume n) a m h = tt
-decides p q g call.Begin a m h = tt
-decides p q g call.Search answer.Done m h = tt
+decides : (p q : Past) (g : Given) (c : Call) (a : Answer) → Makes p c a q → Agrees p g → IsRightAnswer g a
+decides p q g (call.Add n) (answer.Search r) m h = absurd m
+decides p q g (call.Assume n) (answer.Search r) m h = absurd m
+decides p q g call.Begin (answer.Search r) m h = absurd m
 decides p q g call.Search (answer.Search r) m h = search-decides r p q g m h
-decides p q g call.Search (answer.Value r) m h = tt
-decides p q g call.Search (answer.HasFailed r) m h = tt
-decides p q g call.Search (answer.Refusal r) m h = tt
-decides p q g (call.LimitSteps n) a m h = tt
-decides p q g (call.Value n) a m h = tt
-decides p q g (call.HasFailed n) a m h = tt
-decides p q g call.Refusal a m h = tt
+decides p q g (call.LimitSteps n) (answer.Search r) m h = absurd m
+decides p q g (call.Value n) (answer.Search r) m h = absurd m
+decides p q g (call.HasFailed n) (answer.Search r) m h = absurd m
+decides p q g call.Refusal (answer.Search r) m h = absurd m
+decides p q g call.Steps (answer.Search r) m h = absurd m
+decides p q g c answer.Done m h = tt
+decides p q g c (answer.Value r) m h = tt
+decides p q g c (answer.HasFailed r) m h = tt
+decides p q g c (answer.Refusal r) m h = tt
+decides p q g c (answer.Steps r) m h = tt
 
 pub are-decided : (p q : Past) (g : Given) (calls : List Call) (answers : List Answer) → MakeInTurn p calls answers q → Agrees p g →
     AreDecided g calls answers

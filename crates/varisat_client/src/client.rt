@@ -170,7 +170,7 @@ impl<A: Allocator + Copy> Client<A> {
         }
     }
 
-    /// How many steps all searches made together.
+    /// How many steps all searches made together, as long as no call was refused.
     pub fn steps(&self) -> u64
         ensures { (p : Past) → RepresentsPast self.now p → p.refusal ≡ None → result ≡ p.steps }
     {

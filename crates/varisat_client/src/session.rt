@@ -20,6 +20,7 @@ pub enum Call {
     Value(i32),
     HasFailed(i32),
     Refusal,
+    Steps,
 }
 
 /// What a call returned.
@@ -30,6 +31,7 @@ pub enum Answer {
     Value(i32),
     HasFailed(bool),
     Refusal(Option<Refusal>),
+    Steps(u64),
 }
 
 /// Makes one call.
@@ -57,6 +59,7 @@ pub fn make_call<A: Allocator + Copy>(client: &mut Client<A>, call: Call) -> Ans
         Call::Value(number) => Answer::Value(client.value(number)),
         Call::HasFailed(number) => Answer::HasFailed(client.has_failed(number)),
         Call::Refusal => Answer::Refusal(client.refusal()),
+        Call::Steps => Answer::Steps(client.steps()),
     }
 }
 
@@ -81,7 +84,8 @@ pub fn run<A: Allocator + Copy>(
 /// alone: for each search that is satisfiable some assignment satisfies the clauses that were given until then and
 /// makes the assumptions true under which it was begun, and for each that is unsatisfiable none does. All searches since
 /// a clause ended, a search was begun or a limit was given make fewer than 2^(2n+3) steps together, where n variables
-/// were given so far: so where each may make some they come to an end, or no more steps can be counted.
+/// are in clauses that ended and assumptions under which a search was begun: so where each may make some they come to
+/// an end, or no more steps can be counted. `Steps` tells how many all searches made, until a call is refused.
 pub fn answers_of<A: Allocator + Copy>(calls: Vec<Call, A>) -> Result<Vec<Answer, A>, AllocError>
     ensures truth { IfOk result (λ answers. (q : Past) × MakeInTurn empty_past calls.items answers.items q) }
     ensures decided { IfOk result (λ answers. AreDecided none_given calls.items answers.items) }

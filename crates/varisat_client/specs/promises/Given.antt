@@ -37,13 +37,13 @@ give _ g = g
 
 -- A search is satisfiable only where some assignment satisfies the clauses and makes the assumptions true, and unsatisfiable only
 -- where none does.
-abbrev pub IsRightAnswer : Given → Call → Answer → Type 0
-IsRightAnswer g call.Search (answer.Search end.Satisfiable) = IsSatisfiableWith g.clauses g.assumed
-IsRightAnswer g call.Search (answer.Search end.Unsatisfiable) = IsSatisfiableWith g.clauses g.assumed → ⊥
-IsRightAnswer g _ _ = Unit {0}
+abbrev pub IsRightAnswer : Given → Answer → Type 0
+IsRightAnswer g (answer.Search end.Satisfiable) = IsSatisfiableWith g.clauses g.assumed
+IsRightAnswer g (answer.Search end.Unsatisfiable) = IsSatisfiableWith g.clauses g.assumed → ⊥
+IsRightAnswer g _ = Unit {0}
 
 -- so are all searches of the calls, each by what was given before it
 abbrev pub AreDecided : Given → List Call → List Answer → Type 0
 AreDecided g [] [] = Unit {0}
-AreDecided g (c ∷ cs) (a ∷ answers) = IsRightAnswer g c a × AreDecided (give c g) cs answers
+AreDecided g (c ∷ cs) (a ∷ answers) = IsRightAnswer g a × AreDecided (give c g) cs answers
 AreDecided g _ _ = ⊥

@@ -1,5 +1,5 @@
 -- Calls of a client in turn with their answers.
-use Rattle.std.specs.Prelude.{◌≡◌, List, [], ◌∷◌}
+use Rattle.std.specs.Prelude.{◌≡◌, None, List, [], ◌∷◌}
 use Rattle.varisat_client.specs.promises.Pasts.{Past, AddsNumber, AssumesNumber, Begins, LimitsSteps, IsSearchEnd, ReturnsValue, ReturnsFailed}
 use Rattle.varisat_client.specs.declared.session.Call.{Call}
 use Rattle.varisat_client.specs.declared.session.Answer.{Answer}
@@ -16,6 +16,7 @@ Makes p (call.LimitSteps n) answer.Done q = LimitsSteps n p q
 Makes p (call.Value n) (answer.Value r) q = ReturnsValue n r p × (q ≡ p)
 Makes p (call.HasFailed n) (answer.HasFailed b) q = ReturnsFailed n b p × (q ≡ p)
 Makes p call.Refusal (answer.Refusal why) q = (why ≡ p.refusal) × (q ≡ p)
+Makes p call.Steps (answer.Steps n) q = (p.refusal ≡ None → n ≡ p.steps) × (q ≡ p)
 Makes p _ _ q = ⊥
 
 -- The calls in turn may get the answers in turn, one each, and lead from p to q.

@@ -20,6 +20,7 @@ fn number_of(answer: Answer) -> i32 {
         Answer::Refusal(Some(Refusal::OutOfMemory)) => 1,
         Answer::Refusal(Some(Refusal::VariableLimit)) => 2,
         Answer::Refusal(Some(Refusal::ClauseStoreFull)) => 3,
+        Answer::Steps(steps) => i32::try_from(steps).unwrap_or(i32::MAX),
     }
 }
 
@@ -132,7 +133,41 @@ const LIMITED: [(Call, i32); 11] = [
     (Search, 10),
 ];
 
-const ROWS: [Row; 7] = [&NEW, &CHAIN, &EMPTY, &OPEN, &PAST, &PAST_ASSUMED, &LIMITED];
+// All clauses of two variables: no unit propagation starts from them, so that the first step of a search learns a clause,
+// and does not end it. Steps of all searches are counted together, and the limit is for each.
+const COUNTED: [(Call, i32); 20] = [
+    (Call::Steps, 0),
+    (Add(1), 0),
+    (Add(2), 0),
+    (Add(0), 0),
+    (Add(1), 0),
+    (Add(-2), 0),
+    (Add(0), 0),
+    (Add(-1), 0),
+    (Add(2), 0),
+    (Add(0), 0),
+    (Add(-1), 0),
+    (Add(-2), 0),
+    (Add(0), 0),
+    (LimitSteps(0), 0),
+    (Search, 0),
+    (Call::Steps, 0),
+    (LimitSteps(1), 0),
+    (Search, 0),
+    (Call::Steps, 1),
+    (Call::Steps, 1),
+];
+
+const ROWS: [Row; 8] = [
+    &NEW,
+    &CHAIN,
+    &EMPTY,
+    &OPEN,
+    &PAST,
+    &PAST_ASSUMED,
+    &LIMITED,
+    &COUNTED,
+];
 
 // The place of the first call of the row that is answered otherwise, if one is.
 fn first_wrong<A: Allocator + Copy>(client: &mut Client<A>, row: Row) -> Option<usize> {

@@ -41,3 +41,6 @@ returns-in-HasFailed g c p st = let f : SFits w32 c.in-HasFailed.number = search
 
 pub returns-in-Refusal : goal.returns-in-Refusal
 returns-in-Refusal g c p st = rw c.in-Refusal.is (p, (c.refusal.ensures p st, refl), st)
+
+pub returns-in-Steps : goal.returns-in-Steps
+returns-in-Steps g c p st = rw c.in-Steps.is (p, (c.steps.ensures p st, refl), st)

@@ -2,7 +2,7 @@
 use Rattle.std.specs.Prelude.{◌≡◌, ℕ, ◌-◌, ◌^◌, min, ℤ, pos, ◌-ℤ◌, Result, Ok, Err}
 use Rattle.varisat_literals.specs.promises.Numbers.{variable_number}
 use Rattle.varisat_calls.specs.Callers.{Caller, NamesNew}
-use Rattle.varisat_calls.specs.Texts.{EndsText}
+use Rattle.varisat_calls.specs.Texts.{EndsGivenText}
 
 -- a variable's number, or the opposite of a refusal's
 abbrev pub variable_answer : Result ℕ ℕ → ℤ
@@ -20,4 +20,4 @@ NamesBy g n h = (r : Result ℕ ℕ) × (n ≡ variable_answer r) × NamesNew g 
 
 -- the number speaks of the text that ended
 abbrev pub AnswersEnd : Caller → ℤ → Caller → Type 0
-AnswersEnd g n h = (r : Result ℕ ℕ) × (n ≡ count_answer r) × EndsText g r h
+AnswersEnd g n h = (r : Result ℕ ℕ) × (n ≡ count_answer r) × EndsGivenText g r h

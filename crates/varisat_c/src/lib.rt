@@ -7,8 +7,8 @@ ghost use Rattle.varisat_solver.specs.promises.Represented.{LeadsRepresented};
 ghost use Rattle.varisat_solver.specs.promises.Calls.{AddsClause, Assumes, ReturnsList, ReturnsSteps, ReturnsValid, by_state};
 ghost use Rattle.varisat_solver.specs.promises.ProofCalls.{EnablesChecking};
 ghost use Rattle.varisat_calls.specs.Codes.{field_numbered, format_numbered, mode_numbered};
-ghost use Rattle.varisat_calls.specs.Callers.{IsNewCaller, MakesNumbered, MakesOver, AddsNumber, LimitsSteps, SolvesNumbered, SetsField, SetsMode, ReturnsListOf, ShowsHidden, OpensFormat, Closes, TakesWritten};
-ghost use Rattle.varisat_calls.specs.Lookups.{ReturnsValue, ReturnsFailed};
+ghost use Rattle.varisat_calls.specs.Callers.{IsNewCaller, MakesNumbered, MakesOver, PutsNumber, SetsMaxSteps, SolvesNumbered, SetsField, SetsModeNumbered, ReturnsListOf, ShowsHidden, OpensFormat, ClosesNumbered, TakesWritten};
+ghost use Rattle.varisat_calls.specs.Lookups.{LooksUpValue, LooksUpFailed};
 ghost use Rattle.varisat_calls.specs.Texts.{Feeds, IsRefutedText};
 ghost use Rattle.varisat_calls.specs.Checks.{ReturnsCheck};
 ghost use Rattle.varisat_c.specs.Codes.{NamesBy, AnswersEnd};
@@ -100,7 +100,7 @@ pub extern "C" fn caller_add_clause(alloc: Global, handle: &mut Handle, numbers:
 #[unsafe(no_mangle)]
 pub extern "C" fn caller_add(alloc: Global, handle: &mut Handle, number: i32) -> u8
     requires { IsSome handle.old.held }
-    ensures { MovesHeld (λ g h. AddsNumber number g result h) handle.old.held handle.new.held }
+    ensures { MovesHeld (λ g h. PutsNumber number g result h) handle.old.held handle.new.held }
 {
     let mut caller = handle.take(alloc);
     let answer = caller.add(number);
@@ -148,7 +148,7 @@ pub extern "C" fn caller_assume(alloc: Global, handle: &mut Handle, numbers: &[i
 #[unsafe(no_mangle)]
 pub extern "C" fn caller_limit_steps(alloc: Global, handle: &mut Handle, steps: u64)
     requires { IsSome handle.old.held }
-    ensures { MovesHeld (LimitsSteps steps) handle.old.held handle.new.held }
+    ensures { MovesHeld (SetsMaxSteps steps) handle.old.held handle.new.held }
 {
     let mut caller = handle.take(alloc);
     caller.limit_steps(steps);
@@ -185,7 +185,8 @@ pub extern "C" fn caller_new_var(alloc: Global, handle: &mut Handle) -> isize
 #[unsafe(no_mangle)]
 pub extern "C" fn caller_set_mode(alloc: Global, handle: &mut Handle, variable: i32, mode: u8) -> u8
     requires { IsSome handle.old.held }
-    ensures { MovesHeld (λ g h. SetsMode variable (mode_numbered mode) g result h) handle.old.held handle.new.held }
+    ensures { MovesHeld
+        (λ g h. SetsModeNumbered variable (mode_numbered mode) g result h) handle.old.held handle.new.held }
 {
     let mut caller = handle.take(alloc);
     let answer = caller.set_mode(variable, mode);
@@ -226,7 +227,7 @@ pub extern "C" fn caller_core(alloc: Global, handle: &mut Handle) -> u8
 #[unsafe(no_mangle)]
 pub extern "C" fn caller_value(alloc: Global, handle: &mut Handle, number: i32) -> u8
     requires { IsSome handle.old.held }
-    ensures { MovesHeld (λ g h. ReturnsValue number g result h) handle.old.held handle.new.held }
+    ensures { MovesHeld (λ g h. LooksUpValue number g result h) handle.old.held handle.new.held }
 {
     let mut caller = handle.take(alloc);
     let answer = caller.value(number);
@@ -238,7 +239,7 @@ pub extern "C" fn caller_value(alloc: Global, handle: &mut Handle, number: i32) 
 #[unsafe(no_mangle)]
 pub extern "C" fn caller_is_failed(alloc: Global, handle: &mut Handle, number: i32) -> u8
     requires { IsSome handle.old.held }
-    ensures { MovesHeld (λ g h. ReturnsFailed number g result h) handle.old.held handle.new.held }
+    ensures { MovesHeld (λ g h. LooksUpFailed number g result h) handle.old.held handle.new.held }
 {
     let mut caller = handle.take(alloc);
     let answer = caller.is_failed(number);
@@ -286,7 +287,7 @@ pub extern "C" fn caller_open_proof(alloc: Global, handle: &mut Handle, format: 
 #[unsafe(no_mangle)]
 pub extern "C" fn caller_close_proof(alloc: Global, handle: &mut Handle) -> u8
     requires { IsSome handle.old.held }
-    ensures { MovesHeld (λ g h. Closes g result h) handle.old.held handle.new.held }
+    ensures { MovesHeld (λ g h. ClosesNumbered g result h) handle.old.held handle.new.held }
 {
     let mut caller = handle.take(alloc);
     let answer = caller.close_proof();

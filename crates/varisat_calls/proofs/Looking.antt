@@ -9,7 +9,7 @@ use Rattle.varisat_client.specs.inside.LiteralSets.{IsSetOf}
 use Rattle.varisat_solver.specs.promises.Summaries.{Summary}
 use Rattle.varisat_solver.specs.promises.Represented.{LeadsRepresented}
 use Rattle.varisat_calls.specs.Callers.{Caller, ReturnsListOf, NoRoom}
-use Rattle.varisat_calls.specs.Lookups.{Lookups, IsCurrent, ReturnsModel, IsReturnedModel, GivesModel, IsCore, IsValueIn, IsMember, ReturnsValue, ReturnsFailed, True, False, Unknown, Yes, No, Failed, Unfailed}
+use Rattle.varisat_calls.specs.Lookups.{Lookups, IsCurrent, ReturnsModel, IsReturnedModel, GivesModel, IsCore, IsValueIn, IsMember, LooksUpValue, LooksUpFailed, True, False, Unknown, Yes, No, Failed, Unfailed}
 use Rattle.varisat_calls.specs.declared.lookups.Kept.TheVariants as kept
 
 -- there is a model where it found no memory
@@ -34,7 +34,7 @@ core-kept c g m k is set = record {
 
 -- a literal is looked up in the set of the model's
 pub value-returned : (number : ℤ) (g h : Caller) (flags : List Bool) (l : Literal) (n : ℕ) (m : List Literal) → IsReturnedModel g.solver m → IsSetOf m flags →
-    l ≡ literal_numbered number → IsValueIn flags l n → h ≡ g → ReturnsValue number g n h
+    l ≡ literal_numbered number → IsValueIn flags l n → h ≡ g → LooksUpValue number g n h
 value-returned number g h flags l n m is set e (True k f) same = True m is (subst (λ x. x ∈ m) e ((set l).0 f)) k same
 value-returned number g h flags l n m is set e (False k f) same = False m is (subst (λ x. opposite x ∈ m) e ((set (opposite l)).0 f)) k same
 value-returned number g h flags l n m is set e (Unknown k f r) same =
@@ -45,6 +45,6 @@ value-returned number g h flags l n m is set e (Unknown k f r) same =
 
 -- a literal is looked up in the set of the core's
 pub failed-returned : (number : ℤ) (g h : Caller) (flags : List Bool) (l : Literal) (n : ℕ) (m : List Literal) → IsCore g.solver m → IsSetOf m flags →
-    l ≡ literal_numbered number → IsMember flags l n → h ≡ g → ReturnsFailed number g n h
+    l ≡ literal_numbered number → IsMember flags l n → h ≡ g → LooksUpFailed number g n h
 failed-returned number g h flags l n m is set e (Yes k f) same = Failed m is (subst (λ x. x ∈ m) e ((set l).0 f)) k same
 failed-returned number g h flags l n m is set e (No k f) same = Unfailed m is (λ i. f ((set l).1 (subst (λ x. x ∈ m) (sym e) i))) k same

@@ -24,19 +24,19 @@ use Rattle.varisat_solver.specs.declared.solver.SolverError.TheVariants as error
 use Rattle.varisat_solver.specs.declared.solver.SolverError.{SolverError}
 use Rattle.varisat_calls.specs.Numbers.{returned_numbers, returned_names}
 use Rattle.varisat_calls.specs.Codes.{answer_number}
-use Rattle.varisat_calls.specs.Callers.{Answer, Caller, Makes, MakesNumbered, MakesOver, Made, over, SetsField, SetsMode, changing, ReturnsListOf, Returned, ShowsHidden, ShowsNames, NoRoom, OpensFormat, Opened, Refused, opening}
-use Rattle.varisat_calls.specs.Texts.{ReadsFurther, AddsClauses, AddsRead, GoesOn, without_clauses}
+use Rattle.varisat_calls.specs.Callers.{Caller, DoneOrRefused, SolverMakes, MakesNumbered, MakesOver, Made, over, SetsField, SetsModeNumbered, changing, ReturnsListOf, Returned, ShowsHidden, ShowsNames, NoRoom, OpensFormat, Opened, Refused, opening_proof}
+use Rattle.varisat_calls.specs.Texts.{ReadsFurther, AddsClauses, AddsEndedClauses, GoesOn, without_clauses}
 
 -- 1. Calls with an answer.
 
 -- A call was made that left the caller as `mid`, which is kept.
 pub made : {X : Type 0} (R : State → X → State → Type 0) (g mid h : Caller) (answer : X) → h ≡ mid →
-    LeadsRepresented g.solver (λ s t. R s answer t) mid.solver → mid ≡ record g { solver = mid.solver } → Makes R g answer h
-made R g mid h answer same call rest = subst (λ x. Makes R g answer x) (sym same) (record { call = call; rest = rest })
+    LeadsRepresented g.solver (λ s t. R s answer t) mid.solver → mid ≡ record g { solver = mid.solver } → SolverMakes R g answer h
+made R g mid h answer same call rest = subst (λ x. SolverMakes R g answer x) (sym same) (record { call = call; rest = rest })
 
 -- so it was over the literals of the numbers
-pub call-over : (numbers : List ℤ) (lits : List Literal) (R : State → List Literal → Answer → State → Type 0) (g mid h : Caller)
-    (n : ℕ) (answer : Answer) → (pos 0 ∈ numbers → ⊥) → lits ≡ map literal_numbered numbers → n ≡ answer_number answer → h ≡ mid →
+pub call-over : (numbers : List ℤ) (lits : List Literal) (R : State → List Literal → DoneOrRefused → State → Type 0) (g mid h : Caller)
+    (n : ℕ) (answer : DoneOrRefused) → (pos 0 ∈ numbers → ⊥) → lits ≡ map literal_numbered numbers → n ≡ answer_number answer → h ≡ mid →
     LeadsRepresented g.solver (λ s t. R s lits answer t) mid.solver → mid ≡ record g { solver = mid.solver } → MakesOver numbers R g n h
 call-over numbers lits R g mid h n answer absent own number same call rest =
     Made absent (
@@ -46,7 +46,7 @@ call-over numbers lits R g mid h n answer absent own number same call rest =
     )
 
 -- a setting was set
-pub configured : (field : ConfigField) (value : ℕ) (update : SolverConfigUpdate) (g mid h : Caller) (n : ℕ) (answer : Answer) →
+pub configured : (field : ConfigField) (value : ℕ) (update : SolverConfigUpdate) (g mid h : Caller) (n : ℕ) (answer : DoneOrRefused) →
     update ≡ update_of field value → n ≡ answer_number answer → h ≡ mid →
     LeadsRepresented g.solver (λ s t. Configures s update answer t) mid.solver → mid ≡ record g { solver = mid.solver } →
     MakesNumbered (λ s r t. Configures s (update_of field value) r t) g n h
@@ -60,12 +60,12 @@ pub field-set : (found : Option ConfigField) (field : ConfigField) (value : ℕ)
 field-set found field value g h n is sets = subst (λ o. SetsField o value g n h) is sets
 
 -- a variable's mode was set
-pub mode-set : (variable : ℤ) (found : Option SamplingMode) (mode : SamplingMode) (u : ℕ) (g mid h : Caller) (n : ℕ) (answer : Answer) →
+pub mode-set : (variable : ℤ) (found : Option SamplingMode) (mode : SamplingMode) (u : ℕ) (g mid h : Caller) (n : ℕ) (answer : DoneOrRefused) →
     Some mode ≡ found → pos 1 ≤ℤ variable → u ≡ variable_numbered variable → n ≡ answer_number answer → h ≡ mid →
-    Makes (λ s r t. ChangesMode mode s u r t) g answer mid → SetsMode variable found g n h
+    SolverMakes (λ s r t. ChangesMode mode s u r t) g answer mid → SetsModeNumbered variable found g n h
 mode-set variable found mode u g mid h n answer is positive named number same makes =
-    let changes = subst (λ (v : ℕ). Makes (λ s r t. ChangesMode mode s v r t) g answer mid) named makes in
-    Made mode (sym is) positive (answer, number, subst (λ x. Makes (changing mode variable) g answer x) (sym same) changes)
+    let changes = subst (λ (v : ℕ). SolverMakes (λ s r t. ChangesMode mode s v r t) g answer mid) named makes in
+    Made mode (sym is) positive (answer, number, subst (λ x. SolverMakes (changing mode variable) g answer x) (sym same) changes)
 
 -- 2. Lists that are returned.
 
@@ -91,7 +91,7 @@ no-room g h after us n number same shows = subst (λ x. ShowsHidden g n x) (sym 
 
 -- the target that comes back has no bytes
 back-empty : (f : ProofFormat) (target back : Taken) (e : SolverError) (s t : State) →
-    OpensProof {W = Taken} (λ w. w) target f s (Err (e, back)) t → opening f s (Err (e, no_bytes)) t
+    OpensProof {W = Taken} (λ w. w) target f s (Err (e, back)) t → opening_proof f s (Err (e, no_bytes)) t
 back-empty f target back error.Interrupted s t o = absurd o
 back-empty f target back (error.ProofIoError x) s t o = absurd o
 back-empty f target back error.OutOfMemory s t o = absurd o
@@ -120,13 +120,13 @@ pub proof-refused : (format : Option ProofFormat) (f : ProofFormat) (target back
     LeadsRepresented g.solver (λ s t. OpensProof {W = Taken} (λ w. w) target f s (Err (e, back)) t) mid.solver →
     mid ≡ record g { solver = mid.solver } → OpensFormat format g n h
 proof-refused format f target back e g mid h n is number same call rest =
-    Refused f e is number (made (opening f) g mid h (Err (e, no_bytes)) same
+    Refused f e is number (made (opening_proof f) g mid h (Err (e, no_bytes)) same
     (λ s st. let (t, opens, stands) = call s st in (t, back-empty f target back e s t opens, stands)) rest)
 
 -- 4. Texts.
 
 -- clauses were added that were read
-pub clauses-added : (read : Progress) (clauses : List Clause) (answer : Answer) (g h : Caller) → clauses ≡ read.reading.clauses →
+pub clauses-added : (read : Progress) (clauses : List Clause) (answer : DoneOrRefused) (g h : Caller) → clauses ≡ read.reading.clauses →
     LeadsRepresented g.solver (λ s t. AddsFormula s clauses answer t) h.solver → h ≡ record g { solver = h.solver } →
     AddsClauses read answer g.text g h
 clauses-added read clauses answer g h own call rest =
@@ -137,7 +137,7 @@ pub read-behind : (piece : List ℕ) (begun from read : Progress) → begun ≡ 
 read-behind piece begun from read is reads = subst (λ p. ReadsFurther p piece read) is reads
 
 -- the clauses were added to a caller whose text was taken
-pub text-taken : (read : Progress) (answer : Answer) (g mid last h : Caller) → mid ≡ record g { text = None } →
+pub text-taken : (read : Progress) (answer : DoneOrRefused) (g mid last h : Caller) → mid ≡ record g { text = None } →
     AddsClauses read answer mid.text mid last → h ≡ last → AddsClauses read answer None g h
 text-taken read answer g mid last h taken adds same =
     let kept : Caller → Caller = λ x. record x { solver = last.solver } in
@@ -150,7 +150,7 @@ text-taken read answer g mid last h taken adds same =
 -- and then the text goes on
 pub text-goes-on : (read left : Progress) (g mid last h : Caller) → mid ≡ record g { text = None } →
     AddsClauses read (Ok tt) mid.text mid last → read.reading.fault ≡ None → left ≡ without_clauses read →
-    h ≡ record last { text = Some left } → AddsRead read g 0 h
+    h ≡ record last { text = Some left } → AddsEndedClauses read g 0 h
 text-goes-on read left g mid last h taken adds fine behind rest =
     let begun = text-taken read (Ok tt) g mid last last taken adds refl in
     let on : Caller → Caller = λ x. record x { text = Some left } in

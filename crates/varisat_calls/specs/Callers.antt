@@ -48,59 +48,62 @@ pub record IsNewCaller (g : Caller) : Type 0 where
   pub written : g.written ≡ []
 
 -- what a call answers that has nothing to return but whether it was refused
-abbrev pub Answer : Type 0
-Answer = Result (Unit {0}) SolverError
+abbrev pub DoneOrRefused : Type 0
+DoneOrRefused = Result (Unit {0}) SolverError
 
 -- The solver made the call, which had this answer; nothing else changed.
-pub record Makes {X : Type 0} (R : State → X → State → Type 0) (g : Caller) (answer : X) (h : Caller) : Type 0 where
+pub record SolverMakes {X : Type 0} (R : State → X → State → Type 0) (g : Caller) (answer : X) (h : Caller) :
+    Type 0 where
   pub call : LeadsRepresented g.solver (λ s t. R s answer t) h.solver
   pub rest : h ≡ record g { solver = h.solver }
 
 -- The solver made the call, whose answer has this number.
-abbrev pub MakesNumbered : (State → Answer → State → Type 0) → Caller → ℕ → Caller → Type 0
-MakesNumbered R g n h = (answer : Answer) × (n ≡ answer_number answer) × Makes R g answer h
+abbrev pub MakesNumbered : (State → DoneOrRefused → State → Type 0) → Caller → ℕ → Caller → Type 0
+MakesNumbered R g n h = (answer : DoneOrRefused) × (n ≡ answer_number answer) × SolverMakes R g answer h
 
 -- What was given is none of what it should be, and nothing changes.
 abbrev pub IsWrongCall : Caller → ℕ → Caller → Type 0
 IsWrongCall g n h = (n ≡ 14) × (h ≡ g)
 
 -- the call over the literals of the numbers
-abbrev pub over : List ℤ → (State → List Literal → Answer → State → Type 0) → State → Answer → State → Type 0
+abbrev pub over : List ℤ → (State → List Literal → DoneOrRefused → State → Type 0) → State → DoneOrRefused → State →
+    Type 0
 over numbers R s r t = R s (map literal_numbered numbers) r t
 
 -- The call is over the literals of these numbers, of which none is 0. It is 3 also where there was no room for them; then nothing changes.
-pub data MakesOver (numbers : List ℤ) (R : State → List Literal → Answer → State → Type 0) (g : Caller)
+pub data MakesOver (numbers : List ℤ) (R : State → List Literal → DoneOrRefused → State → Type 0) (g : Caller)
     (n : ℕ) (h : Caller) : Type 0 where
   Zero : pos 0 ∈ numbers → IsWrongCall g n h → MakesOver numbers R g n h
   NoRoom : n ≡ 3 → h ≡ g → MakesOver numbers R g n h
   Made : (pos 0 ∈ numbers → ⊥) → MakesNumbered (over numbers R) g n h → MakesOver numbers R g n h
 
 -- the same, where this was given of the next clause, or one of its literals is lost
-abbrev pub with_clause : Option (List Literal) → Caller → Caller
-with_clause c g = record g { clause = c }
+abbrev pub giving_clause : Option (List Literal) → Caller → Caller
+giving_clause c g = record g { clause = c }
 
 -- A number that is not 0 is put behind the clause that is given a literal at a time, and 0 ends it, as which the solver is given it.
 -- It is 3 where a literal found no memory; then the whole clause is refused at its end.
-pub data AddsNumber (number : ℤ) (g : Caller) (n : ℕ) (h : Caller) : Type 0 where
+pub data PutsNumber (number : ℤ) (g : Caller) (n : ℕ) (h : Caller) : Type 0 where
   Put : (c : List Literal) → (number ≡ pos 0 → ⊥) → g.clause ≡ Some c → n ≡ 0 →
-      h ≡ with_clause (Some (c ++ literal_numbered number ∷ [])) g → AddsNumber number g n h
-  Lost : (number ≡ pos 0 → ⊥) → n ≡ 3 → h ≡ with_clause None g → AddsNumber number g n h
+      h ≡ giving_clause (Some (c ++ literal_numbered number ∷ [])) g → PutsNumber number g n h
+  Lost : (number ≡ pos 0 → ⊥) → n ≡ 3 → h ≡ giving_clause None g → PutsNumber number g n h
   Ended : (c : List Literal) → number ≡ pos 0 → g.clause ≡ Some c →
-      MakesNumbered (λ s r t. AddsClause s c r t) (with_clause (Some []) g) n h → AddsNumber number g n h
-  Dropped : number ≡ pos 0 → g.clause ≡ None → n ≡ 3 → h ≡ with_clause (Some []) g → AddsNumber number g n h
+      MakesNumbered (λ s r t. AddsClause s c r t) (giving_clause (Some []) g) n h → PutsNumber number g n h
+  Dropped : number ≡ pos 0 → g.clause ≡ None → n ≡ 3 → h ≡ giving_clause (Some []) g → PutsNumber number g n h
 
 -- A call of `solve` may make so many steps. The steps since the last change are counted on.
-pub record LimitsSteps (steps : ℕ) (g h : Caller) : Type 0 where
+pub record SetsMaxSteps (steps : ℕ) (g h : Caller) : Type 0 where
   pub call : LeadsRepresented g.solver (λ s t. t ≡ with_max_steps steps s) h.solver
   pub rest : h ≡ record g { solver = h.solver }
 
 -- the solver searched
 abbrev pub SolvesNumbered : Caller → ℕ → Caller → Type 0
-SolvesNumbered g n h = (answer : Result Bool SolverError) × (n ≡ verdict_number answer) × Makes (Solves by_state) g answer h
+SolvesNumbered g n h =
+    (answer : Result Bool SolverError) × (n ≡ verdict_number answer) × SolverMakes (Solves by_state) g answer h
 
 -- the least free variable came into use
 abbrev pub NamesNew : Caller → Result ℕ ℕ → Caller → Type 0
-NamesNew g r h = (answer : Result ℕ SolverError) × (r ≡ numbered answer) × Makes MakesVar g answer h
+NamesNew g r h = (answer : Result ℕ SolverError) × (r ≡ numbered answer) × SolverMakes MakesVar g answer h
 
 -- the setting is set
 abbrev pub SetsField : Option ConfigField → ℕ → Caller → ℕ → Caller → Type 0
@@ -108,14 +111,14 @@ SetsField None value g n h = IsWrongCall g n h
 SetsField (Some field) value g n h = MakesNumbered (λ s r t. Configures s (update_of field value) r t) g n h
 
 -- the mode of the variable of the number is set
-abbrev pub changing : SamplingMode → ℤ → State → Answer → State → Type 0
+abbrev pub changing : SamplingMode → ℤ → State → DoneOrRefused → State → Type 0
 changing mode variable s r t = ChangesMode mode s (variable_numbered variable) r t
 
 -- the mode of the variable is set
-pub data SetsMode (variable : ℤ) (mode : Option SamplingMode) (g : Caller) (n : ℕ) (h : Caller) : Type 0 where
-  Wrong : (variable <ℤ pos 1) ⊎ (mode ≡ None) → IsWrongCall g n h → SetsMode variable mode g n h
+pub data SetsModeNumbered (variable : ℤ) (mode : Option SamplingMode) (g : Caller) (n : ℕ) (h : Caller) : Type 0 where
+  Wrong : (variable <ℤ pos 1) ⊎ (mode ≡ None) → IsWrongCall g n h → SetsModeNumbered variable mode g n h
   Made : (m : SamplingMode) → mode ≡ Some m → pos 1 ≤ℤ variable → MakesNumbered (changing m variable) g n h →
-      SetsMode variable mode g n h
+      SetsModeNumbered variable mode g n h
 
 -- there is a list to return
 abbrev pub ReturnsSome : (State → Result (Option (List Literal)) AllocError → State → Type 0) → State → State → Type 0
@@ -140,30 +143,31 @@ pub data ShowsHidden (g : Caller) (n : ℕ) (h : Caller) : Type 0 where
       h ≡ record g { solver = h.solver; returned = returned_names us } → ShowsHidden g n h
   NoRoom : (us : List ℕ) → n ≡ 3 → ShowsNames us g h →
       h ≡ record g { solver = h.solver; returned = [] } → ShowsHidden g n h
-  Refused : (e : SolverError) → n ≡ refusal_number e → Makes Observes g (Err e) h → ShowsHidden g n h
+  Refused : (e : SolverError) → n ≡ refusal_number e → SolverMakes Observes g (Err e) h → ShowsHidden g n h
 
 -- a proof opens in the format, for a target without bytes
-abbrev pub opening : ProofFormat → State → Result (Unit {0}) (SolverError × Taken) → State → Type 0
-opening f s r t = OpensProof {W = Taken} (λ w. w) no_bytes f s r t
+abbrev pub opening_proof : ProofFormat → State → Result (Unit {0}) (SolverError × Taken) → State → Type 0
+opening_proof f s r t = OpensProof {W = Taken} (λ w. w) no_bytes f s r t
 
 -- A proof opens in the format, if it is one. It is 3 also where there is no room for a target; then nothing changes.
 pub data OpensFormat (format : Option ProofFormat) (g : Caller) (n : ℕ) (h : Caller) : Type 0 where
   Wrong : format ≡ None → IsWrongCall g n h → OpensFormat format g n h
   NoRoom : IsSome format → n ≡ 3 → h ≡ g → OpensFormat format g n h
-  Opened : (f : ProofFormat) → format ≡ Some f → n ≡ 0 → Makes (opening f) g (Ok tt) h → OpensFormat format g n h
+  Opened : (f : ProofFormat) → format ≡ Some f → n ≡ 0 → SolverMakes (opening_proof f) g (Ok tt) h →
+      OpensFormat format g n h
   Refused : (f : ProofFormat) (e : SolverError) → format ≡ Some f → n ≡ refusal_number e →
-      Makes (opening f) g (Err (e, no_bytes)) h → OpensFormat format g n h
+      SolverMakes (opening_proof f) g (Err (e, no_bytes)) h → OpensFormat format g n h
 
 -- the proof is closed, with the target that comes back
-abbrev pub closing : State → Result (Option Taken) (SolverError × Taken) → State → Type 0
-closing s r t = ClosesProof {W = Taken} (λ w. w) s r t
+abbrev pub closing_proof : State → Result (Option Taken) (SolverError × Taken) → State → Type 0
+closing_proof s r t = ClosesProof {W = Taken} (λ w. w) s r t
 
 -- The proof is closed, with all its bytes; or none was open; or its target can't be flushed.
-pub data Closes (g : Caller) (n : ℕ) (h : Caller) : Type 0 where
-  Closed : (target : Taken) → n ≡ 0 → Makes closing g (Ok (Some target)) h → Closes g n h
-  NoneOpen : n ≡ 15 → Makes closing g (Ok None) h → Closes g n h
+pub data ClosesNumbered (g : Caller) (n : ℕ) (h : Caller) : Type 0 where
+  Closed : (target : Taken) → n ≡ 0 → SolverMakes closing_proof g (Ok (Some target)) h → ClosesNumbered g n h
+  NoneOpen : n ≡ 15 → SolverMakes closing_proof g (Ok None) h → ClosesNumbered g n h
   Failed : (e : SolverError) (target : Taken) → n ≡ refusal_number e →
-      Makes closing g (Err (e, target)) h → Closes g n h
+      SolverMakes closing_proof g (Err (e, target)) h → ClosesNumbered g n h
 
 -- Bytes of a proof are taken out, in place of those before. Which ones these are is not said.
 abbrev pub TakesWritten : Caller → Caller → Type 0

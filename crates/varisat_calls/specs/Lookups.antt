@@ -69,20 +69,20 @@ pub data FindsNone (some none : Summary → Type 0) (number : ℤ) (g : Caller) 
   NoRoom : n ≡ 3 → some g.solver → h ≡ g → FindsNone some none number g n h
 
 -- Whether the literal of the number is true in the model: 1 and 0, and 15 where the model has no such variable.
-pub data ReturnsValue (number : ℤ) (g : Caller) (n : ℕ) (h : Caller) : Type 0 where
+pub data LooksUpValue (number : ℤ) (g : Caller) (n : ℕ) (h : Caller) : Type 0 where
   True : (m : List Literal) → IsReturnedModel g.solver m → literal_numbered number ∈ m → n ≡ 1 → h ≡ g →
-      ReturnsValue number g n h
+      LooksUpValue number g n h
   False : (m : List Literal) → IsReturnedModel g.solver m → opposite (literal_numbered number) ∈ m → n ≡ 0 → h ≡ g →
-      ReturnsValue number g n h
+      LooksUpValue number g n h
   Unknown : (m : List Literal) → IsReturnedModel g.solver m → (literal_numbered number ∈ m → ⊥) →
       (opposite (literal_numbered number) ∈ m → ⊥) →
-      n ≡ 15 → h ≡ g → ReturnsValue number g n h
-  Unfound : FindsNone GivesModel GivesNoModel number g n h → ReturnsValue number g n h
+      n ≡ 15 → h ≡ g → LooksUpValue number g n h
+  Unfound : FindsNone GivesModel GivesNoModel number g n h → LooksUpValue number g n h
 
 -- Whether the literal of the number is one of the core: 1 and 0.
-pub data ReturnsFailed (number : ℤ) (g : Caller) (n : ℕ) (h : Caller) : Type 0 where
+pub data LooksUpFailed (number : ℤ) (g : Caller) (n : ℕ) (h : Caller) : Type 0 where
   Failed : (m : List Literal) → IsCore g.solver m → literal_numbered number ∈ m → n ≡ 1 → h ≡ g →
-      ReturnsFailed number g n h
+      LooksUpFailed number g n h
   Unfailed : (m : List Literal) → IsCore g.solver m → (literal_numbered number ∈ m → ⊥) → n ≡ 0 → h ≡ g →
-      ReturnsFailed number g n h
-  Unfound : FindsNone GivesCore GivesNoCore number g n h → ReturnsFailed number g n h
+      LooksUpFailed number g n h
+  Unfound : FindsNone GivesCore GivesNoCore number g n h → LooksUpFailed number g n h

@@ -87,9 +87,9 @@ impl<A: Allocator + Copy> Caller<A> {
     ghost use Rattle.varisat_solver.specs.promises.Usage.{ChangesMode};
     ghost use Rattle.varisat_theory.specs.promises.Literals.{IsSatisfiableWith};
     ghost use Rattle.varisat_calls.specs.Codes.{field_numbered, format_numbered, mode_numbered};
-    ghost use Rattle.varisat_calls.specs.Callers.{IsNewCaller, Makes, MakesNumbered, MakesOver, AddsNumber, LimitsSteps, SolvesNumbered, NamesNew, SetsField, SetsMode, ReturnsListOf, ShowsHidden, OpensFormat, Closes, TakesWritten};
-    ghost use Rattle.varisat_calls.specs.Lookups.{ReturnsValue, ReturnsFailed};
-    ghost use Rattle.varisat_calls.specs.Texts.{text_of, without_clauses, AddsClauses, Feeds, EndsText};
+    ghost use Rattle.varisat_calls.specs.Callers.{IsNewCaller, SolverMakes, MakesNumbered, MakesOver, PutsNumber, SetsMaxSteps, SolvesNumbered, NamesNew, SetsField, SetsModeNumbered, ReturnsListOf, ShowsHidden, OpensFormat, ClosesNumbered, TakesWritten};
+    ghost use Rattle.varisat_calls.specs.Lookups.{LooksUpValue, LooksUpFailed};
+    ghost use Rattle.varisat_calls.specs.Texts.{text_of, without_clauses, AddsClauses, Feeds, EndsGivenText};
 
     /// A caller with a new solver. It takes no memory.
     pub fn new_in(alloc: A) -> Caller<A>
@@ -148,7 +148,7 @@ impl<A: Allocator + Copy> Caller<A> {
 
     /// Accepts the clause that was given a literal at a time.
     fn end_clause(&mut self) -> u8
-        ensures { AddsNumber (pos 0) self.old result self.new }
+        ensures { PutsNumber (pos 0) self.old result self.new }
     {
         if self.is_lost {
             self.is_lost = false;
@@ -164,7 +164,7 @@ impl<A: Allocator + Copy> Caller<A> {
     /// Puts the literal of the number behind the clause that is being given, or accepts that clause where the number is 0.
     /// One of which a literal found no memory is refused as a whole.
     pub fn add(&mut self, number: i32) -> u8
-        ensures { AddsNumber number self.old result self.new }
+        ensures { PutsNumber number self.old result self.new }
     {
         if number == 0 {
             return self.end_clause();
@@ -198,7 +198,7 @@ impl<A: Allocator + Copy> Caller<A> {
 
     /// How many steps each call of `solve` may make.
     pub fn limit_steps(&mut self, steps: u64)
-        ensures { LimitsSteps steps self.old self.new }
+        ensures { SetsMaxSteps steps self.old self.new }
     {
         self.lookups.forget();
         self.solver.set_max_steps(steps);
@@ -233,7 +233,7 @@ impl<A: Allocator + Copy> Caller<A> {
 
     /// Changes the mode of the variable.
     fn change_mode(&mut self, var: Var, mode: SamplingMode) -> Result<(), SolverError>
-        ensures { Makes (λ s r t. ChangesMode mode s var r t) self.old result self.new }
+        ensures { SolverMakes (λ s r t. ChangesMode mode s var r t) self.old result self.new }
     {
         self.lookups.forget();
         match mode {
@@ -245,7 +245,7 @@ impl<A: Allocator + Copy> Caller<A> {
 
     /// Lets clauses and assumptions name the variable (0), lets none name it (1), or hides it (2).
     pub fn set_mode(&mut self, variable: i32, mode: u8) -> u8
-        ensures { SetsMode variable (mode_numbered mode) self.old result self.new }
+        ensures { SetsModeNumbered variable (mode_numbered mode) self.old result self.new }
     {
         let Some(mode) = mode_of(mode) else {
             return WRONG;
@@ -296,7 +296,7 @@ impl<A: Allocator + Copy> Caller<A> {
     /// 1 where the literal of the number is true in the model, 0 where it is false, 15 where there is no model or it has no
     /// such variable.
     pub fn value(&mut self, number: i32) -> u8
-        ensures { ReturnsValue number self.old result self.new }
+        ensures { LooksUpValue number self.old result self.new }
     {
         if number == 0 {
             return WRONG;
@@ -310,7 +310,7 @@ impl<A: Allocator + Copy> Caller<A> {
 
     /// 1 where the literal of the number is one of the core, 0 where it is not, 15 where there is no core.
     pub fn is_failed(&mut self, number: i32) -> u8
-        ensures { ReturnsFailed number self.old result self.new }
+        ensures { LooksUpFailed number self.old result self.new }
     {
         if number == 0 {
             return WRONG;
@@ -425,7 +425,7 @@ impl<A: Allocator + Copy> Caller<A> {
 
     /// Ends the DIMACS text: the highest number of its header and its literals, or the number of a refusal.
     pub fn end_text(&mut self) -> Result<usize, u8>
-        ensures { EndsText self.old result self.new }
+        ensures { EndsGivenText self.old result self.new }
     {
         let mut parser = self.take_text();
         let read = parser.finish();
@@ -464,7 +464,7 @@ impl<A: Allocator + Copy> Caller<A> {
 
     /// Closes the proof, of which the last bytes are still to be taken out. 15 where none is open.
     pub fn close_proof(&mut self) -> u8
-        ensures { Closes self.old result self.new }
+        ensures { ClosesNumbered self.old result self.new }
     {
         self.lookups.forget();
         match self.solver.close_proof() {

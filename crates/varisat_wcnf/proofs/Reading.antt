@@ -15,7 +15,7 @@ use Rattle.varisat_formula.specs.inside.Machine.{after_digit, digits_from, says,
 use Rattle.varisat_formula.proofs.TokenBytes.{number_agrees, meaning_agrees, capped}
 use Rattle.varisat_wcnf.specs.declared.wcnf.WcnfFault.{WcnfFault}
 use Rattle.varisat_wcnf.specs.declared.wcnf.WcnfError.{WcnfError}
-use Rattle.varisat_wcnf.specs.promises.Texts.{WcnfReading, words, below_limit, clause_from, after_line, at_line, after_lines}
+use Rattle.varisat_wcnf.specs.promises.Texts.{WcnfReading, line_words, below_limit, clause_from, after_line, at_line, after_lines}
 
 -- a text is cut at the first picked byte
 pub cut_at : (p : ℕ → Bool) (text : List ℕ) (i : ℕ) → i < length text → HoldsAt (λ b. p b ≡ true) text i → AllWithin (λ b. p b ≡ false) text 0 i →
@@ -33,17 +33,17 @@ pub uncut : (p : ℕ → Bool) (text : List ℕ) → AllWithin (λ b. p b ≡ fa
 uncut p text h = slice_split_none p text (λ k d l. h k d (omega arith) l)
 
 -- blanks in front make no word
-words-front : (b : ℕ) (bs : List ℕ) → is_blank b ≡ true → words (b ∷ bs) ≡ words bs
+words-front : (b : ℕ) (bs : List ℕ) → is_blank b ≡ true → line_words (b ∷ bs) ≡ line_words bs
 words-front b bs e = ap nonempty (slice_split_at is_blank [] b bs (λ k d l. absurd (omega arith)) e)
 
-pub words-blank : (text : List ℕ) (i : ℕ) → i ≤ length text → AllWithin (λ b. is_blank b ≡ true) text 0 i → words (drop i text) ≡ words text
+pub words-blank : (text : List ℕ) (i : ℕ) → i ≤ length text → AllWithin (λ b. is_blank b ≡ true) text 0 i → line_words (drop i text) ≡ line_words text
 words-blank [] zero h f = refl
 words-blank [] (suc i) h f = absurd (omega arith)
 words-blank (b ∷ bs) zero h f = refl
 words-blank (b ∷ bs) (suc i) h f =
     words-blank bs i (omega arith) (λ k d l m. f (suc k) d (omega arith) (omega arith)) ∙ sym (words-front b bs (f 0 0 (omega arith) (omega arith)))
 
-pub words-none : (text : List ℕ) → AllWithin (λ b. is_blank b ≡ true) text 0 (length text) → words text ≡ []
+pub words-none : (text : List ℕ) → AllWithin (λ b. is_blank b ≡ true) text 0 (length text) → line_words text ≡ []
 words-none [] f = refl
 words-none (b ∷ bs) f =
     words-front b bs (f 0 0 (omega arith) (omega arith)) ∙ words-none bs (λ k d l m. f (suc k) d (omega arith) (omega arith))
@@ -56,8 +56,8 @@ front-positive : (text : List ℕ) (i : ℕ) → is_blank (get_or text 0 0) ≡ 
 front-positive text zero b a = let f : true ≡ false = sym a ∙ b in absurd cc
 front-positive text (suc i) b a = omega arith
 
-pub word-cut : (line text : List ℕ) (i : ℕ) → words text ≡ words line → is_blank (get_or text 0 0) ≡ false → i < length text →
-    HoldsAt (λ b. is_blank b ≡ true) text i → AllWithin (λ b. is_blank b ≡ false) text 0 i → words line ≡ take i text ∷ words (drop (i + 1) text)
+pub word-cut : (line text : List ℕ) (i : ℕ) → line_words text ≡ line_words line → is_blank (get_or text 0 0) ≡ false → i < length text →
+    HoldsAt (λ b. is_blank b ≡ true) text i → AllWithin (λ b. is_blank b ≡ false) text 0 i → line_words line ≡ take i text ∷ line_words (drop (i + 1) text)
 word-cut line text i e b h at before =
     let p = front-positive text i b (at 0) in
     sym e ∙ ap nonempty (cut_at is_blank text i h at before)
@@ -66,12 +66,12 @@ word-cut line text i e b h at before =
 pub word-long : (text : List ℕ) (i : ℕ) → is_blank (get_or text 0 0) ≡ false → i < length text → HoldsAt (λ b. is_blank b ≡ true) text i → 0 < length (take i text)
 word-long text i b h at = let p = front-positive text i b (at 0) in omega (arith, length-take i text)
 
-words-nothing : (xs : List ℕ) → words (take 0 xs) ≡ []
+words-nothing : (xs : List ℕ) → line_words (take 0 xs) ≡ []
 words-nothing [] = refl
 words-nothing (x ∷ xs) = refl
 
-pub word-alone : (line text : List ℕ) → words text ≡ words line → 0 < length text → AllWithin (λ b. is_blank b ≡ false) text 0 (length text) →
-    words line ≡ text ∷ words (take 0 line)
+pub word-alone : (line text : List ℕ) → line_words text ≡ line_words line → 0 < length text → AllWithin (λ b. is_blank b ≡ false) text 0 (length text) →
+    line_words line ≡ text ∷ line_words (take 0 line)
 word-alone line text e h f =
     sym e ∙ ap nonempty (uncut is_blank text f) ∙ nonempty-front text [] h ∙ ap (λ ws. text ∷ ws) (sym (words-nothing line))
 
@@ -141,10 +141,10 @@ pub number-wrong : (bs : List ℕ) (i : ℕ) (d : Digits) → length bs ≤ i �
 number-wrong bs i d h f g = below-none (number bs) (said bs i d NoNumber h f g)
 
 -- a word of a clause in front
-pub clause-next : (c : Clause) (line word others : List ℕ) (m : Meaning) (r : Result Clause WcnfFault) → clause_from c (map meaning (words line)) ≡ r →
-    words line ≡ word ∷ words others → m ≡ meaning word → clause_from c (m ∷ map meaning (words others)) ≡ r
+pub clause-next : (c : Clause) (line word others : List ℕ) (m : Meaning) (r : Result Clause WcnfFault) → clause_from c (map meaning (line_words line)) ≡ r →
+    line_words line ≡ word ∷ line_words others → m ≡ meaning word → clause_from c (m ∷ map meaning (line_words others)) ≡ r
 clause-next c line word others m r i e f =
-    ap (λ x. clause_from c (x ∷ map meaning (words others))) f ∙ ap (λ ws. clause_from c (map meaning ws)) (sym e) ∙ i
+    ap (λ x. clause_from c (x ∷ map meaning (line_words others))) f ∙ ap (λ ws. clause_from c (map meaning ws)) (sym e) ∙ i
 
 -- lines that are left
 abbrev pub lines_left : Option (Bor (List ℕ)) → List (List ℕ)
@@ -172,12 +172,12 @@ fault-stays e n [] = refl
 fault-stays e n (l ∷ ls) = refl
 
 pub line-read : (s t : WcnfReading) (n : ℕ) (line : List ℕ) (ls ms : List (List ℕ)) (all : Result WcnfReading WcnfError) → after_lines (Ok s) (n + 1) ls ≡ all →
-    ls ≡ line ∷ ms → after_line s (words line) ≡ Ok t → after_lines (Ok t) (n + 1 + 1) ms ≡ all
+    ls ≡ line ∷ ms → after_line s (line_words line) ≡ Ok t → after_lines (Ok t) (n + 1 + 1) ms ≡ all
 line-read s t n line ls ms all i e f =
     sym (ap (λ x. after_lines (at_line (n + 1) x) (n + 1 + 1) ms) f) ∙ ap (λ x. after_lines (Ok s) (n + 1) x) (sym e) ∙ i
 
 pub line-fault : (s : WcnfReading) (f : WcnfFault) (n : ℕ) (line : List ℕ) (ls ms : List (List ℕ)) (all : Result WcnfReading WcnfError) →
-    after_lines (Ok s) (n + 1) ls ≡ all → ls ≡ line ∷ ms → after_line s (words line) ≡ Err f → all ≡ Err (record { line = n + 1; fault = f })
+    after_lines (Ok s) (n + 1) ls ≡ all → ls ≡ line ∷ ms → after_line s (line_words line) ≡ Err f → all ≡ Err (record { line = n + 1; fault = f })
 line-fault s f n line ls ms all i e g =
     sym i ∙ ap (λ x. after_lines (Ok s) (n + 1) x) e ∙ ap (λ x. after_lines (at_line (n + 1) x) (n + 1 + 1) ms) g
     ∙ fault-stays (record { line = n + 1; fault = f }) (n + 1 + 1) ms

@@ -3,7 +3,7 @@ ghost use Rattle.std.specs.Prelude.{◌≡◌, ◌≤◌, ◌<◌, ◌^◌, ◌�
 ghost use Rattle.std.specs.List.{slice_split};
 ghost use Rattle.varisat_formula.specs.promises.Dimacs.{is_line_feed, is_blank, meaning, number};
 ghost use Rattle.varisat_maxsat.specs.promises.Problems.{Problem as Asked, with_hard, with_soft};
-ghost use Rattle.varisat_wcnf.specs.promises.Texts.{WcnfReading, words, below_limit, clause_of, heading_by, top_of, heading_of, after_heading, after_clause, after_weight, after_line, is_hard, wcnf};
+ghost use Rattle.varisat_wcnf.specs.promises.Texts.{WcnfReading, line_words, below_limit, clause_of, heading_by, top_of, heading_of, after_heading, after_clause, after_weight, after_line, is_hard, wcnf};
 ghost use Rattle.varisat_wcnf.specs.declared.wcnf.WcnfFault.TheVariants.{OutOfMemory, End};
 
 use std::alloc::Allocator;
@@ -47,7 +47,7 @@ pub struct WcnfError {
 
 /// What a header names: how many variables there are, and the weight from which on a clause must be satisfied.
 #[derive(Clone, Copy)]
-pub struct Heading {
+pub struct WcnfHeading {
     pub variables: u64,
     pub top: Option<u64>,
 }
@@ -83,8 +83,8 @@ fn split_line(text: &[u8]) -> (&[u8], Option<&[u8]>)
 
 /// What begins with the first word.
 fn behind_blanks(line: &[u8]) -> Option<&[u8]>
-    ensures none { IfNone result (words line.now ≡ []) }
-    ensures same { IfSome result (λ rest. words rest.now ≡ words line.now) }
+    ensures none { IfNone result (line_words line.now ≡ []) }
+    ensures same { IfSome result (λ rest. line_words rest.now ≡ line_words line.now) }
     ensures some { IfSome result (λ rest. 0 < length rest.now) }
     ensures within { IfSome result (λ rest. length rest.now ≤ length line.now) }
     ensures begun { IfSome result (λ rest. is_blank (slice_index rest.now 0) ≡ false) }
@@ -97,8 +97,8 @@ fn behind_blanks(line: &[u8]) -> Option<&[u8]>
 
 /// The first word of a line, and what stands behind it.
 fn split_word(line: &[u8]) -> Option<(&[u8], &[u8])>
-    ensures none { IfNone result (words line.now ≡ []) }
-    ensures some { IfSome result (λ r. words line.now ≡ r.0.now ∷ words r.1.now) }
+    ensures none { IfNone result (line_words line.now ≡ []) }
+    ensures some { IfSome result (λ r. line_words line.now ≡ r.0.now ∷ line_words r.1.now) }
     ensures shorter { IfSome result (λ r. length r.1.now < length line.now) }
     ensures letters { IfSome result (λ r. 0 < length r.0.now) }
 {
@@ -138,8 +138,9 @@ fn number_of(word: &[u8]) -> Option<u64>
 
 /// Refuses a line that goes on.
 fn ensure_end(line: &[u8]) -> Result<(), WcnfFault>
-    ensures ok { OnOk result (words line.now ≡ []) }
-    ensures err { IfErr result (λ e. (e ≡ End) × ((w : List ℕ) × (ws : List (List ℕ)) × (words line.now ≡ w ∷ ws))) }
+    ensures ok { OnOk result (line_words line.now ≡ []) }
+    ensures err { IfErr result
+        (λ e. (e ≡ End) × ((w : List ℕ) × (ws : List (List ℕ)) × (line_words line.now ≡ w ∷ ws))) }
 {
     match split_word(line) {
         Some(_) => Err(WcnfFault::End),
@@ -149,8 +150,8 @@ fn ensure_end(line: &[u8]) -> Result<(), WcnfFault>
 
 /// Reads the literals of a clause, up to the 0 that ends it and the line.
 fn parse_clause<A: Allocator + Copy>(line: &[u8], clause: &mut Vec<Lit, A>) -> Result<(), WcnfFault>
-    ensures ok { OnOk result (clause_of (words line.now) ≡ Ok clause.new.items) }
-    ensures err { IfErr result (λ e. (e ≡ OutOfMemory) ⊎ (clause_of (words line.now) ≡ Err e)) }
+    ensures ok { OnOk result (clause_of (line_words line.now) ≡ Ok clause.new.items) }
+    ensures err { IfErr result (λ e. (e ≡ OutOfMemory) ⊎ (clause_of (line_words line.now) ≡ Err e)) }
 {
     clause.clear();
     let mut rest = line;
@@ -177,7 +178,7 @@ fn heading_by(
     variables: Option<u64>,
     clauses: Option<u64>,
     top: Option<Option<u64>>,
-) -> Result<Heading, WcnfFault>
+) -> Result<WcnfHeading, WcnfFault>
     ensures heading { result ≡ heading_by variables clauses top }
     ensures small { IfOk result (λ h. h.variables ≤ 2 ^ 28) }
 {
@@ -193,12 +194,12 @@ fn heading_by(
     if variables > VARIABLE_LIMIT as u64 {
         return Err(WcnfFault::VariableLimit);
     }
-    Ok(Heading { variables, top })
+    Ok(WcnfHeading { variables, top })
 }
 
 /// The weight from which on a clause must be satisfied, which may be absent.
 fn top_of(line: &[u8]) -> Option<Option<u64>>
-    ensures { result ≡ top_of (words line.now) }
+    ensures { result ≡ top_of (line_words line.now) }
 {
     let Some((word, rest)) = split_word(line) else {
         return Some(None);
@@ -213,8 +214,8 @@ fn top_of(line: &[u8]) -> Option<Option<u64>>
 }
 
 /// Reads what follows the `p` of a header.
-fn parse_header(line: &[u8]) -> Result<Heading, WcnfFault>
-    ensures heading { result ≡ heading_of (words line.now) }
+fn parse_header(line: &[u8]) -> Result<WcnfHeading, WcnfFault>
+    ensures heading { result ≡ heading_of (line_words line.now) }
     ensures small { IfOk result (λ h. h.variables ≤ 2 ^ 28) }
 {
     let Some((name, behind_name)) = split_word(line) else {
@@ -235,8 +236,8 @@ fn parse_header(line: &[u8]) -> Result<Heading, WcnfFault>
 impl<A: Allocator + Copy> Reader<A> {
     /// Takes a header.
     fn take_header(&mut self, line: &[u8]) -> Result<(), WcnfFault>
-        ensures ok { OnOk result (after_heading self.old (heading_of (words line.now)) ≡ Ok self.new) }
-        ensures err { IfErr result (λ e. after_heading self.old (heading_of (words line.now)) ≡ Err e) }
+        ensures ok { OnOk result (after_heading self.old (heading_of (line_words line.now)) ≡ Ok self.new) }
+        ensures err { IfErr result (λ e. after_heading self.old (heading_of (line_words line.now)) ≡ Err e) }
     {
         let heading = parse_header(line)?;
         if self.has_begun {
@@ -250,9 +251,9 @@ impl<A: Allocator + Copy> Reader<A> {
 
     /// Takes a hard clause.
     fn take_hard(&mut self, line: &[u8], clause: &mut Vec<Lit, A>) -> Result<(), WcnfFault>
-        ensures ok { OnOk result (after_clause with_hard self.old (clause_of (words line.now)) ≡ Ok self.new) }
+        ensures ok { OnOk result (after_clause with_hard self.old (clause_of (line_words line.now)) ≡ Ok self.new) }
         ensures err { IfErr result
-            (λ e. (e ≡ OutOfMemory) ⊎ (after_clause with_hard self.old (clause_of (words line.now)) ≡ Err e)) }
+            (λ e. (e ≡ OutOfMemory) ⊎ (after_clause with_hard self.old (clause_of (line_words line.now)) ≡ Err e)) }
     {
         parse_clause(line, clause)?;
         match self.problem.add_hard(clause) {
@@ -271,9 +272,10 @@ impl<A: Allocator + Copy> Reader<A> {
         line: &[u8],
         clause: &mut Vec<Lit, A>,
     ) -> Result<(), WcnfFault>
-        ensures ok { OnOk result (after_clause (with_soft weight) self.old (clause_of (words line.now)) ≡ Ok self.new) }
+        ensures ok { OnOk result
+            (after_clause (with_soft weight) self.old (clause_of (line_words line.now)) ≡ Ok self.new) }
         ensures err { IfErr result
-            (λ e. (e ≡ OutOfMemory) ⊎ (after_clause (with_soft weight) self.old (clause_of (words line.now)) ≡ Err e)) }
+            (λ e. (e ≡ OutOfMemory) ⊎ (after_clause (with_soft weight) self.old (clause_of (line_words line.now)) ≡ Err e)) }
     {
         parse_clause(line, clause)?;
         match self.problem.add_soft(weight, clause) {
@@ -292,9 +294,9 @@ impl<A: Allocator + Copy> Reader<A> {
         line: &[u8],
         clause: &mut Vec<Lit, A>,
     ) -> Result<(), WcnfFault>
-        ensures ok { OnOk result (after_weight weight self.old (clause_of (words line.now)) ≡ Ok self.new) }
+        ensures ok { OnOk result (after_weight weight self.old (clause_of (line_words line.now)) ≡ Ok self.new) }
         ensures err { IfErr result
-            (λ e. (e ≡ OutOfMemory) ⊎ (after_weight weight self.old (clause_of (words line.now)) ≡ Err e)) }
+            (λ e. (e ≡ OutOfMemory) ⊎ (after_weight weight self.old (clause_of (line_words line.now)) ≡ Err e)) }
     {
         let Some(weight) = weight else {
             return Err(WcnfFault::Start);
@@ -309,8 +311,8 @@ impl<A: Allocator + Copy> Reader<A> {
 
     /// Takes a line.
     fn take_line(&mut self, line: &[u8], clause: &mut Vec<Lit, A>) -> Result<(), WcnfFault>
-        ensures ok { OnOk result (after_line self.old (words line.now) ≡ Ok self.new) }
-        ensures err { IfErr result (λ e. (e ≡ OutOfMemory) ⊎ (after_line self.old (words line.now) ≡ Err e)) }
+        ensures ok { OnOk result (after_line self.old (line_words line.now) ≡ Ok self.new) }
+        ensures err { IfErr result (λ e. (e ≡ OutOfMemory) ⊎ (after_line self.old (line_words line.now) ≡ Err e)) }
     {
         let Some((word, rest)) = split_word(line) else {
             return Ok(());

@@ -11,11 +11,11 @@ use Rattle.varisat_maxsat.specs.promises.Problems.{Problem, starting, with_hard,
 use Rattle.varisat_wcnf.specs.declared.wcnf.WcnfFault.{WcnfFault}
 use Rattle.varisat_wcnf.specs.declared.wcnf.WcnfFault.TheVariants as fault
 use Rattle.varisat_wcnf.specs.declared.wcnf.WcnfError.{WcnfError}
-use Rattle.varisat_wcnf.specs.declared.wcnf.Heading.{Heading}
+use Rattle.varisat_wcnf.specs.declared.wcnf.WcnfHeading.{WcnfHeading}
 
 -- The words of a line are its longest runs of bytes that are no blanks.
-abbrev pub words : List ℕ → List (List ℕ)
-words line = nonempty (slice_split is_blank line)
+abbrev pub line_words : List ℕ → List (List ℕ)
+line_words line = nonempty (slice_split is_blank line)
 
 -- a number below 2^64
 abbrev pub below_limit : Option ℕ → Option ℕ
@@ -59,7 +59,7 @@ after_weight (Some w) r c = if is_hard r.top w then after_clause with_hard r c e
 
 -- A header: how many variables there are at least; how many clauses, which is not checked; and the weight from which on a clause is
 -- hard, if it names one.
-abbrev pub heading_by : Option ℕ → Option ℕ → Option (Option ℕ) → Result Heading WcnfFault
+abbrev pub heading_by : Option ℕ → Option ℕ → Option (Option ℕ) → Result WcnfHeading WcnfFault
 heading_by (Some v) (Some count) (Some top) =
     if nat_lt variable_limit v then Err fault.VariableLimit else Ok (record { variables = v; top = top })
 heading_by _ _ _ = Err fault.Header
@@ -71,14 +71,14 @@ top_of (w ∷ []) = option_map Some (below_limit (number w))
 top_of (w ∷ more ∷ ws) = None
 
 -- what follows the `p` of a header
-abbrev pub heading_of : List (List ℕ) → Result Heading WcnfFault
+abbrev pub heading_of : List (List ℕ) → Result WcnfHeading WcnfFault
 heading_of (name ∷ v ∷ count ∷ ws) =
     if bytes_eq name (codes "wcnf") then heading_by (below_limit (number v)) (below_limit (number count)) (top_of ws)
     else Err fault.Header
 heading_of _ = Err fault.Header
 
 -- what a header makes of the reading: it comes first
-abbrev pub after_heading : WcnfReading → Result Heading WcnfFault → Result WcnfReading WcnfFault
+abbrev pub after_heading : WcnfReading → Result WcnfHeading WcnfFault → Result WcnfReading WcnfFault
 after_heading r (Err f) = Err f
 after_heading r (Ok h) =
     if r.begun then Err fault.Header
@@ -105,7 +105,7 @@ at_line n (Err f) = Err (record { line = n; fault = f })
 abbrev pub after_lines : Result WcnfReading WcnfError → ℕ → List (List ℕ) → Result WcnfReading WcnfError
 after_lines s n [] = s
 after_lines (Err e) n (line ∷ lines) = Err e
-after_lines (Ok r) n (line ∷ lines) = after_lines (at_line n (after_line r (words line))) (n + 1) lines
+after_lines (Ok r) n (line ∷ lines) = after_lines (at_line n (after_line r (line_words line))) (n + 1) lines
 
 -- what a text means
 abbrev pub wcnf : List ℕ → Result WcnfReading WcnfError

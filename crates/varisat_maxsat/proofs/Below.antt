@@ -168,6 +168,10 @@ found-solution p r n vs short values m e st =
     subst (λ xs. IsSolution p (cost (assignment_of xs) p.soft) xs) (ap (λ x. take x vs) (sym st.variables) ∙ sym e)
     (solution-of p.hard p.variables r.named st.past.clauses st.past.model vs p.soft st.named st.hard_below st.clauses_below st.upper a makes st.found.each v)
 
+-- so some assignment does
+pub found-satisfiable : (p : Problem) (r : Reduction) → FindsSolution p r → IsSatisfiable p.hard
+found-satisfiable p r st = let (a, makes, all, assumes) = st.found.satisfied in (a, st.upper a all)
+
 -- where there is none below the ceiling, what costs no more than it costs least
 pub met-optimal : (p : Problem) (r : Reduction) (c : ℕ) (vs : List Bool) → c ≤ r.ceiling → IsImproved false p r → IsSolution p c vs → IsOptimum p c vs
 met-optimal p r c vs l none sol = record {

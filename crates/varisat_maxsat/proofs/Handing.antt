@@ -1,9 +1,9 @@
 -- Solutions are handed on.
 use Rattle.std.proofs.Common.{◌≡◌, ℕ, ◌<◌, ◌≤◌, Bool, true, false, List, [], ◌∷◌, refl, sym, ap, ◌∙◌, subst, arith}
-use Rattle.std.specs.Prelude.{Option, Some, None, option_map, Result, Ok, Err, IfSome, IsSomeAnd, IsErr, IsErrAnd, MatchResult}
+use Rattle.std.specs.Prelude.{Option, Some, None, option_map, Result, Ok, Err, IfSome, IfErr, IsSomeAnd, IsErr, IsErrAnd, MatchResult, ◌↔◌}
 use Rattle.varisat_theory.specs.promises.Literals.{IsSatisfiable}
 use Rattle.varisat_formula.specs.promises.Values.{assignment_of}
-use Rattle.varisat_maxsat.specs.promises.Problems.{Problem, cost, IsSolution, IsOptimum, Found, Improve, last_found}
+use Rattle.varisat_maxsat.specs.promises.Problems.{Problem, cost, IsSolution, IsOptimum, Found, Improve, last_found, IsStopped}
 use Rattle.varisat_maxsat.specs.declared.refusal.MaxSatError.{MaxSatError}
 use Rattle.varisat_maxsat.specs.declared.refusal.MaxSatError.TheVariants.{StepsSpent, Ended}
 use Rattle.varisat_maxsat.specs.inside.Reductions.{Took, EndsBySink}
@@ -30,9 +30,9 @@ goes-on false f = absurd (f refl)
 pub took-better : {S X : Type 0} (takes : S → List Found → S → Type 0) (p : Problem) (cost_of : X → ℕ) (values_of : X → List Bool) (o : Option X) (k : ℕ)
     (given values : List Bool) (on : Bool) (ended : Type 0) (s t x : S) → given ≡ values → IfSome o (λ y. k < cost_of y) →
     ((x : S) (found : List Found) → takes x found s → takes x (record { cost = k; values = given; goes_on = on } ∷ found) t) → IsSolution p k values →
-    (on ≡ false → ended) → Took takes x p (λ b. option_map (found_at cost_of values_of b) o) ⊥ s →
+    (on ≡ false → ended) → (ended → on ≡ false) → Took takes x p (λ b. option_map (found_at cost_of values_of b) o) ⊥ s →
     Took takes x p (λ b. Some (record { cost = k; values = values; goes_on = b })) ended t
-took-better takes p cost_of values_of o k given values on ended s t x e less step sol stops b = record {
+took-better takes p cost_of values_of o k given values on ended s t x e less step sol stops ends b = record {
   found = record { cost = k; values = values; goes_on = on } ∷ b.found;
   taken = subst (λ vs. takes x (record { cost = k; values = vs; goes_on = on } ∷ b.found) t) e (step x b.found b.taken);
   improve = improve-more p (record { cost = k; values = values; goes_on = on }) b.found
@@ -41,25 +41,47 @@ took-better takes p cost_of values_of o k given values on ended s t x e less ste
   goes_on = on;
   last = refl;
   stops = stops;
+  ends = ends;
 }
 
--- nothing was handed on since
-pub took-still : {S : Type 0} {takes : S → List Found → S → Type 0} {x : S} {p : Problem} {best : Bool → Option Found} (ended : Type 0) {s : S} →
-    Took takes x p best ⊥ s → Took takes x p best ended s
-took-still ended b = record { found = b.found; taken = b.taken; improve = b.improve; goes_on = b.goes_on; last = b.last; stops = λ e. absurd (b.stops e) }
+-- what comes to the same end
+pub took-ends : {S : Type 0} {takes : S → List Found → S → Type 0} {x : S} {p : Problem} {best : Bool → Option Found} {before : Type 0} (ended : Type 0) {s : S} →
+    (before → ended) → (ended → before) → Took takes x p best before s → Took takes x p best ended s
+took-ends ended f g b = record {
+  found = b.found;
+  taken = b.taken;
+  improve = b.improve;
+  goes_on = b.goes_on;
+  last = b.last;
+  stops = λ e. f (b.stops e);
+  ends = λ e. b.ends (g e);
+}
 
 -- an error was handed back
-pub still-ends : {X : Type 0} (r : Result X MaxSatError) (d : MaxSatError) → IsErrAnd r (λ e. e ≡ d) → d ≡ Ended → EndsBySink r
-still-ends (Ok x) d h e = absurd h
-still-ends (Err y) d h e = h ∙ e
+pub passes-on : {X E : Type 0} (r : Result X E) (d : E) (P : E → Type 0) → IsErr r × IsErrAnd r (λ e. e ≡ d) → P d → IfErr r P
+passes-on (Ok x) d P h q = tt
+passes-on (Err y) d P (_, h) q = subst P (sym h) q
 
-pub took-ends : {S : Type 0} {takes : S → List Found → S → Type 0} {x : S} {p : Problem} {best : Bool → Option Found} {before : Type 0} (ended : Type 0) {s : S} →
-    (before → ended) → Took takes x p best before s → Took takes x p best ended s
-took-ends ended f b = record { found = b.found; taken = b.taken; improve = b.improve; goes_on = b.goes_on; last = b.last; stops = λ e. f (b.stops e) }
+still-ends : {X : Type 0} (r : Result X MaxSatError) (d : MaxSatError) → IsErr r × IsErrAnd r (λ e. e ≡ d) → d ≡ Ended → EndsBySink r
+still-ends (Ok x) d (_, h) e = absurd h
+still-ends (Err y) d (_, h) e = h ∙ e
+
+ended-still : {X : Type 0} (r : Result X MaxSatError) (d : MaxSatError) → IsErr r × IsErrAnd r (λ e. e ≡ d) → EndsBySink r → d ≡ Ended
+ended-still (Ok x) d h e = absurd e
+ended-still (Err y) d (_, h) e = sym h ∙ e
+
+pub took-passed : {S X : Type 0} {takes : S → List Found → S → Type 0} {x : S} {p : Problem} {best : Bool → Option Found} {s : S} (r : Result X MaxSatError) (d : MaxSatError) →
+    IsErr r × IsErrAnd r (λ e. e ≡ d) → Took takes x p best (d ≡ Ended) s → Took takes x p best (EndsBySink r) s
+took-passed r d h b = took-ends (EndsBySink r) (still-ends r d h) (ended-still r d h) b
+
+-- another error, so that nothing was handed on since
+pub took-unended : {S X : Type 0} {takes : S → List Found → S → Type 0} {x : S} {p : Problem} {best : Bool → Option Found} {s : S} (r : Result X MaxSatError) (d : MaxSatError) →
+    IsErr r × IsErrAnd r (λ e. e ≡ d) → (d ≡ Ended → ⊥) → Took takes x p best ⊥ s → Took takes x p best (EndsBySink r) s
+took-unended r d h n b = took-ends (EndsBySink r) (λ e. absurd e) (λ e. n (ended-still r d h e)) b
 
 -- nothing was handed on yet
 pub took-nothing : {S : Type 0} (takes : S → List Found → S → Type 0) (p : Problem) (x : S) → takes x [] x → Took takes x p (λ b. None) ⊥ x
-took-nothing takes p x h = record { found = []; taken = h; improve = tt; goes_on = true; last = refl; stops = λ e. absurd cc }
+took-nothing takes p x h = record { found = []; taken = h; improve = tt; goes_on = true; last = refl; stops = λ e. absurd cc; ends = λ e. absurd e }
 
 -- where nothing satisfies the hard clauses, nothing is handed on
 pub none-found : (p : Problem) (fs : List Found) → (IsSatisfiable p.hard → ⊥) → Improve p fs → fs ≡ []
@@ -110,26 +132,22 @@ handed-best takes p cost_of values_of o k values ended x s h f b =
     (b.found, b.improve, b.taken, answer-last cost_of values_of o k values b.goes_on b.found (goes-on b.goes_on (λ e. f (b.stops e))) b.last h)
 
 last-stops : {X : Type 0} (cost_of : X → ℕ) (values_of : X → List Bool) (o : Option X) (fs : List Found) (b : Bool) (ended : Type 0) →
-    last_found fs ≡ option_map (found_at cost_of values_of b) o → (b ≡ false → ended) → IfSome (last_found fs) (λ f. f.goes_on ≡ false → ended)
-last-stops cost_of values_of None fs b ended e h = subst (λ l. IfSome l (λ f. f.goes_on ≡ false → ended)) (sym e) tt
-last-stops cost_of values_of (Some x) fs b ended e h = subst (λ l. IfSome l (λ f. f.goes_on ≡ false → ended)) (sym e) h
+    last_found fs ≡ option_map (found_at cost_of values_of b) o → (b ≡ false → ended) → IsStopped fs → ended
+last-stops cost_of values_of None fs b ended e h s = absurd (subst (λ l. IsSomeAnd l (λ f. f.goes_on ≡ false)) e s)
+last-stops cost_of values_of (Some x) fs b ended e h s = h (subst (λ l. IsSomeAnd l (λ f. f.goes_on ≡ false)) e s)
 
 pub handed-so-far : {S X : Type 0} (takes : S → List Found → S → Type 0) (p : Problem) (cost_of : X → ℕ) (values_of : X → List Bool) (o : Option X)
     (ended : Type 0) (x s : S) (A : List Found → Type 0) →
-    ((found : List Found) → IfSome (last_found found) (λ f. f.goes_on ≡ false → ended) → A found) →
+    ((found : List Found) → (ended ↔ IsStopped found) → A found) →
     Took takes x p (λ b. option_map (found_at cost_of values_of b) o) ended s → (found : List Found) × Improve p found × takes x found s × A found
 handed-so-far takes p cost_of values_of o ended x s A f b =
-    (b.found, b.improve, b.taken, f b.found (last-stops cost_of values_of o b.found b.goes_on ended b.last b.stops))
+    (b.found, b.improve, b.taken, f b.found (b.ends, last-stops cost_of values_of o b.found b.goes_on ended b.last b.stops))
 
 -- an error where the search went on
-on-mapped : (o : Option Found) (A B : Type 0) → (A → B) → IfSome o (λ f. f.goes_on ≡ false → A) → IfSome o (λ f. f.goes_on ≡ false → B)
-on-mapped None A B g h = h
-on-mapped (Some f) A B g h = λ e. g (h e)
-
-pub other-error : {X : Type 0} (r : Result X MaxSatError) (fs : List Found) (P : X → Type 0) → IsErr r →
-    IfSome (last_found fs) (λ f. f.goes_on ≡ false → ⊥) → MatchResult r P (λ e. IfSome (last_found fs) (λ f. f.goes_on ≡ false → e ≡ Ended))
-other-error (Ok x) fs P is h = absurd cc
-other-error (Err e) fs P is h = on-mapped (last_found fs) ⊥ (e ≡ Ended) (λ z. absurd z) h
+pub other-error : {X : Type 0} (r : Result X MaxSatError) (d : MaxSatError) (fs : List Found) (P : X → Type 0) → IsErr r × IsErrAnd r (λ e. e ≡ d) → (d ≡ Ended → ⊥) →
+    (⊥ ↔ IsStopped fs) → MatchResult r P (λ e. e ≡ Ended ↔ IsStopped fs)
+other-error (Ok x) d fs P (_, h) l s = absurd h
+other-error (Err e) d fs P (_, h) l s = (λ i. absurd (l (sym h ∙ i)), λ i. absurd (s.1 i))
 
 pub other-end : (e : MaxSatError) → e ≡ StepsSpent → e ≡ Ended → ⊥
 other-end e s n = cc

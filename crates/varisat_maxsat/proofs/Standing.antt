@@ -1,7 +1,7 @@
 -- How a problem that is brought down moves on.
-use Rattle.std.proofs.Common.{◌≡◌, ℕ, ◌+◌, ◌*◌, ◌^◌, ◌<◌, ◌≤◌, ◌⊎◌, ⊎_elim, max, Bool, true, false, not, if◌then◌else◌, List, [], ◌∷◌, ◌++◌, take, drop, length, get_or, append_assoc, refl, sym, ap, ◌∙◌, subst, arith}
+use Rattle.std.proofs.Common.{◌≡◌, ℕ, ◌+◌, ◌*◌, ◌^◌, ◌<◌, ◌≤◌, ⊎_elim, max, Bool, true, false, if◌then◌else◌, List, [], ◌∷◌, ◌++◌, take, drop, length, get_or, append_assoc, refl, sym, ap, ◌∙◌, subst, arith}
 use Rattle.std.proofs.lemmas.Bool.{cases_lt}
-use Rattle.std.specs.Prelude.{Option, IfSome, Result, Ok, Err, IfOk}
+use Rattle.std.specs.Prelude.{Option, IfSome, Result, Ok, Err, IfOk, IfErr}
 use Rattle.std.proofs.lemmas.List.{take_more, length-take-le, length-append}
 use Rattle.varisat_formula.specs.promises.Formulas.{Formula, with_one_more, variables_of}
 use Rattle.varisat_theory.specs.promises.Membership.{◌∈◌}
@@ -9,7 +9,7 @@ use Rattle.varisat_theory.specs.promises.Literals.{Literal, Clause, Assignment, 
 use Rattle.varisat_client.specs.promises.Pasts.{Past, empty_past, count}
 use Rattle.varisat_client.specs.inside.Clients.{Client, RepresentsPast}
 use Rattle.varisat_formula.specs.promises.Values.{is_satisfied}
-use Rattle.varisat_maxsat.specs.promises.Problems.{Problem, with_hard, with_soft, paired, problem_of, cost, IsOptimum}
+use Rattle.varisat_maxsat.specs.promises.Problems.{Problem, with_hard, with_soft, paired, problem_of, cost, IsOptimum, CostsAtLeast}
 use Rattle.varisat_maxsat.specs.inside.Charges.{LiteralsAreBelow, Reduces, IsSplit, TakesWeight, AreValues, IsPending}
 use Rattle.varisat_maxsat.specs.inside.Reductions.{IsReady, FindsModel, FindsCore, Reduction, ReducesTo, ReducesToWith, ReducesToAfter}
 use Rattle.varisat_maxsat.specs.declared.charge.Charge.{Charge}
@@ -119,6 +119,10 @@ stands-settled p r s x w k gives f e st = subst (ReducesTo p) (sym e) (record {
 })
 
 -- none is pending
+-- the weight of the last one that is pending is due
+pub pending-costs : (p : Problem) (r : Reduction) (x : Literal) (w : ℕ) → 2 ^ 64 ≤ r.bound + w → ReducesToWith p (x ∷ []) w r → CostsAtLeast (2 ^ 64) p
+pending-costs p r x w h st = λ a s. let (b, o, t, e) = (settled x st.one_true st.reduces).lower a s in omega arith
+
 pub stands-none : (p : Problem) (r : Reduction) (w : ℕ) → ReducesToWith p [] w r → ReducesTo p r
 stands-none p r w st = record {
   past = st.past;
@@ -308,3 +312,7 @@ soft-put h f g ws vs w c l e k =
 pub if-ok : {X E : Type 0} (r : Result X E) (P Q : X → Type 0) → ((x : X) → P x → Q x) → IfOk r P → IfOk r Q
 if-ok (Ok x) P Q f h = f x h
 if-ok (Err e) P Q f h = h
+
+pub if-err : {X E : Type 0} (r : Result X E) (P Q : E → Type 0) → ((e : E) → P e → Q e) → IfErr r P → IfErr r Q
+if-err (Ok x) P Q f h = h
+if-err (Err e) P Q f h = f e h

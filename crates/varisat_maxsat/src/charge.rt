@@ -1,9 +1,10 @@
 //! Literals that cost a weight.
-ghost use Rattle.std.specs.Prelude.{◌≡◌, ◌≤◌, ◌+◌, ◌⊎◌, ◌++◌, ◌∷◌, [], List, OnOk, IfOk, IfSome};
+ghost use Rattle.std.specs.Prelude.{◌≡◌, ◌≢◌, ◌≤◌, ◌+◌, ◌^◌, ◌⊎◌, ◌++◌, ◌∷◌, [], List, OnOk, IfOk, IfSome, MatchResult};
 ghost use Rattle.std.specs.List.Sorted.{IsPermutation};
 ghost use Rattle.varisat_theory.specs.promises.Literals.{Assignment};
 ghost use Rattle.varisat_theory.specs.promises.Membership.{◌∈◌};
 ghost use Rattle.varisat_maxsat.specs.declared.charge.Charge.{Charge};
+ghost use Rattle.varisat_maxsat.specs.declared.refusal.MaxSatError.TheVariants.{CostOverflow, Ended};
 ghost use Rattle.varisat_maxsat.specs.inside.Charges.{TakesWeight, PutsCharge, Divides, Exchanges, due};
 
 use crate::refusal::MaxSatError;
@@ -188,7 +189,7 @@ fn join_neighbours<A: Allocator + Copy>(
     charges: &[Charge],
     alloc: A,
 ) -> Result<Joined<A>, MaxSatError>
-    ensures { IfOk result (λ j. Exchanges charges.now j.due j.charges.items) }
+    ensures { MatchResult result (λ j. Exchanges charges.now j.due j.charges.items) (λ e. e ≢ Ended) }
 {
     let mut joined = Vec::new(alloc);
     let mut due: u64 = 0;
@@ -214,7 +215,7 @@ pub(crate) fn join_equal<A: Allocator + Copy>(
     charges: &[Charge],
     alloc: A,
 ) -> Result<Joined<A>, MaxSatError>
-    ensures { IfOk result (λ j. Exchanges charges.now j.due j.charges.items) }
+    ensures { MatchResult result (λ j. Exchanges charges.now j.due j.charges.items) (λ e. e ≢ Ended) }
 {
     let mut sorted = Vec::new(alloc);
     sorted.extend_from_slice(charges)?;
@@ -225,7 +226,7 @@ pub(crate) fn join_equal<A: Allocator + Copy>(
 
 /// The bound and the weight.
 pub(crate) fn raised(bound: u64, weight: u64) -> Result<u64, MaxSatError>
-    ensures { IfOk result (λ sum. sum ≡ bound + weight) }
+    ensures { MatchResult result (λ sum. sum ≡ bound + weight) (λ e. (e ≡ CostOverflow) × (2 ^ 64 ≤ bound + weight)) }
 {
     match bound.checked_add(weight) {
         Some(sum) => Ok(sum),

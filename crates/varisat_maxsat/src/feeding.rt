@@ -1,10 +1,11 @@
 //! What is given to a client, and what it is asked.
-ghost use Rattle.std.specs.Prelude.{◌≡◌, ◌≢◌, ℕ, ◌++◌, ◌∷◌, [], List, pos, None, OnOk, IfOk, MatchOption};
+ghost use Rattle.std.specs.Prelude.{◌≡◌, ◌≢◌, ℕ, ◌++◌, ◌∷◌, [], List, pos, None, IfOk, IfErr, MatchOption, MatchResult};
 ghost use Rattle.varisat_theory.specs.promises.Literals.{Clause, Assignment, SatisfiesAll, MakesTrue};
 ghost use Rattle.varisat_literals.specs.promises.Numbers.{literal_numbered};
 ghost use Rattle.varisat_client.specs.promises.Pasts.{Past, count};
 ghost use Rattle.varisat_client.specs.inside.Clients.{RepresentsPast};
 ghost use Rattle.varisat_maxsat.specs.inside.Charges.{LiteralsAreBelow, IsSplit, AreValues};
+ghost use Rattle.varisat_maxsat.specs.inside.Errors.{IsLimit};
 ghost use Rattle.varisat_maxsat.specs.inside.Reductions.{IsReady, HasBegun, FindsCore, FindsWithin, GivesUp, KeepsParted, FindsLightly};
 
 use crate::charge::Charge;
@@ -27,6 +28,7 @@ pub(crate) struct Split<A: Allocator + Copy> {
 fn number_of(literal: Lit) -> Result<i32, MaxSatError>
     ensures lit { IfOk result (λ n. literal_numbered n ≡ literal) }
     ensures some { IfOk result (λ n. n ≢ pos 0) }
+    ensures limit { IfErr result IsLimit }
 {
     if literal.index() >= VARIABLE_LIMIT {
         return Err(MaxSatError::VariableLimit);
@@ -36,7 +38,7 @@ fn number_of(literal: Lit) -> Result<i32, MaxSatError>
 
 /// Refuses a clause that has a variable from the count on.
 pub(crate) fn ensure_below(clause: &[Lit], count: usize) -> Result<(), MaxSatError>
-    ensures { OnOk result (LiteralsAreBelow count clause.now) }
+    ensures { MatchResult result (λ _. LiteralsAreBelow count clause.now) IsLimit }
 {
     for literal in clause {
         if literal.index() >= count {
@@ -48,7 +50,7 @@ pub(crate) fn ensure_below(clause: &[Lit], count: usize) -> Result<(), MaxSatErr
 
 /// Refuses where the client refused a call.
 fn ensure_accepted<A: Allocator + Copy>(client: &Client<A>) -> Result<(), MaxSatError>
-    ensures { OnOk result ((p : Past) → RepresentsPast client.now p → p.refusal ≡ None) }
+    ensures { MatchResult result (λ _. (p : Past) → RepresentsPast client.now p → p.refusal ≡ None) IsLimit }
 {
     match client.refusal() {
         Some(refusal) => Err(MaxSatError::from(refusal)),
@@ -61,9 +63,9 @@ pub(crate) fn give<A: Allocator + Copy>(
     client: &mut Client<A>,
     clause: &[Lit],
 ) -> Result<(), MaxSatError>
-    ensures { OnOk result
-        ((p : Past) → IsReady client.old p →
-        IsReady client.new (record (count clause.now p) { clauses = p.clauses ++ clause.now ∷ [] })) }
+    ensures { MatchResult result
+        (λ _. (p : Past) → IsReady client.old p →
+        IsReady client.new (record (count clause.now p) { clauses = p.clauses ++ clause.now ∷ [] })) IsLimit }
 {
     for literal in clause {
         client.add(number_of(*literal)?);
@@ -79,7 +81,8 @@ fn assume<A: Allocator + Copy>(
     charges: &[Charge],
     threshold: u64,
 ) -> Result<(), MaxSatError>
-    ensures { OnOk result ((p : Past) → IsReady client.old p → HasBegun threshold charges.now p client.new) }
+    ensures { MatchResult result
+        (λ _. (p : Past) → IsReady client.old p → HasBegun threshold charges.now p client.new) IsLimit }
 {
     for charge in charges {
         if charge.weight >= threshold {
@@ -115,8 +118,8 @@ pub(crate) fn search<A: Allocator + Copy>(
     threshold: u64,
     steps: Option<u64>,
 ) -> Result<Option<bool>, MaxSatError>
-    ensures { IfOk result
-        (λ o. (p : Past) → IsReady client.old p → FindsWithin o threshold charges.now p.clauses client.new) }
+    ensures { MatchResult result
+        (λ o. (p : Past) → IsReady client.old p → FindsWithin o threshold charges.now p.clauses client.new) IsLimit }
 {
     limit_search(client, steps);
     assume(client, charges, threshold)?;
@@ -137,8 +140,8 @@ pub(crate) fn divide<A: Allocator + Copy>(
     charges: &[Charge],
     alloc: A,
 ) -> Result<Split<A>, MaxSatError>
-    ensures { IfOk result
-        (λ s. (p : Past) → IsReady client.now p → IsSplit p.core charges.now s.kept.items s.failed.items) }
+    ensures { MatchResult result
+        (λ s. (p : Past) → IsReady client.now p → IsSplit p.core charges.now s.kept.items s.failed.items) IsLimit }
 {
     let mut kept = Vec::new(alloc);
     let mut failed = Vec::new(alloc);
@@ -159,9 +162,9 @@ fn give_up_core<A: Allocator + Copy>(
     given_up: &mut Vec<Charge, A>,
     alloc: A,
 ) -> Result<bool, MaxSatError>
-    ensures { IfOk result
+    ensures { MatchResult result
         (λ b. (P : List Clause) → FindsCore 0 left.old.items P client.now →
-        GivesUp b left.old.items given_up.old.items left.new.items given_up.new.items P) }
+        GivesUp b left.old.items given_up.old.items left.new.items given_up.new.items P) IsLimit }
 {
     let Split { kept, failed } = divide(client, left.as_slice(), alloc)?;
     if failed.is_empty() {
@@ -177,7 +180,8 @@ fn give_up_all<A: Allocator + Copy>(
     left: &mut Vec<Charge, A>,
     given_up: &mut Vec<Charge, A>,
 ) -> Result<(), MaxSatError>
-    ensures { OnOk result (KeepsParted left.old.items given_up.old.items left.new.items given_up.new.items) }
+    ensures { MatchResult result
+        (λ _. KeepsParted left.old.items given_up.old.items left.new.items given_up.new.items) IsLimit }
 {
     given_up.extend_from_slice(left.as_slice())?;
     left.clear();
@@ -200,10 +204,10 @@ pub(crate) fn search_lightly<A: Allocator + Copy>(
     steps: Option<u64>,
     alloc: A,
 ) -> Result<Option<Vec<Charge, A>>, MaxSatError>
-    ensures { IfOk result
+    ensures { MatchResult result
         (λ o. (p : Past) → IsReady client.old p →
         MatchOption o ((a : Assignment) → SatisfiesAll a p.clauses → ⊥)
-        (λ list. FindsLightly charges.now list.items p.clauses client.new)) }
+        (λ list. FindsLightly charges.now list.items p.clauses client.new)) IsLimit }
 {
     let mut left = Vec::new(alloc);
     left.extend_from_slice(charges)?;
@@ -236,9 +240,9 @@ pub(crate) fn values<A: Allocator + Copy>(
     count: usize,
     alloc: A,
 ) -> Result<Vec<bool, A>, MaxSatError>
-    ensures { IfOk result
+    ensures { MatchResult result
         (λ vs. (p : Past) → IsReady client.now p → (a : Assignment) → MakesTrue a p.model →
-        AreValues count p.model vs.items) }
+        AreValues count p.model vs.items) IsLimit }
 {
     let mut values = Vec::new(alloc);
     for index in 0..count {

@@ -1,9 +1,10 @@
 //! Problems.
-ghost use Rattle.std.specs.Prelude.{◌≡◌, ◌++◌, ◌∷◌, [], ◌+◌, max, OnOk, IfOk, IfErr, IfSome, IfNone, ◌≤◌, ◌^◌, length, if◌then◌else◌};
+ghost use Rattle.std.specs.Prelude.{◌≡◌, ◌++◌, ◌∷◌, [], ◌+◌, max, OnOk, IfErr, IfSome, IfNone, MatchResult, ◌≤◌, ◌^◌, length, if◌then◌else◌};
 ghost use Rattle.varisat_formula.specs.promises.Formulas.{variables_of};
 ghost use Rattle.varisat_formula.specs.declared.formula.cnf.FormulaError.TheVariants.{Memory};
 ghost use Rattle.varisat_formula.specs.promises.Values.{assignment_of, is_satisfied};
 ghost use Rattle.varisat_maxsat.specs.promises.Problems.{Problem as Asked, starting, paired, with_hard, with_soft, cost};
+ghost use Rattle.varisat_maxsat.specs.inside.Errors.{IsLimit};
 ghost use Rattle.varisat_maxsat.specs.inside.Reductions.{ReducesTo};
 
 use crate::reduction::Reduction;
@@ -38,9 +39,9 @@ fn add_all_hard<A: Allocator + Copy>(
     reduction: &mut Reduction<A>,
     formula: &CnfFormula<A>,
 ) -> Result<(), MaxSatError>
-    ensures { OnOk result
-        ((p : Asked) → ReducesTo p reduction.old →
-        ReducesTo (record p { hard = p.hard ++ formula.now.clauses }) reduction.new) }
+    ensures { MatchResult result
+        (λ _. (p : Asked) → ReducesTo p reduction.old →
+        ReducesTo (record p { hard = p.hard ++ formula.now.clauses }) reduction.new) IsLimit }
 {
     for clause in formula.iter() {
         reduction.add_hard(clause)?;
@@ -55,9 +56,9 @@ fn add_all_soft<A: Allocator + Copy>(
     weights: &[u64],
 ) -> Result<(), MaxSatError>
     requires { length weights.now ≡ length formula.now.clauses }
-    ensures { OnOk result
-        ((p : Asked) → ReducesTo p reduction.old →
-        ReducesTo (record p { soft = p.soft ++ paired weights.now formula.now.clauses }) reduction.new) }
+    ensures { MatchResult result
+        (λ _. (p : Asked) → ReducesTo p reduction.old →
+        ReducesTo (record p { soft = p.soft ++ paired weights.now formula.now.clauses }) reduction.new) IsLimit }
 {
     let mut index = 0;
     for clause in formula.iter() {
@@ -163,8 +164,8 @@ impl<A: Allocator + Copy> Problem<A> {
 
     /// Brings the problem down.
     pub(crate) fn reduce(&self, reduction: &mut Reduction<A>) -> Result<(), MaxSatError>
-        ensures { OnOk result
-            (ReducesTo (starting self.now.variables) reduction.old → ReducesTo self.now reduction.new) }
+        ensures { MatchResult result
+            (λ _. ReducesTo (starting self.now.variables) reduction.old → ReducesTo self.now reduction.new) IsLimit }
     {
         add_all_hard(reduction, &self.hard)?;
         add_all_soft(reduction, &self.soft, &self.weights)?;

@@ -1,7 +1,9 @@
 //! A problem that is reduced to hard clauses, and literals that cost a weight each.
-ghost use Rattle.std.specs.Prelude.{◌≡◌, ◌+◌, ◌*◌, ◌++◌, ◌∷◌, [], List, ℕ, OnOk, IfOk, IfErr, true, false};
+ghost use Rattle.std.specs.Prelude.{◌≡◌, ◌≢◌, ◌+◌, ◌*◌, ◌^◌, ◌++◌, ◌∷◌, [], List, ℕ, OnOk, IfOk, IfErr, MatchResult, true, false};
 ghost use Rattle.varisat_formula.specs.promises.Values.{assignment_of};
-ghost use Rattle.varisat_maxsat.specs.promises.Problems.{Problem, with_hard, with_soft, cost, IsSolution, IsOptimum};
+ghost use Rattle.varisat_maxsat.specs.promises.Problems.{Problem, with_hard, with_soft, cost, IsSolution, IsOptimum, CostsAtLeast};
+ghost use Rattle.varisat_maxsat.specs.declared.refusal.MaxSatError.TheVariants.{CostOverflow, Ended};
+ghost use Rattle.varisat_maxsat.specs.inside.Errors.{IsLimit};
 ghost use Rattle.varisat_maxsat.specs.inside.Reductions.{ReducesTo, ReducesToWith, ReducesToAfter, ReducesToBelow, FindsSolution, DecidesHard, IsImproved, KeepsReductions, IsRelaxed};
 
 use crate::charge::{Charge, Joined, divide_digits, join_equal, least_weight, raised, take_weight};
@@ -64,6 +66,7 @@ impl<A: Allocator + Copy> Reduction<A> {
     fn fresh(&mut self) -> Result<Lit, MaxSatError>
         ensures literal { IfOk result (λ l. l ≡ 2 * self.old.named) }
         ensures named { OnOk result (self.new ≡ record self.old { named = self.old.named + 1 }) }
+        ensures limit { IfErr result IsLimit }
     {
         if self.named >= VARIABLE_LIMIT {
             return Err(MaxSatError::VariableLimit);
@@ -75,7 +78,8 @@ impl<A: Allocator + Copy> Reduction<A> {
 
     /// Takes a hard clause.
     pub fn add_hard(&mut self, clause: &[Lit]) -> Result<(), MaxSatError>
-        ensures { OnOk result ((p : Problem) → ReducesTo p self.old → ReducesTo (with_hard clause.now p) self.new) }
+        ensures { MatchResult result
+            (λ _. (p : Problem) → ReducesTo p self.old → ReducesTo (with_hard clause.now p) self.new) IsLimit }
     {
         ensure_below(clause, self.variables)?;
         give(&mut self.client, clause)?;
@@ -84,8 +88,8 @@ impl<A: Allocator + Copy> Reduction<A> {
 
     /// Takes a soft clause.
     pub fn add_soft(&mut self, weight: u64, clause: &[Lit]) -> Result<(), MaxSatError>
-        ensures { OnOk result
-            ((p : Problem) → ReducesTo p self.old → ReducesTo (with_soft weight clause.now p) self.new) }
+        ensures { MatchResult result
+            (λ _. (p : Problem) → ReducesTo p self.old → ReducesTo (with_soft weight clause.now p) self.new) IsLimit }
     {
         ensure_below(clause, self.variables)?;
         if weight == 0 {
@@ -109,7 +113,8 @@ impl<A: Allocator + Copy> Reduction<A> {
 
     /// Searches for a model in which no literal is true whose weight is no less than the threshold.
     pub fn search(&mut self, threshold: u64) -> Result<bool, MaxSatError>
-        ensures { IfOk result (λ b. (p : Problem) → ReducesTo p self.old → ReducesToAfter b threshold p self.new) }
+        ensures { MatchResult result
+            (λ b. (p : Problem) → ReducesTo p self.old → ReducesToAfter b threshold p self.new) IsLimit }
     {
         match search(&mut self.client, &self.charges, threshold, self.steps)? {
             Some(found) => Ok(found),
@@ -119,7 +124,7 @@ impl<A: Allocator + Copy> Reduction<A> {
 
     /// Searches for a model in which few charges are true, and puts those first that were given up.
     pub fn search_lightly(&mut self) -> Result<bool, MaxSatError>
-        ensures { IfOk result (λ b. (p : Problem) → ReducesTo p self.old → DecidesHard b p self.new) }
+        ensures { MatchResult result (λ b. (p : Problem) → ReducesTo p self.old → DecidesHard b p self.new) IsLimit }
     {
         let found = search_lightly(&mut self.client, &self.charges, self.steps, self.alloc)?;
         match found {
@@ -133,8 +138,12 @@ impl<A: Allocator + Copy> Reduction<A> {
 
     /// Brings the problem further down by the core. False is for one that no assignment satisfies.
     pub fn relax(&mut self) -> Result<bool, MaxSatError>
-        ensures { IfOk result
+        ensures relaxed { IfOk result
             (λ b. (p : Problem) (t : ℕ) → ReducesToAfter false t p self.old → IsRelaxed b p self.new) }
+        ensures reason { IfErr result
+            (λ e. e ≡ CostOverflow → (p : Problem) (t : ℕ) → ReducesToAfter false t p self.old →
+            CostsAtLeast (2 ^ 64) p) }
+        ensures unended { IfErr result (λ e. e ≢ Ended) }
     {
         let Split { mut kept, failed } = divide(&self.client, &self.charges, self.alloc)?;
         if failed.is_empty() {
@@ -153,7 +162,12 @@ impl<A: Allocator + Copy> Reduction<A> {
         mut pending: VecDeque<Lit, A>,
         weight: u64,
     ) -> Result<(), MaxSatError>
-        ensures { OnOk result ((p : Problem) → ReducesToWith p pending.items weight self.old → ReducesTo p self.new) }
+        ensures joined { OnOk result
+            ((p : Problem) → ReducesToWith p pending.items weight self.old → ReducesTo p self.new) }
+        ensures reason { IfErr result
+            (λ e. e ≡ CostOverflow → (p : Problem) → ReducesToWith p pending.items weight self.old →
+            CostsAtLeast (2 ^ 64) p) }
+        ensures unended { IfErr result (λ e. e ≢ Ended) }
     {
         'gates: while let Some(first) = pending.pop_front() {
             let Some(second) = pending.pop_front() else {
@@ -170,9 +184,9 @@ impl<A: Allocator + Copy> Reduction<A> {
     /// In place of two literals: one that is true where either is, which is returned, and one that is true where both are,
     /// which is charged.
     fn join(&mut self, first: Lit, second: Lit, weight: u64) -> Result<Lit, MaxSatError>
-        ensures { IfOk result
+        ensures { MatchResult result
             (λ d. (p : Problem) (rest : List ℕ) → ReducesToWith p (first ∷ second ∷ rest) weight self.old →
-            ReducesToWith p (rest ++ d ∷ []) weight self.new) }
+            ReducesToWith p (rest ++ d ∷ []) weight self.new) IsLimit }
     {
         let either = self.fresh()?;
         let both = self.fresh()?;
@@ -189,7 +203,7 @@ impl<A: Allocator + Copy> Reduction<A> {
     /// Joins the charges of each variable.
     pub fn join_charges(&mut self) -> Result<(), MaxSatError>
         ensures joined { OnOk result ((p : Problem) → ReducesTo p self.old → ReducesTo p self.new) }
-        ensures stays { IfErr result (λ _. self.new ≡ self.old) }
+        ensures stays { IfErr result (λ e. (self.new ≡ self.old) × (e ≢ Ended)) }
     {
         let Joined { charges, due } = join_equal(&self.charges, self.alloc)?;
         self.bound = raised(self.bound, due)?;
@@ -200,7 +214,7 @@ impl<A: Allocator + Copy> Reduction<A> {
     /// Divides the charges into one for each digit of their weights. From now on only what costs less than the ceiling
     /// is asked for.
     pub fn begin_counting(&mut self, radix: u64, ceiling: u64) -> Result<(), MaxSatError>
-        ensures { OnOk result ((p : Problem) → ReducesTo p self.old → ReducesToBelow p self.new) }
+        ensures { MatchResult result (λ _. (p : Problem) → ReducesTo p self.old → ReducesToBelow p self.new) IsLimit }
     {
         let parts = divide_digits(&self.charges, radix, self.alloc)?;
         self.charges = parts;
@@ -230,7 +244,7 @@ impl<A: Allocator + Copy> Reduction<A> {
 
     /// Counts a sum of charges.
     pub fn add_counter(&mut self, sum: Sum) -> Result<(), MaxSatError>
-        ensures { OnOk result (KeepsReductions self.old self.new) }
+        ensures { MatchResult result (λ _. KeepsReductions self.old self.new) IsLimit }
     {
         if let Some(counter) = counter_of_charge(&self.charges, sum) {
             self.counters.push(counter)?;
@@ -248,7 +262,7 @@ impl<A: Allocator + Copy> Reduction<A> {
 
     /// Gives the clause of a rule by which one counter follows from another one.
     fn imply(&mut self, cause: usize, effect: usize) -> Result<(), MaxSatError>
-        ensures { OnOk result (KeepsReductions self.old self.new) }
+        ensures { MatchResult result (λ _. KeepsReductions self.old self.new) IsLimit }
     {
         if cause >= self.counters.len() || effect >= self.counters.len() {
             return Ok(());
@@ -264,7 +278,7 @@ impl<A: Allocator + Copy> Reduction<A> {
 
     /// Gives the clause of a rule by which one counter follows from two others.
     fn add_up(&mut self, left: usize, right: usize, effect: usize) -> Result<(), MaxSatError>
-        ensures { OnOk result (KeepsReductions self.old self.new) }
+        ensures { MatchResult result (λ _. KeepsReductions self.old self.new) IsLimit }
     {
         let count = self.counters.len();
         if left >= count || right >= count || effect >= count {
@@ -285,7 +299,7 @@ impl<A: Allocator + Copy> Reduction<A> {
 
     /// Gives the clause of a rule.
     pub fn follow(&mut self, rule: Rule) -> Result<(), MaxSatError>
-        ensures { OnOk result (KeepsReductions self.old self.new) }
+        ensures { MatchResult result (λ _. KeepsReductions self.old self.new) IsLimit }
     {
         if rule.left == rule.right {
             self.imply(rule.left, rule.effect)?;
@@ -297,7 +311,7 @@ impl<A: Allocator + Copy> Reduction<A> {
 
     /// Forbids what costs no less than the ceiling by this counter.
     pub fn forbid(&mut self, index: usize) -> Result<(), MaxSatError>
-        ensures { OnOk result (KeepsReductions self.old self.new) }
+        ensures { MatchResult result (λ _. KeepsReductions self.old self.new) IsLimit }
     {
         if index >= self.counters.len() {
             return Ok(());
@@ -312,8 +326,8 @@ impl<A: Allocator + Copy> Reduction<A> {
 
     /// Searches for a model that costs less than the ceiling, as far as the counters count.
     pub fn search_below(&mut self) -> Result<bool, MaxSatError>
-        ensures { IfOk result
-            (λ b. (p : Problem) → ReducesToBelow p self.old → IsImproved b p self.new) }
+        ensures { MatchResult result
+            (λ b. (p : Problem) → ReducesToBelow p self.old → IsImproved b p self.new) IsLimit }
     {
         if self.ceiling <= self.bound {
             return Ok(false);
@@ -338,6 +352,7 @@ impl<A: Allocator + Copy> Reduction<A> {
             IsSolution p (cost (assignment_of vs.items) p.soft) vs.items) }
         ensures optimum { IfOk result
             (λ vs. (p : Problem) → ReducesToAfter true 0 p self.now → IsOptimum p self.now.bound vs.items) }
+        ensures limit { IfErr result IsLimit }
     {
         let mut values = values(&self.client, self.named, self.alloc)?;
         values.truncate(self.variables);

@@ -1,6 +1,6 @@
 //! Who takes solutions as they are found.
 ghost use Rattle.std.specs.Prelude.{List, [], ◌∷◌};
-ghost use Rattle.varisat_maxsat.specs.promises.Problems.{Found};
+ghost use Rattle.varisat_maxsat.specs.promises.Problems.{Found, IsStopped};
 
 /// Takes each solution that costs less than those before it, at once.
 pub trait SolutionSink {
@@ -16,16 +16,16 @@ pub trait SolutionSink {
     ghost takes_none: { (x : Self) → takes x [] x };
 }
 
-/// Takes no solution.
+/// Takes no solution, and never ends the search.
 #[derive(Clone, Copy)]
 pub struct NoSink;
 
 impl SolutionSink for NoSink {
-    ghost takes = { λ _ _ _. Unit {0} };
+    ghost takes = { λ _ found _. IsStopped found → ⊥ };
 
     fn take(&mut self, _cost: u64, _values: &[bool]) -> bool {
         true
     }
 
-    ghost takes_none = { λ _. tt };
+    ghost takes_none = { λ _ none. none };
 }

@@ -1,8 +1,9 @@
 //! Solving.
-ghost use Rattle.std.specs.Prelude.{◌≡◌, ◌<◌, ◌≤◌, List, [], Some, OnOk, IfOk, IfSome, IsSomeAnd, MatchOption, MatchResult, IsTrue, IsFalse, true, false};
+ghost use Rattle.std.specs.Prelude.{◌≡◌, ◌≢◌, ◌<◌, ◌≤◌, ◌^◌, ◌↔◌, List, [], Some, OnOk, IfOk, IfErr, IfSome, IsSomeAnd, MatchOption, MatchResult, IsTrue, IsFalse, true, false};
 ghost use Rattle.varisat_theory.specs.promises.Literals.{IsSatisfiable};
-ghost use Rattle.varisat_maxsat.specs.promises.Problems.{Problem as Asked, IsSolution, IsOptimum, IsOptimumOrSolution, starting, Found, Improve, last_found};
-ghost use Rattle.varisat_maxsat.specs.declared.refusal.MaxSatError.TheVariants.{Ended};
+ghost use Rattle.varisat_maxsat.specs.promises.Problems.{Problem as Asked, IsSolution, IsOptimum, IsOptimumOrSolution, CostsAtLeast, IsTooCostly, starting, Found, Improve, last_found, IsStopped};
+ghost use Rattle.varisat_maxsat.specs.declared.refusal.MaxSatError.TheVariants.{CostOverflow, Ended};
+ghost use Rattle.varisat_maxsat.specs.inside.Errors.{IsLimit};
 ghost use Rattle.varisat_maxsat.specs.inside.Reductions.{ReducesTo, ReducesToAfter, ReducesToBelow, FindsSolution, IsEnded, KeepsReductions, EndsBySink, HandsOn};
 
 use crate::charge::greatest_weight;
@@ -36,8 +37,8 @@ pub struct Solution<A: Allocator + Copy> {
 
 /// The bound with the values of the model.
 fn optimum_of<A: Allocator + Copy>(reduction: &Reduction<A>) -> Result<Solution<A>, MaxSatError>
-    ensures { IfOk result
-        (λ m. (p : Asked) → ReducesToAfter true 0 p reduction.now → IsOptimum p m.cost m.values.items) }
+    ensures { MatchResult result
+        (λ m. (p : Asked) → ReducesToAfter true 0 p reduction.now → IsOptimum p m.cost m.values.items) IsLimit }
 {
     let values = reduction.values()?;
     Ok(Solution {
@@ -71,6 +72,7 @@ fn keep_better<A: Allocator + Copy, S: SolutionSink>(
     ensures taken { (p : Asked) → IsSolution p solution.cost solution.values.items →
         HandsOn S.takes p sink.old best.old sink.new best.new
         (λ b s. record { cost = s.cost; values = s.values.items; goes_on = b }) (EndsBySink result) }
+    ensures ended { IfErr result (λ e. e ≡ Ended) }
 {
     if !is_better(solution.cost, best) {
         return Ok(());
@@ -97,6 +99,7 @@ fn keep_model<A: Allocator + Copy, S: SolutionSink>(
     ensures taken { FindsSolution problem.now reduction.now →
         HandsOn S.takes problem.now sink.old best.old sink.new best.new
         (λ b s. record { cost = s.cost; values = s.values.items; goes_on = b }) (EndsBySink result) }
+    ensures reason { IfErr result (λ e. e ≢ CostOverflow) }
 {
     let values = reduction.values()?;
     let Some(cost) = problem.cost(&values) else {
@@ -128,6 +131,8 @@ fn descend<A: Allocator + Copy, S: SolutionSink>(
     ensures taken { ReducesTo problem.now reduction.old →
         HandsOn S.takes problem.now sink.old best.old sink.new best.new
         (λ b s. record { cost = s.cost; values = s.values.items; goes_on = b }) (EndsBySink result) }
+    ensures reason { IfErr result
+        (λ e. e ≡ CostOverflow → ReducesTo problem.now reduction.old → CostsAtLeast (2 ^ 64) problem.now) }
 {
     let greatest = greatest_weight(reduction.charges());
     let mut threshold = greatest;
@@ -160,7 +165,7 @@ fn follow<A: Allocator + Copy>(
     reduction: &mut Reduction<A>,
     plan: &Plan<A>,
 ) -> Result<(), MaxSatError>
-    ensures { OnOk result (KeepsReductions reduction.old reduction.new) }
+    ensures { MatchResult result (λ _. KeepsReductions reduction.old reduction.new) IsLimit }
 {
     let sums = plan.sums();
     'sums: for index in reduction.counter_count()..sums.len() {
@@ -177,7 +182,7 @@ fn forbid_ceiling<A: Allocator + Copy>(
     reduction: &mut Reduction<A>,
     plan: &mut Plan<A>,
 ) -> Result<(), MaxSatError>
-    ensures { OnOk result (KeepsReductions reduction.old reduction.new) }
+    ensures { MatchResult result (λ _. KeepsReductions reduction.old reduction.new) IsLimit }
 {
     let least = reduction.ceiling().saturating_sub(reduction.bound());
     let Some(index) = plan.reach(least)? else {
@@ -193,7 +198,9 @@ fn forbid_ceiling<A: Allocator + Copy>(
 fn weights_of<A: Allocator + Copy>(
     reduction: &Reduction<A>,
     alloc: A,
-) -> Result<Vec<u64, A>, MaxSatError> {
+) -> Result<Vec<u64, A>, MaxSatError>
+    ensures { IfErr result IsLimit }
+{
     let mut weights = Vec::new(alloc);
     for charge in reduction.charges() {
         weights.push(charge.weight)?;
@@ -207,7 +214,8 @@ fn begin_counting<A: Allocator + Copy>(
     ceiling: u64,
     alloc: A,
 ) -> Result<Plan<A>, MaxSatError>
-    ensures { OnOk result ((p : Asked) → ReducesTo p reduction.old → ReducesToBelow p reduction.new) }
+    ensures { MatchResult result
+        (λ _. (p : Asked) → ReducesTo p reduction.old → ReducesToBelow p reduction.new) IsLimit }
 {
     reduction.begin_counting(RADIX, ceiling)?;
     let weights = weights_of(reduction, alloc)?;
@@ -221,7 +229,7 @@ fn ensure_met<A: Allocator + Copy>(
     reduction: &Reduction<A>,
     best: &Option<Solution<A>>,
 ) -> Result<(), MaxSatError>
-    ensures { OnOk result (IfSome best.now (λ s. s.cost ≤ reduction.now.ceiling)) }
+    ensures { MatchResult result (λ _. IfSome best.now (λ s. s.cost ≤ reduction.now.ceiling)) IsLimit }
 {
     match best {
         Some(solution) => {
@@ -239,7 +247,8 @@ fn lower_ceiling<A: Allocator + Copy>(
     reduction: &mut Reduction<A>,
     cost: u64,
 ) -> Result<(), MaxSatError>
-    ensures { KeepsReductions reduction.old reduction.new }
+    ensures keeps { KeepsReductions reduction.old reduction.new }
+    ensures limit { IfErr result IsLimit }
 {
     if cost >= reduction.ceiling() {
         return Err(MaxSatError::StepsSpent);
@@ -266,6 +275,7 @@ fn improve<A: Allocator + Copy, S: SolutionSink>(
     ensures taken { ReducesTo problem.now reduction.old →
         HandsOn S.takes problem.now sink.old best.old sink.new best.new
         (λ b s. record { cost = s.cost; values = s.values.items; goes_on = b }) (EndsBySink result) }
+    ensures reason { IfErr result (λ e. e ≢ CostOverflow) }
 {
     let mut plan = begin_counting(reduction, best_cost(best), alloc)?;
     'turns: for _ in 0..u64::MAX {
@@ -304,6 +314,8 @@ fn decide<A: Allocator + Copy, S: SolutionSink>(
     ensures taken { ReducesTo problem.now reduction.old →
         HandsOn S.takes problem.now sink.old best.old sink.new best.new
         (λ b s. record { cost = s.cost; values = s.values.items; goes_on = b }) (EndsBySink result) }
+    ensures reason { IfErr result
+        (λ e. e ≡ CostOverflow → ReducesTo problem.now reduction.old → IsTooCostly problem.now) }
 {
     let found = reduction.search_lightly()?;
     if !found {
@@ -328,6 +340,7 @@ fn answer<A: Allocator + Copy>(
         IsOptimumOrSolution s.is_optimum p s.cost s.values.items) }
     ensures same { IfOk result
         (λ s. IsSomeAnd best (λ t. (t.cost ≡ s.cost) × (t.values.items ≡ s.values.items))) }
+    ensures limit { IfErr result IsLimit }
 {
     match best {
         Some(solution) => Ok(Solution {
@@ -342,7 +355,7 @@ fn answer<A: Allocator + Copy>(
 /// Joins equal charges. Where what is due in any case passes 2^64 none is joined, since only a search tells whether there
 /// is a solution.
 fn join_if_bounded<A: Allocator + Copy>(reduction: &mut Reduction<A>) -> Result<(), MaxSatError>
-    ensures { OnOk result ((p : Asked) → ReducesTo p reduction.old → ReducesTo p reduction.new) }
+    ensures { MatchResult result (λ _. (p : Asked) → ReducesTo p reduction.old → ReducesTo p reduction.new) IsLimit }
 {
     if let Err(error) = reduction.join_charges() {
         if error != MaxSatError::CostOverflow {
@@ -367,7 +380,9 @@ fn solve<A: Allocator + Copy, S: SolutionSink>(
         × Improve problem.now found × S.takes sink.old found sink.new
         × MatchResult result (λ o. MatchOption o (found ≡ [])
         (λ s. last_found found ≡ Some (record { cost = s.cost; values = s.values.items; goes_on = true })))
-        (λ e. IfSome (last_found found) (λ f. f.goes_on ≡ false → e ≡ Ended)) }
+        (λ e. e ≡ Ended ↔ IsStopped found) }
+    ensures reason { IfErr result
+        (λ e. e ≡ CostOverflow → ReducesTo (starting problem.now.variables) reduction.old → IsTooCostly problem.now) }
 {
     problem.reduce(reduction)?;
     join_if_bounded(reduction)?;
@@ -393,7 +408,7 @@ fn solve<A: Allocator + Copy, S: SolutionSink>(
 /// The optimum of the problem, or where the searches would make more than so many steps in all the best solution until then. None is
 /// for a problem whose hard clauses no assignment satisfies. Each solution that costs less than those before it is handed on to
 /// the sink, the one that is returned last. Where the sink says that the search is not to go on, no more is handed on, and
-/// the error is `Ended`.
+/// the error is `Ended`, as nowhere else.
 pub fn optimize_within<A: Allocator + Copy, S: SolutionSink>(
     problem: &Problem<A>,
     steps: Option<u64>,
@@ -406,7 +421,8 @@ pub fn optimize_within<A: Allocator + Copy, S: SolutionSink>(
     ensures taken { (found : List Found) × Improve problem.now found × S.takes sink.old found sink.new
         × MatchResult result (λ o. MatchOption o (found ≡ [])
         (λ s. last_found found ≡ Some (record { cost = s.cost; values = s.values.items; goes_on = true })))
-        (λ e. IfSome (last_found found) (λ f. f.goes_on ≡ false → e ≡ Ended)) }
+        (λ e. e ≡ Ended ↔ IsStopped found) }
+    ensures reason { IfErr result (λ e. e ≡ CostOverflow → IsTooCostly problem.now) }
 {
     let mut reduction = Reduction::new_in(alloc, problem.var_count(), steps);
     let found = solve(problem, &mut reduction, sink, alloc);
@@ -420,8 +436,10 @@ pub fn optimize<A: Allocator + Copy>(
     problem: &Problem<A>,
     alloc: A,
 ) -> Result<Option<Optimum<A>>, MaxSatError>
-    ensures { IfOk result
+    ensures answer { IfOk result
         (λ o. MatchOption o (IsSatisfiable problem.now.hard → ⊥) (λ m. IsOptimum problem.now m.cost m.values.items)) }
+    ensures reason { IfErr result (λ e. e ≡ CostOverflow → IsTooCostly problem.now) }
+    ensures unended { IfErr result (λ e. e ≢ Ended) }
 {
     let Some(solution) = optimize_within(problem, None, &mut NoSink, alloc)? else {
         return Ok(None);

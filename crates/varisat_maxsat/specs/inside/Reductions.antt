@@ -3,7 +3,7 @@ use Rattle.std.specs.Prelude.{◌≡◌, ◌≤◌, ℕ, Bool, true, false, Opti
 use Rattle.varisat_theory.specs.promises.Literals.{Literal, Clause, Assignment, SatisfiesAll, IsFailedCore, IsSatisfiable}
 use Rattle.varisat_client.specs.promises.Pasts.{Past, IsFoundModel, count}
 use Rattle.varisat_client.specs.inside.Clients.{Client, RepresentsPast}
-use Rattle.varisat_maxsat.specs.promises.Problems.{Problem, cost, Found, Improve, last_found}
+use Rattle.varisat_maxsat.specs.promises.Problems.{Problem, CostsAtLeast, Found, Improve, last_found, IsStopped}
 use Rattle.varisat_maxsat.specs.inside.Charges.{ClausesAreBelow, Exchanges, AreParted, Reduces, ReducesBelow, AreAssumed, IsPending}
 use Rattle.varisat_maxsat.specs.declared.charge.Charge.{Charge}
 use Rattle.varisat_maxsat.specs.declared.refusal.MaxSatError.{MaxSatError}
@@ -144,7 +144,7 @@ DecidesHard false p r = IsSatisfiable p.hard → ⊥
 -- A model was found that may cost less, or none costs less than the ceiling.
 abbrev pub IsImproved : Bool → Problem → Reduction → Type 0
 IsImproved true p r = ReducesToBelow p r × FindsSolution p r
-IsImproved false p r = (a : Assignment) → SatisfiesAll a p.hard → r.ceiling ≤ cost a p.soft
+IsImproved false p r = CostsAtLeast r.ceiling p
 
 -- The problem was brought further down, or no assignment satisfies its hard clauses.
 abbrev pub IsRelaxed : Bool → Problem → Reduction → Type 0
@@ -172,7 +172,7 @@ abbrev pub EndsBySink : {X : Type 0} → Result X MaxSatError → Type 0
 EndsBySink r = MatchResult r (λ _. ⊥) (λ e. e ≡ Ended)
 
 -- What a sink took since x: solutions, of which the best one is the last. Where it did not let the search go on behind that one,
--- the search ended so.
+-- and only there, the search ended so.
 pub record Took {S : Type 0} (takes : S → List Found → S → Type 0) (x : S) (p : Problem) (best : Bool → Option Found)
     (ended : Type 0) (s : S) : Type 0 where
   pub found : List Found
@@ -181,6 +181,7 @@ pub record Took {S : Type 0} (takes : S → List Found → S → Type 0) (x : S)
   pub goes_on : Bool
   pub last : last_found found ≡ best goes_on
   pub stops : goes_on ≡ false → ended
+  pub ends : ended → IsStopped found
 
 -- The best solution was handed on, each time that it changed.
 abbrev pub HandsOn : {S X : Type 0} → (S → List Found → S → Type 0) → Problem → S → Option X → S → Option X →

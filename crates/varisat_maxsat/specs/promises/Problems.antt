@@ -1,6 +1,6 @@
 -- What is asked of a solver, and what its answer says.
-use Rattle.std.specs.Prelude.{◌≡◌, ℕ, ◌+◌, ◌≤◌, ◌<◌, Option, Some, None, Bool, true, false, if◌then◌else◌, List, [], ◌∷◌, ◌++◌, length}
-use Rattle.varisat_theory.specs.promises.Literals.{Clause, Assignment, SatisfiesAll}
+use Rattle.std.specs.Prelude.{◌≡◌, ℕ, ◌+◌, ◌^◌, ◌≤◌, ◌<◌, Option, Some, None, IsSomeAnd, Bool, true, false, if◌then◌else◌, List, [], ◌∷◌, ◌++◌, length}
+use Rattle.varisat_theory.specs.promises.Literals.{Clause, Assignment, SatisfiesAll, IsSatisfiable}
 use Rattle.varisat_formula.specs.promises.Values.{assignment_of, is_satisfied}
 
 -- A soft clause, and what an assignment costs that does not satisfy it.
@@ -46,10 +46,18 @@ pub record IsSolution (p : Problem) (c : ℕ) (values : List Bool) : Type 0 wher
   pub satisfied : SatisfiesAll (assignment_of values) p.hard
   pub costs : cost (assignment_of values) p.soft ≡ c
 
+-- each assignment that satisfies the hard clauses costs so much or more
+abbrev pub CostsAtLeast : ℕ → Problem → Type 0
+CostsAtLeast c p = (a : Assignment) → SatisfiesAll a p.hard → c ≤ cost a p.soft
+
 -- So they do, and no assignment that satisfies the hard clauses costs less.
 pub record IsOptimum (p : Problem) (c : ℕ) (values : List Bool) : Type 0 where
   pub solution : IsSolution p c values
-  pub least : (a : Assignment) → SatisfiesAll a p.hard → c ≤ cost a p.soft
+  pub least : CostsAtLeast c p
+
+-- some assignment satisfies the hard clauses, and each that does costs 2^64 or more
+abbrev pub IsTooCostly : Problem → Type 0
+IsTooCostly p = IsSatisfiable p.hard × CostsAtLeast (2 ^ 64) p
 
 -- an optimum, or where it is not known to be one a solution
 abbrev pub IsOptimumOrSolution : Bool → Problem → ℕ → List Bool → Type 0
@@ -72,3 +80,7 @@ Improve p (f ∷ g ∷ fs) = IsSolution p f.cost f.values × (f.cost < g.cost) �
 abbrev pub last_found : List Found → Option Found
 last_found [] = None
 last_found (f ∷ fs) = Some f
+
+-- who took them ended the search at the last one
+abbrev pub IsStopped : List Found → Type 0
+IsStopped fs = IsSomeAnd (last_found fs) (λ f. f.goes_on ≡ false)

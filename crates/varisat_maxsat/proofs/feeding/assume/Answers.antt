@@ -27,4 +27,4 @@ loop-charge-preserved g c =
     ]
 
 pub returns : goal.returns
-returns g c = assumed-all _ _ _ _ _ _ (take_all _ _ c.loop-charge-test.false) c.begin.ensures (c.in_ok-ensure_accepted.ensures {u = tt}) c.loop-charge.invariant
+returns g c = assumed-all _ _ _ _ _ _ (take_all _ _ c.loop-charge-test.false) c.begin.ensures c.in_ok-ensure_accepted.ensures c.loop-charge.invariant

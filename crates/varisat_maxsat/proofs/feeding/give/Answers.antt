@@ -17,4 +17,4 @@ loop-literal-preserved g c = let f : SFits w32 c.in_ok-number_of.field-0 = searc
 
 pub returns : goal.returns
 returns g c =
-    gives-all _ _ _ _ _ (take_all _ _ c.loop-literal-test.false) c.add-2.ensures (c.in_ok-ensure_accepted.ensures {u = tt}) c.loop-literal.invariant
+    gives-all _ _ _ _ _ (take_all _ _ c.loop-literal-test.false) c.add-2.ensures c.in_ok-ensure_accepted.ensures c.loop-literal.invariant

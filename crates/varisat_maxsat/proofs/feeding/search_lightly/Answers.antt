@@ -11,7 +11,7 @@ pub turns-preserved-in_default : goal.turns-preserved-in_default
 turns-preserved-in_default g c = λ p r.
     shares-more _ _ _ _ _ _ _ _ _
     (goes-on _ _ _ _ _ _ _ c.deref.ensures.value (c.turns.invariant p r).ready c.in_ok-found.ensures)
-    (c.in_ok-give_up_all.ensures {u = tt}) (c.turns.invariant p r)
+    c.in_ok-give_up_all.ensures (c.turns.invariant p r)
 
 pub returns-then-found : goal.returns-then-found
 returns-then-found g c = λ p r.

@@ -15,7 +15,7 @@ loop-clause-preserved g c =
     let seen : map (λ c. c.now) (c.loop-clause.yielded ++ c.in-Some.clause ∷ []) ≡ map
     (λ c. c.now) c.loop-clause.yielded ++ c.in-Some.clause.now ∷ [] = map-append _ _ _ in
     record {
-      so_far = λ p st. hard-next p _ _ _ c.in-Some.clause.now seen ((c.in_ok-add_hard.ensures {u = tt}) _ (c.loop-clause.invariant.so_far p st));
+      so_far = λ p st. hard-next p _ _ _ c.in-Some.clause.now seen (c.in_ok-add_hard.ensures _ (c.loop-clause.invariant.so_far p st));
       whole = ap (λ P. P ++ c.next.new.self) seen ∙ append_assoc (map (λ c. c.now) c.loop-clause.yielded)
           (c.in-Some.clause.now ∷ []) c.next.new.self ∙ ap (λ xs. map (λ c. c.now) c.loop-clause.yielded ++ xs) (sym c.in-Some.ensures.steps)
           ∙ c.loop-clause.invariant.whole;

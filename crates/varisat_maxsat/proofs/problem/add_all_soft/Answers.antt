@@ -24,7 +24,7 @@ loop-clause-preserved g c =
     (ap (λ xs. map (λ c. c.now) c.loop-clause.yielded ++ xs) (sym c.in-Some.ensures.steps) ∙ c.loop-clause.invariant.whole) c.requires in
     record {
       so_far = λ p st. soft-next p _ _ _ _ _ c.in-Some.clause.now room c.loop-clause.invariant.place seen
-          ((c.in_ok-add_soft.ensures {u = tt}) _ (c.loop-clause.invariant.so_far p st));
+          (c.in_ok-add_soft.ensures _ (c.loop-clause.invariant.so_far p st));
       whole = ap (λ P. P ++ c.next.new.self) seen ∙ append_assoc (map (λ c. c.now) c.loop-clause.yielded)
           (c.in-Some.clause.now ∷ []) c.next.new.self ∙ ap (λ xs. map (λ c. c.now) c.loop-clause.yielded ++ xs) (sym c.in-Some.ensures.steps)
           ∙ c.loop-clause.invariant.whole;

@@ -4,10 +4,10 @@ pub sums-init : goal.sums-init
 sums-init g c = λ p st. st
 
 pub sums-preserved : goal.sums-preserved
-sums-preserved g c = λ p st. c.in_ok-add_counter.ensures {u = tt} p (c.sums.invariant p st)
+sums-preserved g c = λ p st. c.in_ok-add_counter.ensures p (c.sums.invariant p st)
 
 pub rules-init : goal.rules-init
 rules-init g c = λ p st. c.sums.invariant p st
 
 pub rules-preserved : goal.rules-preserved
-rules-preserved g c = λ p st. c.in_ok-follow.ensures {u = tt} p (c.rules.invariant p st)
+rules-preserved g c = λ p st. c.in_ok-follow.ensures p (c.rules.invariant p st)

@@ -8,4 +8,5 @@ returns-then-not-is_better g c =
       least = c.is_better.ensures.not_better e;
       best = λ p sol h. h;
       taken = λ p sol x b. b;
+      ended = tt;
     }

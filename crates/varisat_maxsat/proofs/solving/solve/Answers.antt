@@ -1,7 +1,7 @@
 use Rattle.std.proofs.Common.{◌≡◌, true, false, subst, rules}
-use Rattle.std.specs.Prelude.{IfSome, MatchResult, MatchOption, Some, []}
+use Rattle.std.specs.Prelude.{IfSome, MatchResult, MatchOption, Some, [], ◌↔◌}
 use Rattle.std.proofs.lemmas.Bool.{not-true, not-false}
-use Rattle.varisat_maxsat.specs.promises.Problems.{IsOptimum, last_found}
+use Rattle.varisat_maxsat.specs.promises.Problems.{IsOptimum, last_found, IsStopped}
 use Rattle.varisat_maxsat.specs.declared.refusal.MaxSatError.TheVariants.{StepsSpent, Ended}
 use Rattle.varisat_maxsat.specs.inside.Reductions.{IsEnded}
 use Rattle.varisat_maxsat.proofs.Handing.{took-nothing, took-ends, handed-none, handed-best, handed-so-far, other-error, other-end}
@@ -12,15 +12,36 @@ returns-in_ok-optimum-in-Ok-clause-answer g c = λ st.
     let e : c.in-Ok.found ≡ true = first_of (assumption c.if-not-found.false, search (not-false, c.if-not-found.false)) in
     c.in_ok-optimum-in-Ok.ensures.answer c.args.problem.now
     (subst (λ b. IsEnded b c.args.problem.now (IfSome c.decide.new.best (λ s. IsOptimum c.args.problem.now s.cost s.values.items))) e
-    (c.in-Ok.ensures.ends (c.in_ok-join_if_bounded.ensures {u = tt} c.args.problem.now (c.in_ok-reduce.ensures {u = tt} st)) tt))
+    (c.in-Ok.ensures.ends (c.in_ok-join_if_bounded.ensures c.args.problem.now (c.in_ok-reduce.ensures st)) tt))
+
+pub returns-in_err-reduce-clause-taken : goal.returns-in_err-reduce-clause-taken
+returns-in_err-reduce-clause-taken g c = λ st. (
+  [],
+  tt,
+  g.met.S.SolutionSink.takes_none c.args.sink.now,
+  other-error c.from_residual.result c.in_err-reduce.field-0.0 [] _ c.from_residual.ensures c.in_err-reduce.ensures.1 (λ e. absurd e, λ s. s),
+)
+
+pub returns-in_err-join_if_bounded-clause-taken : goal.returns-in_err-join_if_bounded-clause-taken
+returns-in_err-join_if_bounded-clause-taken g c = λ st. (
+  [],
+  tt,
+  g.met.S.SolutionSink.takes_none c.args.sink.now,
+  other-error c.from_residual-in_err-join_if_bounded.result c.in_err-join_if_bounded.field-0.0 [] _ c.from_residual-in_err-join_if_bounded.ensures
+      c.in_err-join_if_bounded.ensures.1 (λ e. absurd e, λ s. s),
+)
+
+pub returns-then-ne-clause-reason : goal.returns-then-ne-clause-reason
+returns-then-ne-clause-reason g c = λ over st.
+    c.in-Err.ensures.reason over (c.in_ok-join_if_bounded.ensures c.args.problem.now (c.in_ok-reduce.ensures st))
 
 pub returns-then-not-found-clause-taken : goal.returns-then-not-found-clause-taken
 returns-then-not-found-clause-taken g c = λ st.
     let e : c.in-Ok.found ≡ false = first_of (assumption c.if-not-found.true, search (not-true, c.if-not-found.true)) in
     handed-none g.S.SolutionSink.takes c.args.problem.now _ _ c.args.sink.now c.decide.new.sink
     (subst (λ b. IsEnded b c.args.problem.now (IfSome c.decide.new.best (λ s. IsOptimum c.args.problem.now s.cost s.values.items))) e
-    (c.in-Ok.ensures.ends (c.in_ok-join_if_bounded.ensures {u = tt} c.args.problem.now (c.in_ok-reduce.ensures {u = tt} st)) tt))
-    (c.decide.ensures.taken (c.in_ok-join_if_bounded.ensures {u = tt} c.args.problem.now (c.in_ok-reduce.ensures {u = tt} st)) c.args.sink.now
+    (c.in-Ok.ensures.ends (c.in_ok-join_if_bounded.ensures c.args.problem.now (c.in_ok-reduce.ensures st)) tt))
+    (c.decide.ensures.taken (c.in_ok-join_if_bounded.ensures c.args.problem.now (c.in_ok-reduce.ensures st)) c.args.sink.now
     (took-nothing g.S.SolutionSink.takes c.args.problem.now c.args.sink.now (g.met.S.SolutionSink.takes_none c.args.sink.now)))
 
 pub returns-in_err-optimum-in-Ok-clause-taken : goal.returns-in_err-optimum-in-Ok-clause-taken
@@ -28,16 +49,16 @@ returns-in_err-optimum-in-Ok-clause-taken g c = λ st.
     handed-so-far g.S.SolutionSink.takes c.args.problem.now (λ s. s.cost) (λ s. s.values.items) c.decide.new.best ⊥ c.args.sink.now c.decide.new.sink
     (λ x. MatchResult c.from_residual-in_err-optimum-in-Ok.result
     (λ o. MatchOption o (x ≡ []) (λ s. last_found x ≡ Some (record { cost = s.cost; values = s.values.items; goes_on = true })))
-    (λ e. IfSome (last_found x) (λ f. f.goes_on ≡ false → e ≡ Ended)))
-    (λ x. other-error c.from_residual-in_err-optimum-in-Ok.result x _ c.from_residual-in_err-optimum-in-Ok.ensures.0)
-    (c.in-Ok.ensures.taken (c.in_ok-join_if_bounded.ensures {u = tt} c.args.problem.now (c.in_ok-reduce.ensures {u = tt} st)) c.args.sink.now
+    (λ e. e ≡ Ended ↔ IsStopped x))
+    (λ x. other-error c.from_residual-in_err-optimum-in-Ok.result c.in_err-optimum-in-Ok.field-0.0 x _ c.from_residual-in_err-optimum-in-Ok.ensures c.in_err-optimum-in-Ok.ensures.limit.1)
+    (c.in-Ok.ensures.taken (c.in_ok-join_if_bounded.ensures c.args.problem.now (c.in_ok-reduce.ensures st)) c.args.sink.now
     (took-nothing g.S.SolutionSink.takes c.args.problem.now c.args.sink.now (g.met.S.SolutionSink.takes_none c.args.sink.now)))
 
 pub returns-then-ne-clause-taken : goal.returns-then-ne-clause-taken
 returns-then-ne-clause-taken g c = λ st.
     handed-so-far g.S.SolutionSink.takes c.args.problem.now (λ s. s.cost) (λ s. s.values.items) c.decide.new.best (c.in-Err.error ≡ Ended) c.args.sink.now
-    c.decide.new.sink (λ x. IfSome (last_found x) (λ f. f.goes_on ≡ false → c.in-Err.error ≡ Ended)) (λ x h. h)
-    (c.in-Err.ensures.taken (c.in_ok-join_if_bounded.ensures {u = tt} c.args.problem.now (c.in_ok-reduce.ensures {u = tt} st)) c.args.sink.now
+    c.decide.new.sink (λ x. c.in-Err.error ≡ Ended ↔ IsStopped x) (λ x h. h)
+    (c.in-Err.ensures.taken (c.in_ok-join_if_bounded.ensures c.args.problem.now (c.in_ok-reduce.ensures st)) c.args.sink.now
     (took-nothing g.S.SolutionSink.takes c.args.problem.now c.args.sink.now (g.met.S.SolutionSink.takes_none c.args.sink.now)))
 
 pub returns-in_err-solution-in-Err-clause-taken : goal.returns-in_err-solution-in-Err-clause-taken
@@ -46,17 +67,17 @@ returns-in_err-solution-in-Err-clause-taken g c = λ st.
     handed-so-far g.S.SolutionSink.takes c.args.problem.now (λ s. s.cost) (λ s. s.values.items) c.decide.new.best ⊥ c.args.sink.now c.decide.new.sink
     (λ x. MatchResult c.from_residual-in_err-solution-in-Err.result
     (λ o. MatchOption o (x ≡ []) (λ s. last_found x ≡ Some (record { cost = s.cost; values = s.values.items; goes_on = true })))
-    (λ e. IfSome (last_found x) (λ f. f.goes_on ≡ false → e ≡ Ended)))
-    (λ x. other-error c.from_residual-in_err-solution-in-Err.result x _ c.from_residual-in_err-solution-in-Err.ensures.0)
-    (took-ends ⊥ (other-end c.in-Err.error spent)
-    (c.in-Err.ensures.taken (c.in_ok-join_if_bounded.ensures {u = tt} c.args.problem.now (c.in_ok-reduce.ensures {u = tt} st)) c.args.sink.now
+    (λ e. e ≡ Ended ↔ IsStopped x))
+    (λ x. other-error c.from_residual-in_err-solution-in-Err.result c.in_err-solution-in-Err.field-0.0 x _ c.from_residual-in_err-solution-in-Err.ensures c.in_err-solution-in-Err.ensures.limit.1)
+    (took-ends ⊥ (other-end c.in-Err.error spent) (λ e. absurd e)
+    (c.in-Err.ensures.taken (c.in_ok-join_if_bounded.ensures c.args.problem.now (c.in_ok-reduce.ensures st)) c.args.sink.now
     (took-nothing g.S.SolutionSink.takes c.args.problem.now c.args.sink.now (g.met.S.SolutionSink.takes_none c.args.sink.now))))
 
 pub returns-in_ok-optimum-in-Ok-clause-taken : goal.returns-in_ok-optimum-in-Ok-clause-taken
 returns-in_ok-optimum-in-Ok-clause-taken g c = λ st.
     handed-best g.S.SolutionSink.takes c.args.problem.now (λ s. s.cost) (λ s. s.values.items) c.decide.new.best _ _ ⊥ c.args.sink.now
     c.decide.new.sink c.in_ok-optimum-in-Ok.ensures.same (λ h. h)
-    (c.in-Ok.ensures.taken (c.in_ok-join_if_bounded.ensures {u = tt} c.args.problem.now (c.in_ok-reduce.ensures {u = tt} st)) c.args.sink.now
+    (c.in-Ok.ensures.taken (c.in_ok-join_if_bounded.ensures c.args.problem.now (c.in_ok-reduce.ensures st)) c.args.sink.now
     (took-nothing g.S.SolutionSink.takes c.args.problem.now c.args.sink.now (g.met.S.SolutionSink.takes_none c.args.sink.now)))
 
 pub returns-in_ok-solution-in-Err-clause-taken : goal.returns-in_ok-solution-in-Err-clause-taken
@@ -64,5 +85,5 @@ returns-in_ok-solution-in-Err-clause-taken g c = λ st.
     let spent : c.in-Err.error ≡ StepsSpent = search rules in
     handed-best g.S.SolutionSink.takes c.args.problem.now (λ s. s.cost) (λ s. s.values.items) c.decide.new.best _ _ (c.in-Err.error ≡ Ended) c.args.sink.now
     c.decide.new.sink c.in_ok-solution-in-Err.ensures.same (other-end c.in-Err.error spent)
-    (c.in-Err.ensures.taken (c.in_ok-join_if_bounded.ensures {u = tt} c.args.problem.now (c.in_ok-reduce.ensures {u = tt} st)) c.args.sink.now
+    (c.in-Err.ensures.taken (c.in_ok-join_if_bounded.ensures c.args.problem.now (c.in_ok-reduce.ensures st)) c.args.sink.now
     (took-nothing g.S.SolutionSink.takes c.args.problem.now c.args.sink.now (g.met.S.SolutionSink.takes_none c.args.sink.now)))

@@ -7,4 +7,4 @@ pub returns : goal.returns
 returns g c = rw (← c.self.view_is) (λ st.
     subst (λ ws. ReducesTo (problem_of (max c.self.inside.hard.var_count c.self.inside.soft.var_count) c.self.inside.hard.clauses
     (paired ws c.self.inside.soft.clauses)) c.add_all_soft.new.reduction)
-    c.deref.ensures.value ((c.in_ok-add_all_soft.ensures {u = tt}) _ ((c.in_ok-add_all_hard.ensures {u = tt}) _ st)))
+    c.deref.ensures.value (c.in_ok-add_all_soft.ensures _ (c.in_ok-add_all_hard.ensures _ st)))

@@ -11,4 +11,4 @@ returns g c =
     rw (← c.self.view_is) (λ p st.
     adds-step p _ _ c.index.result.now c.index-2.result.now c.index-3.result.now _ _ (item-∈ _ c.args.left _ (omega arith) c.index.ensures)
     (item-∈ _ c.args.right _ (omega arith) c.index-2.ensures) (item-∈ _ c.args.effect _ (omega arith) c.index-3.ensures)
-    f.0 f.1 f.2 f.3 c.not.ensures c.not-2.ensures (c.in_ok-give.ensures {u = tt}) st)
+    f.0 f.1 f.2 f.3 c.not.ensures c.not-2.ensures c.in_ok-give.ensures st)

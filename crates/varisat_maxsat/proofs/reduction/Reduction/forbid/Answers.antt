@@ -5,4 +5,4 @@ use Rattle.varisat_maxsat.proofs.reduction.Reduction.forbid.Goals as goal
 
 pub returns : goal.returns
 returns g c = rw (← c.self.view_is) (λ p st.
-    past-step p _ _ c.index-counter.result.now _ (item-∈ _ c.args.index _ (omega arith) c.index-counter.ensures) (omega arith) c.not.ensures (c.in_ok-give.ensures {u = tt}) st)
+    past-step p _ _ c.index-counter.result.now _ (item-∈ _ c.args.index _ (omega arith) c.index-counter.ensures) (omega arith) c.not.ensures c.in_ok-give.ensures st)

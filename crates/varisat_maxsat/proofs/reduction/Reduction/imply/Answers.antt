@@ -10,4 +10,4 @@ returns g c =
     let f = c.is_within.ensures.0 e in
     rw (← c.self.view_is) (λ p st.
     within-step p _ _ c.index.result.now c.index-2.result.now _ (item-∈ _ c.args.cause _ (omega arith) c.index.ensures)
-    (item-∈ _ c.args.effect _ (omega arith) c.index-2.ensures) f.0 f.1 f.2 c.not.ensures (c.in_ok-give.ensures {u = tt}) st)
+    (item-∈ _ c.args.effect _ (omega arith) c.index-2.ensures) f.0 f.1 f.2 c.not.ensures c.in_ok-give.ensures st)

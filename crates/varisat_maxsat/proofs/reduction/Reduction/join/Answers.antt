@@ -6,4 +6,4 @@ pub returns : goal.returns
 returns g c = λ p rest st.
     join-step p _ _ _ _ _ _ _ _ _ _ _ _ _ _ _ rest _ (c.in_ok-either.ensures.named) (c.self.view_is ∙ c.in_ok-both.ensures.named)
     c.in_ok-either.ensures.literal c.in_ok-both.ensures.literal c.not.ensures c.not-2.ensures c.not-3.ensures c.not-4.ensures
-    (c.in_ok-give.ensures {u = tt}) (c.in_ok-give-2.ensures {u = tt}) (c.in_ok-give-3.ensures {u = tt}) c.in_ok-push.ensures.items st
+    c.in_ok-give.ensures c.in_ok-give-2.ensures c.in_ok-give-3.ensures c.in_ok-push.ensures.items st

@@ -1,9 +1,9 @@
 //! Problems.
-ghost use Rattle.std.specs.Prelude.{◌≡◌, ◌++◌, ◌∷◌, [], ◌+◌, max, OnOk, IfErr, IfSome, IfNone, MatchResult, ◌≤◌, ◌^◌, length, if◌then◌else◌};
-ghost use Rattle.varisat_formula.specs.promises.Formulas.{variables_of};
+ghost use Rattle.std.specs.Prelude.{◌≡◌, ◌++◌, ◌∷◌, [], ◌+◌, max, OnOk, IfErr, IfSome, IfNone, MatchResult, ◌≤◌, ◌^◌, length, map, if◌then◌else◌};
+ghost use Rattle.varisat_formula.specs.promises.Formulas.{AreBelow, variables_of};
 ghost use Rattle.varisat_formula.specs.declared.formula.cnf.FormulaError.TheVariants.{Memory};
 ghost use Rattle.varisat_formula.specs.promises.Values.{assignment_of, is_satisfied};
-ghost use Rattle.varisat_maxsat.specs.promises.Problems.{Problem as Asked, starting, paired, with_hard, with_soft, cost};
+ghost use Rattle.varisat_maxsat.specs.promises.Problems.{Problem as Asked, Soft, starting, paired, with_hard, with_soft, cost};
 ghost use Rattle.varisat_maxsat.specs.inside.Errors.{IsLimit};
 ghost use Rattle.varisat_maxsat.specs.inside.Reductions.{ReducesTo};
 
@@ -103,7 +103,7 @@ fn cost_of<A: Allocator + Copy>(
 impl<A: Allocator + Copy> Problem<A> {
     /// A problem without clauses and variables. It takes no memory.
     pub fn new_in(alloc: A) -> Problem<A>
-        ensures { result ≡ record { variables = 0; hard = []; soft = [] } }
+        ensures { result ≡ starting 0 }
     {
         Problem {
             hard: CnfFormula::new_in(alloc),
@@ -112,9 +112,10 @@ impl<A: Allocator + Copy> Problem<A> {
         }
     }
 
-    /// How many variables there are.
+    /// How many variables there are: at least as many as the clauses' literals need, and at most 2^31.
     pub fn var_count(&self) -> usize
         ensures count { result ≡ self.now.variables }
+        ensures below { AreBelow result self.now.hard × AreBelow result (map (λ (s : Soft). s.clause) self.now.soft) }
         ensures small { result ≤ 2 ^ 31 }
     {
         self.hard.var_count().max(self.soft.var_count())

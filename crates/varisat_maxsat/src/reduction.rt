@@ -1,7 +1,7 @@
 //! A problem that is reduced to hard clauses, and literals that cost a weight each.
 ghost use Rattle.std.specs.Prelude.{◌≡◌, ◌≢◌, ◌+◌, ◌*◌, ◌^◌, ◌++◌, ◌∷◌, [], List, ℕ, OnOk, IfOk, IfErr, MatchResult, true, false};
 ghost use Rattle.varisat_formula.specs.promises.Values.{assignment_of};
-ghost use Rattle.varisat_maxsat.specs.promises.Problems.{Problem, with_hard, with_soft, cost, IsSolution, IsOptimum, CostsAtLeast};
+ghost use Rattle.varisat_maxsat.specs.promises.Problems.{Problem, starting, with_hard, with_soft, cost, IsSolution, IsOptimum, CostsAtLeast};
 ghost use Rattle.varisat_maxsat.specs.declared.refusal.MaxSatError.TheVariants.{CostOverflow, Ended};
 ghost use Rattle.varisat_maxsat.specs.inside.Errors.{IsLimit};
 ghost use Rattle.varisat_maxsat.specs.inside.Reductions.{ReducesTo, ReducesToWith, ReducesToAfter, ReducesToBelow, FindsSolution, DecidesHard, IsImproved, KeepsReductions, IsRelaxed};
@@ -42,7 +42,7 @@ impl<A: Allocator + Copy> Model for Reduction<A> {
 impl<A: Allocator + Copy> Reduction<A> {
     /// No clauses over so many variables. All searches together make at most so many steps.
     pub fn new_in(alloc: A, variables: usize, steps: Option<u64>) -> Reduction<A>
-        ensures { ReducesTo (record { variables = variables; hard = []; soft = [] }) result }
+        ensures { ReducesTo (starting variables) result }
     {
         Reduction {
             client: Client::new_in(alloc),

@@ -20,7 +20,7 @@ problem_of n H S = record { variables = n; hard = H; soft = S }
 
 -- no clauses yet
 abbrev pub starting : ℕ → Problem
-starting n = record { variables = n; hard = []; soft = [] }
+starting n = problem_of n [] []
 
 -- each clause with its weight
 abbrev pub paired : List ℕ → List Clause → List Soft

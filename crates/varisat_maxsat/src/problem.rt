@@ -1,5 +1,5 @@
 //! Problems.
-ghost use Rattle.std.specs.Prelude.{◌≡◌, ◌++◌, ◌∷◌, [], ◌+◌, max, OnOk, IfErr, IfSome, IfNone, MatchResult, ◌≤◌, ◌^◌, length, map, if◌then◌else◌};
+ghost use Rattle.std.specs.Prelude.{◌≡◌, ◌++◌, max, OnOk, IfErr, IfSome, IfNone, MatchResult, ◌≤◌, ◌^◌, length, map, if◌then◌else◌};
 ghost use Rattle.varisat_formula.specs.promises.Formulas.{AreBelow, variables_of};
 ghost use Rattle.varisat_formula.specs.declared.formula.cnf.FormulaError.TheVariants.{Memory};
 ghost use Rattle.varisat_formula.specs.promises.Values.{assignment_of, is_satisfied};

@@ -1,9 +1,10 @@
 -- How a problem that is brought down moves on.
 use Rattle.std.proofs.Common.{◌≡◌, ℕ, ◌+◌, ◌*◌, ◌^◌, ◌<◌, ◌≤◌, ⊎_elim, max, Bool, true, false, if◌then◌else◌, List, [], ◌∷◌, ◌++◌, map, take, drop, length, get_or, append_assoc, refl, sym, ap, ◌∙◌, subst, arith}
 use Rattle.std.proofs.lemmas.Bool.{cases_lt}
-use Rattle.std.specs.Prelude.{Option, IfSome, Result, Ok, Err, IfOk, IfErr}
+use Rattle.std.specs.Prelude.{Option, IfSome}
 use Rattle.std.proofs.lemmas.List.{take_more, length-take-le, length-append}
-use Rattle.varisat_formula.specs.promises.Formulas.{Formula, AllBelow, AreBelow, with_one_more, variables_of}
+use Rattle.varisat_formula.specs.promises.Formulas.{Formula, AreBelow, with_one_more, variables_of}
+use Rattle.varisat_formula.proofs.FormulaBuffers.{below_more}
 use Rattle.varisat_theory.specs.promises.Membership.{◌∈◌}
 use Rattle.varisat_theory.specs.promises.Literals.{Literal, Clause, Assignment, opposite, MakesTrue, IsSatisfiable}
 use Rattle.varisat_client.specs.promises.Pasts.{Past, empty_past, count}
@@ -309,25 +310,13 @@ soft-put h f g ws vs w c l e k =
     ∙ ap (λ n. problem_of n h.clauses (paired (ws ++ w ∷ []) (f.clauses ++ c ∷ []))) (max-more h.var_count f.var_count (variables_of c))
     ∙ ap (λ s. problem_of (max (max h.var_count f.var_count) (variables_of c)) h.clauses s) (paired-append ws f.clauses w c l)
 
-pub if-ok : {X E : Type 0} (r : Result X E) (P Q : X → Type 0) → ((x : X) → P x → Q x) → IfOk r P → IfOk r Q
-if-ok (Ok x) P Q f h = f x h
-if-ok (Err e) P Q f h = h
-
 -- the clauses' variables are below a higher count, too
-literals-rise : (n m : ℕ) (ls : List Literal) → n ≤ m → AllBelow n ls → AllBelow m ls
-literals-rise n m [] e h = tt
-literals-rise n m (l ∷ ls) e (b, h) = (omega arith, literals-rise n m ls e h)
-
 pub clauses-rise : (n m : ℕ) (P : List Clause) → n ≤ m → AreBelow n P → AreBelow m P
 clauses-rise n m [] e h = tt
-clauses-rise n m (c ∷ cs) e (b, h) = (literals-rise n m c e b, clauses-rise n m cs e h)
+clauses-rise n m (c ∷ cs) e (b, h) = (below_more n m c e b, clauses-rise n m cs e h)
 
 pub paired-clauses : (ws : List ℕ) (cs : List Clause) → length ws ≡ length cs → map (λ (s : Soft). s.clause) (paired ws cs) ≡ cs
 paired-clauses [] [] e = refl
 paired-clauses [] (c ∷ cs) e = absurd cc
 paired-clauses (w ∷ ws) [] e = absurd cc
 paired-clauses (w ∷ ws) (c ∷ cs) e = ap (λ xs. c ∷ xs) (paired-clauses ws cs (omega (arith, e)))
-
-pub if-err : {X E : Type 0} (r : Result X E) (P Q : E → Type 0) → ((e : E) → P e → Q e) → IfErr r P → IfErr r Q
-if-err (Ok x) P Q f h = h
-if-err (Err e) P Q f h = f e h

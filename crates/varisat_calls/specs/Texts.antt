@@ -1,15 +1,13 @@
 -- DIMACS texts that a caller gives in pieces, and texts whose proof is checked.
-use Rattle.std.specs.Prelude.{◌≡◌, ◌≢◌, ◌⊎◌, ℕ, List, [], Option, Some, None, Result, Ok, Err}
+use Rattle.std.specs.Prelude.{◌≡◌, ◌⊎◌, ℕ, List, [], Option, Some, None, Result, Ok, Err}
 use Rattle.varisat_theory.specs.promises.Literals.{IsSatisfiable}
 use Rattle.varisat_formula.specs.declared.dimacs.error.DimacsError.{DimacsError}
 use Rattle.varisat_formula.specs.promises.Dimacs.{dimacs}
 use Rattle.varisat_formula.specs.promises.Rest.{Progress, begin, AdvancesBy, RunsOutIn, IsEnding}
 use Rattle.varisat_solver.specs.promises.ClauseCalls.{AddsFormula}
-use Rattle.varisat_solver.specs.promises.Refusals.{refusal_number}
+use Rattle.varisat_solver.specs.promises.Refusals.{IsRefusedText, refusal_number}
 use Rattle.varisat_solver.specs.promises.Represented.{LeadsRepresented}
-use Rattle.varisat_formula.specs.declared.dimacs.error.DimacsErrorKind.TheVariants as kind
 use Rattle.varisat_solver.specs.declared.solver.SolverError.{SolverError}
-use Rattle.varisat_solver.specs.declared.solver.SolverError.TheVariants.{OutOfMemory, Dimacs}
 use Rattle.varisat_calls.specs.Callers.{Caller, DoneOrRefused}
 
 -- how far the text came, or the beginning of one
@@ -29,11 +27,6 @@ ReadsFurther p piece q = AdvancesBy p piece q ⊎ RunsOutIn p piece q
 pub record AddsClauses (read : Progress) (answer : DoneOrRefused) (text : Option Progress) (g h : Caller) : Type 0 where
   pub call : LeadsRepresented g.solver (λ s t. AddsFormula s read.reading.clauses answer t) h.solver
   pub rest : h ≡ record g { solver = h.solver; text = text }
-
--- the refusal for a fault of a text: memory that ran out in the reader is returned as in any call
-abbrev pub IsRefusedText : DimacsError → SolverError → Type 0
-IsRefusedText fault e =
-    ((fault.kind ≡ kind.OutOfMemory) × (e ≡ OutOfMemory)) ⊎ ((fault.kind ≢ kind.OutOfMemory) × (e ≡ Dimacs fault))
 
 -- The clauses that ended are added, and then the text goes on, or its fault is reported. A text that is refused is over.
 pub data AddsEndedClauses (read : Progress) (g : Caller) (n : ℕ) (h : Caller) : Type 0 where

@@ -3,7 +3,6 @@ ghost use Rattle.std.specs.Prelude.{◌≡◌, pos, ◌≤ℤ◌, ◌-◌, ◌^�
 ghost use Rattle.varisat_literals.specs.promises.Numbers.{variable_numbered};
 ghost use Rattle.varisat_solver.specs.promises.Refusals.{refusal_number};
 ghost use Rattle.varisat_calls.specs.Codes.{answer_number};
-ghost use Rattle.varisat_calls.specs.Texts.{IsRefusedText};
 
 use crate::codes::{DONE, NOTHING, WRONG, field_of, format_of, mode_of};
 use crate::lookups::Lookups;
@@ -13,7 +12,6 @@ use std::alloc::Allocator;
 use std::marker::Model;
 use std::string::String;
 use varisat_formula::dimacs::DimacsParser;
-use varisat_formula::dimacs::error::{DimacsError, DimacsErrorKind};
 use varisat_literals::{Lit, Var};
 use varisat_names::config::SolverConfigUpdate;
 use varisat_names::variables::SamplingMode;
@@ -26,16 +24,6 @@ fn variable_of(number: i32) -> Var
     ensures { result ≡ variable_numbered number }
 {
     Var::from_dimacs(number as isize)
-}
-
-/// The refusal for a fault of a text.
-fn refuse_text(fault: DimacsError) -> SolverError
-    ensures { IsRefusedText fault result }
-{
-    if let DimacsErrorKind::OutOfMemory = fault.kind {
-        return SolverError::OutOfMemory;
-    }
-    SolverError::Dimacs { cause: fault }
 }
 
 /// A solver, and what is kept for its caller between calls.
@@ -419,7 +407,7 @@ impl<A: Allocator + Copy> Caller<A> {
                 self.text = Some(parser);
                 DONE
             }
-            Err(fault) => self.refuse(refuse_text(fault)),
+            Err(fault) => self.refuse(SolverError::from_text(fault)),
         }
     }
 
@@ -435,7 +423,7 @@ impl<A: Allocator + Copy> Caller<A> {
         }
         match read {
             Ok(()) => Ok(parser.var_count()),
-            Err(fault) => Err(self.refuse(refuse_text(fault))),
+            Err(fault) => Err(self.refuse(SolverError::from_text(fault))),
         }
     }
 

@@ -7,7 +7,7 @@ ghost use Rattle.varisat_solver.specs.inside.Representations.{Represents};
 ghost use Rattle.varisat.specs.promises.Decided.{Decided, concluded, allowed_steps};
 ghost use Rattle.varisat.specs.promises.Proven.{CanCountFault, prepared, DecidesBy};
 ghost use Rattle.varisat_solve.specs.inside.Extending.{conclusion_of_all};
-ghost use Rattle.varisat_solve.specs.promises.Solving.{AreLow, Concluded, IsRefusedText, line_refusal, TakesLead, SpendsOver, SpendsSimplified, is_simplified, SpendsFirst, FailsOver, FailsSimplified, FailsFirst};
+ghost use Rattle.varisat_solve.specs.promises.Solving.{AreLow, Concluded, line_refusal, TakesLead, SpendsOver, SpendsSimplified, is_simplified, SpendsFirst, FailsOver, FailsSimplified, FailsFirst};
 
 use crate::lines::write_history;
 use crate::models::{extend_model, named_count};
@@ -19,7 +19,7 @@ use varisat::CnfFormula;
 use varisat::deciding::{
     Report, SolveOptions, close, decide_text, find_report, new_solver, prepare,
 };
-use varisat::dimacs::{DimacsError, DimacsErrorKind, DimacsParser};
+use varisat::dimacs::DimacsParser;
 use varisat::io::{ByteSource, ProofTarget};
 use varisat::proof::{ProofFormat, WriteError};
 use varisat::solver::{Solver, SolverError};
@@ -70,16 +70,6 @@ pub fn decide<W: ProofTarget, A: Allocator + Copy, S: ByteSource, E: Write, C: C
     }
 }
 
-/// The refusal for a fault of a text.
-fn refuse_text(fault: DimacsError) -> SolverError
-    ensures { IsRefusedText fault result }
-{
-    if let DimacsErrorKind::OutOfMemory = fault.kind {
-        return SolverError::OutOfMemory;
-    }
-    SolverError::Dimacs { cause: fault }
-}
-
 /// The refusal for a line that is not written.
 fn refuse_line(fault: WriteError) -> SolverError
     ensures { result ≡ line_refusal fault }
@@ -113,7 +103,7 @@ fn decide_simplified<W: ProofTarget, A: Allocator + Copy, S: ByteSource, E: Writ
 {
     let formula = match DimacsParser::parse(alloc, cnf) {
         Ok(formula) => formula,
-        Err(fault) => return Err(refuse_text(fault)),
+        Err(fault) => return Err(SolverError::from_text(fault)),
     };
     let count = named_count(&formula);
     let made = simplify_reporting(alloc, formula, options.progress.is_some(), clock, err)?;

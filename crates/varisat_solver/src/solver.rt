@@ -91,7 +91,7 @@ impl From<AllocError> for SolverError {
 
 impl SolverError {
     ghost use Rattle.std.specs.Prelude.{◌↔◌, ◌≡◌, ◌<◌, ◌⊎◌, IsTrue};
-    ghost use Rattle.varisat_solver.specs.promises.Refusals.{refusal_number};
+    ghost use Rattle.varisat_solver.specs.promises.Refusals.{IsRefusedText, refusal_number};
 
     /// The number under which a session prints the refusal.
     pub fn number(&self) -> u8
@@ -112,6 +112,16 @@ impl SolverError {
             SolverError::ConfigOutOfRange { .. } => 12,
             SolverError::Dimacs { .. } => 13,
         }
+    }
+
+    /// The refusal for a fault of a text: memory that ran out in the reader is returned as in any call.
+    pub fn from_text(fault: DimacsError) -> SolverError
+        ensures { IsRefusedText fault result }
+    {
+        if let DimacsErrorKind::OutOfMemory = fault.kind {
+            return SolverError::OutOfMemory;
+        }
+        SolverError::Dimacs { cause: fault }
     }
 
     /// Whether the solver can be used as before.

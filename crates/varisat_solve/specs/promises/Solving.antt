@@ -4,7 +4,6 @@ use Rattle.varisat_theory.specs.promises.Membership.{◌∈◌}
 use Rattle.varisat_theory.specs.promises.Literals.{Literal, Clause}
 use Rattle.varisat_theory.specs.promises.Derivations.{Line}
 use Rattle.varisat_formula.specs.declared.dimacs.error.DimacsError.{DimacsError}
-use Rattle.varisat_formula.specs.declared.dimacs.error.DimacsErrorKind.TheVariants as kind
 use Rattle.varisat_formula.specs.promises.Formulas.{Formula}
 use Rattle.varisat_formula.specs.promises.Parsed.{Parses}
 use Rattle.varisat_formula.specs.promises.Streams.{Input, Taken}
@@ -18,18 +17,14 @@ use Rattle.varisat_simplify.specs.promises.Simplified.{IsMadeOf}
 use Rattle.varisat_solver.specs.promises.States.{State}
 use Rattle.varisat_solver.specs.promises.Calls.{Solves, by_state}
 use Rattle.varisat_solver.specs.promises.ClauseCalls.{AddsFormula}
+use Rattle.varisat_solver.specs.promises.Refusals.{IsRefusedText}
 use Rattle.varisat_solver.specs.promises.ProofCalls.{ClosesProof}
 use Rattle.varisat.specs.promises.Decided.{Conclusion, Decided, Unknown, IsConclusion, IsModel}
 use Rattle.varisat.specs.promises.Proven.{prepared, Concludes, IsProvenIf, DecidesBy, SpendsSteps, FailsBy, Prints}
 use Rattle.varisat.specs.declared.deciding.SolveOptions.{SolveOptions}
 use Rattle.varisat_solver.specs.declared.solver.SolverError.{SolverError}
-use Rattle.varisat_solver.specs.declared.solver.SolverError.TheVariants.{Interrupted, OutOfMemory, ProofIoError, Dimacs}
+use Rattle.varisat_solver.specs.declared.solver.SolverError.TheVariants.{Interrupted, OutOfMemory, ProofIoError}
 use Rattle.varisat_solve.specs.declared.deciding.ProgramOptions.{ProgramOptions}
-
--- the refusal for a fault of a text: memory that ran out in the reader is returned as in any call
-abbrev pub IsRefusedText : DimacsError → SolverError → Type 0
-IsRefusedText fault e =
-    ((fault.kind ≡ kind.OutOfMemory) × (e ≡ OutOfMemory)) ⊎ ((fault.kind ≢ kind.OutOfMemory) × (e ≡ Dimacs fault))
 
 -- the refusal for a line of a proof that is not written
 abbrev pub line_refusal : WriteError → SolverError

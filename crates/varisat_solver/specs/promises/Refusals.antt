@@ -1,5 +1,7 @@
--- The numbers under which the refusals are returned, and the refusals of a step.
-use Rattle.std.specs.Prelude.{ℕ}
+-- The numbers under which the refusals are returned, and the refusals of a step and of a text.
+use Rattle.std.specs.Prelude.{◌≡◌, ◌≢◌, ◌⊎◌, ℕ}
+use Rattle.varisat_formula.specs.declared.dimacs.error.DimacsError.{DimacsError}
+use Rattle.varisat_formula.specs.declared.dimacs.error.DimacsErrorKind.TheVariants as kind
 use Rattle.varisat_search.specs.declared.error.StepError.{StepError}
 use Rattle.varisat_search.specs.declared.error.StepError.TheVariants as step
 use Rattle.varisat_solver.specs.declared.solver.SolverError.{SolverError}
@@ -26,6 +28,11 @@ abbrev pub step_refusal : StepError → SolverError
 step_refusal step.Full = ClauseStoreFull
 step_refusal step.Memory = OutOfMemory
 step_refusal (step.Target cause) = ProofIoError cause
+
+-- the refusal for a fault of a text: memory that ran out in the reader is returned as in any call
+abbrev pub IsRefusedText : DimacsError → SolverError → Type 0
+IsRefusedText fault e =
+    ((fault.kind ≡ kind.OutOfMemory) × (e ≡ OutOfMemory)) ⊎ ((fault.kind ≢ kind.OutOfMemory) × (e ≡ Dimacs fault))
 
 -- how many faults of a proof's target the refusal has
 abbrev pub returned_faults : SolverError → ℕ

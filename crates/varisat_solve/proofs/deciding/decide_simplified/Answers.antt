@@ -6,7 +6,7 @@ use Rattle.varisat_solve.proofs.SimplifiedTexts.{low-made, made-of, decided-by, 
 use Rattle.varisat_solve.proofs.deciding.decide_simplified.Goals as goal
 
 pub returns-in-Err-clause-fails : goal.returns-in-Err-clause-fails
-returns-in-Err-clause-fails g c = AsParsed c.in-Err.fault c.in-Err.ensures c.refuse_text.ensures
+returns-in-Err-clause-fails g c = AsParsed c.in-Err.fault c.in-Err.ensures c.from_text.ensures
 
 pub returns-in_err-made-clause-fails : goal.returns-in_err-made-clause-fails
 returns-in_err-made-clause-fails g c =

@@ -25,7 +25,7 @@ pub returns : goal.returns
 returns g c = record {
   read = c.finish-read.new.self;
   ends = subst (λ p. IsEnding p c.finish-read.new.self) c.take_text-parser.ensures.text c.finish-read.ensures.reads;
-  adds = HasFault c.in-Err-read.fault c.refuse_text.result (sym c.finish-read.ensures.answer ∙ ap fault_of c.in-Err-read.is) c.refuse_text.ensures
+  adds = HasFault c.in-Err-read.fault c.from_text.result (sym c.finish-read.ensures.answer ∙ ap fault_of c.in-Err-read.is) c.from_text.ensures
       (ap Err c.refuse-in-Err-read.ensures.number)
       (text-taken _ _ _ _ _ _ c.take_text-parser.ensures.taken c.in-Ok.ensures.added c.refuse-in-Err-read.ensures.frame);
 }

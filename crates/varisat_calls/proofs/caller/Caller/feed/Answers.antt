@@ -25,7 +25,7 @@ pub returns-in-Err-read : goal.returns-in-Err-read
 returns-in-Err-read g c = (
   c.feed-read.new.self,
   read-behind c.args.piece.now _ _ _ c.take_text-parser.ensures.text c.feed-read.ensures.reads,
-  HasFault c.in-Err-read.fault c.refuse_text.result (sym c.feed-read.ensures.answer ∙ ap fault_of c.in-Err-read.is) c.refuse_text.ensures
+  HasFault c.in-Err-read.fault c.from_text.result (sym c.feed-read.ensures.answer ∙ ap fault_of c.in-Err-read.is) c.from_text.ensures
       c.refuse-in-Err-read.ensures.number
       (text-taken _ _ _ _ _ _ c.take_text-parser.ensures.taken c.in-Ok.ensures.added c.refuse-in-Err-read.ensures.frame),
 )

@@ -4,7 +4,7 @@ use Rattle.varisat_client.specs.declared.client.SearchEnd.{SearchEnd}
 use Rattle.varisat_client.specs.declared.client.SearchEnd.TheVariants.{Satisfiable, Unsatisfiable, Interrupted, Refused}
 use Rattle.varisat_client.specs.declared.refusal.Refusal.{Refusal}
 use Rattle.varisat_client.specs.declared.refusal.Refusal.TheVariants.{OutOfMemory, VariableLimit, ClauseStoreFull}
-use Rattle.varisat_client.specs.promises.Pasts.{Past, IsSearchEnd}
+use Rattle.varisat_client.specs.promises.Pasts.{ClientPast, IsSearchEnd}
 
 -- the number of an end
 abbrev pub end_code : SearchEnd → ℕ
@@ -21,5 +21,5 @@ refusal_code (Some VariableLimit) = 2
 refusal_code (Some ClauseStoreFull) = 3
 
 -- the search that the number speaks of moves the past so
-abbrev pub SearchesBy : ℕ → Past → Past → Type 0
+abbrev pub SearchesBy : ℕ → ClientPast → ClientPast → Type 0
 SearchesBy code p q = (end : SearchEnd) × (code ≡ end_code end) × IsSearchEnd end p q

@@ -1,6 +1,6 @@
 //! A client of the solver for C programs: each call takes a handle, behind which a client stands.
 ghost use Rattle.std.specs.Prelude.{◌≡◌, ◌↔◌, Some, None, IsSome, IsTrue, IfSome};
-ghost use Rattle.varisat_client.specs.promises.Pasts.{empty_past, AddsNumber, AssumesNumber, Begins, LimitsSteps, ReturnsValue, ReturnsFailed};
+ghost use Rattle.varisat_client.specs.promises.Pasts.{empty_client_past, AddsNumber, AssumesNumber, Begins, LimitsSteps, ReturnsValue, ReturnsFailed};
 ghost use Rattle.varisat_client.specs.inside.Clients.{RepresentsPast};
 ghost use Rattle.varisat_c.specs.Ends.{SearchesBy, refusal_code};
 ghost use Rattle.varisat_c.specs.ClientHandles.{MovesPasts, IsTrueOfPasts};
@@ -15,7 +15,7 @@ use varisat_client::client::Client;
 pub extern "C" fn client_open(alloc: Global, handle: &mut ClientHandle) -> bool
     requires { handle.old.held ≡ None }
     ensures made { IsTrue result ↔ IsSome handle.new.held }
-    ensures new { IfSome handle.new.held (λ g. RepresentsPast g empty_past) }
+    ensures new { IfSome handle.new.held (λ g. RepresentsPast g empty_client_past) }
 {
     match Box::new(alloc, Client::new_in(alloc)) {
         Ok(client) => {

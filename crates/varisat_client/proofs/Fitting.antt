@@ -25,7 +25,7 @@ use Rattle.varisat_solver.proofs.calls.CallStates.{same-assumptions, same-clause
 use Rattle.varisat.proofs.NameLaws.{stay-in-order, count-above, count-within, in-use-below, names-are-identities, crowded-is-past-limit}
 use Rattle.varisat_solver.proofs.calls.Counted.{join-more, join-has, join-only, join-once}
 use Rattle.varisat_solver.proofs.steps.SearchVerdicts.{reopened-not-unsat, assumed-unsat}
-use Rattle.varisat_client.specs.promises.Pasts.{Past, IsUpToCounted, IsFoundModel, MakesFew}
+use Rattle.varisat_client.specs.promises.Pasts.{ClientPast, IsUpToCounted, IsFoundModel, MakesFew}
 use Rattle.varisat_client.specs.inside.Clients.{WasGiven, CountsAmong, MadeFewSince}
 
 -- 1. Names are in range.
@@ -368,7 +368,7 @@ join-spent s t r = join-counted s t (Err Interrupted) r.steps (ap (λ l. l.since
 since-joined : (s t : State) → JoinSteps s t → MadeFewSince t t.ledger.since
 since-joined s t j = record { same = refl; few = subst (λ (xs : List ℕ). AreFew (length xs) t.ledger.since) (sym j.same) j.few }
 
-makes-few : (p q : Past) (s t : State) → JoinSteps s t → CountsAmong s p.counted → MadeFewSince s p.since → s.ledger.steps ≡ p.steps →
+makes-few : (p q : ClientPast) (s t : State) → JoinSteps s t → CountsAmong s p.counted → MadeFewSince s p.since → s.ledger.steps ≡ p.steps →
     s.ledger.settings.max_steps ≡ p.limit → t.ledger.steps ≡ q.steps → t.ledger.since ≡ q.since → MakesFew p q
 makes-few p q s t j k m e o w v = record {
   made = j.made;
@@ -382,14 +382,14 @@ makes-few p q s t j k m e o w v = record {
 pub since-decided : (s t : State) (b : Bool) (since : ℕ) → Solves by_state s (Ok b) t → MadeFewSince s since → MadeFewSince t t.ledger.since
 since-decided s t b since r m = since-joined s t (join-decided s t b since r m)
 
-pub decided-few : (p q : Past) (s t : State) (b : Bool) → Solves by_state s (Ok b) t → CountsAmong s p.counted → MadeFewSince s p.since → s.ledger.steps ≡ p.steps →
+pub decided-few : (p q : ClientPast) (s t : State) (b : Bool) → Solves by_state s (Ok b) t → CountsAmong s p.counted → MadeFewSince s p.since → s.ledger.steps ≡ p.steps →
     s.ledger.settings.max_steps ≡ p.limit → t.ledger.steps ≡ q.steps → t.ledger.since ≡ q.since → MakesFew p q
 decided-few p q s t b r k m = makes-few p q s t (join-decided s t b p.since r m) k m
 
 pub since-spent : (s t : State) → Solves by_state s (Err Interrupted) t → MadeFewSince t t.ledger.since
 since-spent s t r = since-joined s t (join-spent s t r)
 
-pub spent-few : (p q : Past) (s t : State) → Solves by_state s (Err Interrupted) t → CountsAmong s p.counted → MadeFewSince s p.since →
+pub spent-few : (p q : ClientPast) (s t : State) → Solves by_state s (Err Interrupted) t → CountsAmong s p.counted → MadeFewSince s p.since →
     s.ledger.steps ≡ p.steps → s.ledger.settings.max_steps ≡ p.limit → t.ledger.steps ≡ q.steps → t.ledger.since ≡ q.since → MakesFew p q
 spent-few p q s t r k m = makes-few p q s t (join-spent s t r) k m
 

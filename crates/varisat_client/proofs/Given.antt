@@ -2,7 +2,7 @@
 use Rattle.std.proofs.Common.{◌≡◌, ◌≢◌, ℕ, zero, suc, ℤ, pos, negsuc, Bool, true, false, Some, None, List, [], ◌∷◌, ◌++◌, if◌then◌else◌, refl, sym, ap, ◌∙◌, subst}
 use Rattle.varisat_theory.specs.promises.Literals.{Literal, IsSatisfiableWith}
 use Rattle.varisat_literals.specs.promises.Numbers.{literal_numbered}
-use Rattle.varisat_client.specs.promises.Pasts.{Past, refuse, count, Refuses, AddsNumber, AssumesNumber, Begins, LimitsSteps, IsSearchEnd}
+use Rattle.varisat_client.specs.promises.Pasts.{ClientPast, refuse, count, Refuses, AddsNumber, AssumesNumber, Begins, LimitsSteps, IsSearchEnd}
 use Rattle.varisat_client.specs.promises.Pasts as past
 use Rattle.varisat_client.specs.promises.Runs.{Makes, MakeInTurn}
 use Rattle.varisat_client.specs.promises.Given.{Given, is_zero, give, IsRightAnswer, AreDecided}
@@ -15,11 +15,11 @@ use Rattle.varisat_client.specs.declared.session.Call.TheVariants as call
 use Rattle.varisat_client.specs.declared.session.Answer.TheVariants as answer
 
 -- what was given, as the past has it
-abbrev given_in : Past → Given
+abbrev given_in : ClientPast → Given
 given_in p = record { clauses = p.clauses; clause = p.clause; assumptions = p.assumptions; assumed = p.assumed }
 
 -- the past has what was given, as long as no call was refused
-abbrev Agrees : Past → Given → Type 0
+abbrev Agrees : ClientPast → Given → Type 0
 Agrees p g = p.refusal ≡ None → given_in p ≡ g
 
 zero-is : (n : ℤ) → n ≡ pos 0 → is_zero n ≡ true
@@ -31,21 +31,21 @@ not-zero (pos (suc n)) h = refl
 not-zero (negsuc n) h = refl
 
 -- a refused past agrees with anything
-after-refusal : (why : Refusal) (p q : Past) (g : Given) → q ≡ refuse why p → Agrees q g
-after-refusal why p q g e r = let z : Some why ≡ None = sym (ap (λ (x : Past). x.refusal) e) ∙ r in absurd cc
+after-refusal : (why : Refusal) (p q : ClientPast) (g : Given) → q ≡ refuse why p → Agrees q g
+after-refusal why p q g e r = let z : Some why ≡ None = sym (ap (λ (x : ClientPast). x.refusal) e) ∙ r in absurd cc
 
 -- so does one that stays so
-after-again : (p q : Past) (g : Given) → p.refusal ≢ None → q ≡ p → Agrees q g
-after-again p q g h e r = absurd (h (sym (ap (λ (x : Past). x.refusal) e) ∙ r))
+after-again : (p q : ClientPast) (g : Given) → p.refusal ≢ None → q ≡ p → Agrees q g
+after-again p q g h e r = absurd (h (sym (ap (λ (x : ClientPast). x.refusal) e) ∙ r))
 
 -- a call that is refused
-refused-agrees : (given : List Literal) (stores : Bool) (p q : Past) (g : Given) → Refuses given stores p q → Agrees q g
+refused-agrees : (given : List Literal) (stores : Bool) (p q : ClientPast) (g : Given) → Refuses given stores p q → Agrees q g
 refused-agrees given stores p q g (past.Again h e) = after-again p q g h e
 refused-agrees given stores p q g (past.Memory h within e) = after-refusal refusal.OutOfMemory p q g e
 refused-agrees given stores p q g (past.Limit h l e) = after-refusal refusal.VariableLimit p q g e
 refused-agrees given stores p q g (past.Full h within s e) = after-refusal refusal.ClauseStoreFull p q g e
 
-agree-by : (q r : Past) (g h : Given) → q ≡ r → given_in r ≡ h → h ≡ g → Agrees q g
+agree-by : (q r : ClientPast) (g h : Given) → q ≡ r → given_in r ≡ h → h ≡ g → Agrees q g
 agree-by q r g h e f i _ = ap given_in e ∙ f ∙ i
 
 -- what a number makes of a clause, and of assumptions
@@ -58,7 +58,7 @@ put_literal n g = record g { clause = g.clause ++ literal_numbered n ∷ [] }
 abbrev put_assumption : ℤ → Given → Given
 put_assumption n g = record g { assumptions = g.assumptions ++ literal_numbered n ∷ [] }
 
-add-agrees : (n : ℤ) (p q : Past) (g : Given) → AddsNumber n p q → Agrees p g → Agrees q (give (call.Add n) g)
+add-agrees : (n : ℤ) (p q : ClientPast) (g : Given) → AddsNumber n p q → Agrees p g → Agrees q (give (call.Add n) g)
 add-agrees n p q g (past.PutRefused z r) a = refused-agrees [] false p q (give (call.Add n) g) r
 add-agrees n p q g (past.EndRefused z r) a = refused-agrees p.clause true p q (give (call.Add n) g) r
 add-agrees n p q g (past.Ended z r within e) a =
@@ -68,35 +68,35 @@ add-agrees n p q g (past.Put z r e) a =
     agree-by q (record p { clause = p.clause ++ literal_numbered n ∷ [] }) (give (call.Add n) g) (put_literal n g) e (ap (put_literal n) (a r))
     (sym (ap (λ b. if b then end_clause g else put_literal n g) (not-zero n z)))
 
-assume-agrees : (n : ℤ) (p q : Past) (g : Given) → AssumesNumber n p q → Agrees p g → Agrees q (give (call.Assume n) g)
+assume-agrees : (n : ℤ) (p q : ClientPast) (g : Given) → AssumesNumber n p q → Agrees p g → Agrees q (give (call.Assume n) g)
 assume-agrees n p q g (past.Refused z r) a = refused-agrees [] false p q (give (call.Assume n) g) r
 assume-agrees n p q g (past.Nothing z e) a =
-    λ r. ap given_in e ∙ a (sym (ap (λ (x : Past). x.refusal) e) ∙ r) ∙ sym (ap (λ b. if b then g else put_assumption n g) (zero-is n z))
+    λ r. ap given_in e ∙ a (sym (ap (λ (x : ClientPast). x.refusal) e) ∙ r) ∙ sym (ap (λ b. if b then g else put_assumption n g) (zero-is n z))
 assume-agrees n p q g (past.Put z r e) a =
     agree-by q (record p { assumptions = p.assumptions ++ literal_numbered n ∷ [] }) (give (call.Assume n) g) (put_assumption n g) e
     (ap (put_assumption n) (a r)) (sym (ap (λ b. if b then g else put_assumption n g) (not-zero n z)))
 
-begin-agrees : (p q : Past) (g : Given) → Begins p q → Agrees p g → Agrees q (give call.Begin g)
+begin-agrees : (p q : ClientPast) (g : Given) → Begins p q → Agrees p g → Agrees q (give call.Begin g)
 begin-agrees p q g (past.Refused r) a = refused-agrees p.assumptions false p q (give call.Begin g) r
 begin-agrees p q g (past.Begun r within e) a =
     agree-by q (record (count p.assumptions p) { assumed = p.assumptions; assumptions = [] }) (give call.Begin g) (give call.Begin g) e
     (ap (λ (x : Given). record x { assumed = x.assumptions; assumptions = [] }) (a r)) refl
 
-limit-agrees : (n : ℕ) (p q : Past) (g : Given) → LimitsSteps n p q → Agrees p g → Agrees q g
+limit-agrees : (n : ℕ) (p q : ClientPast) (g : Given) → LimitsSteps n p q → Agrees p g → Agrees q g
 limit-agrees n p q g (past.Refused h e) a = after-again p q g h e
 limit-agrees n p q g (past.Limited r e) a = agree-by q (record p { limit = n; since = 0 }) g g e (a r) refl
 
-search-agrees : (end : SearchEnd) (p q : Past) (g : Given) → IsSearchEnd end p q → Agrees p g → Agrees q g
+search-agrees : (end : SearchEnd) (p q : ClientPast) (g : Given) → IsSearchEnd end p q → Agrees p g → Agrees q g
 search-agrees end p q g (past.Refused o r) a = refused-agrees [] true p q g r
 search-agrees end p q g (past.Satisfiable o r m few e) a = agree-by q (record p { model = q.model; steps = q.steps; since = q.since }) g g e (a r) refl
 search-agrees end p q g (past.Unsatisfiable o r m few e) a = agree-by q (record p { core = q.core; steps = q.steps; since = q.since }) g g e (a r) refl
 search-agrees end p q g (past.Interrupted o r m few e) a = agree-by q (record p { steps = q.steps; since = q.since }) g g e (a r) refl
 
-same-agrees : (p q : Past) (g : Given) → q ≡ p → Agrees p g → Agrees q g
+same-agrees : (p q : ClientPast) (g : Given) → q ≡ p → Agrees p g → Agrees q g
 same-agrees p q g e a = subst (λ x. Agrees x g) (sym e) a
 
 -- each call moves both alike
-moves-alike : (p q : Past) (g : Given) (c : Call) (a : Answer) → Makes p c a q → Agrees p g → Agrees q (give c g)
+moves-alike : (p q : ClientPast) (g : Given) (c : Call) (a : Answer) → Makes p c a q → Agrees p g → Agrees q (give c g)
 moves-alike p q g (call.Add n) answer.Done m h = add-agrees n p q g m h
 moves-alike p q g (call.Add n) (answer.Search r) m h = absurd m
 moves-alike p q g (call.Add n) (answer.Value r) m h = absurd m
@@ -153,7 +153,7 @@ moves-alike p q g call.Steps (answer.Refusal r) m h = absurd m
 moves-alike p q g call.Steps (answer.Steps r) m h = same-agrees p q g m.1 h
 
 -- a search ends as it may
-search-decides : (r : SearchEnd) (p q : Past) (g : Given) → IsSearchEnd r p q → Agrees p g → IsRightAnswer g (answer.Search r)
+search-decides : (r : SearchEnd) (p q : ClientPast) (g : Given) → IsSearchEnd r p q → Agrees p g → IsRightAnswer g (answer.Search r)
 search-decides r p q g (past.Refused o e) a = subst (λ x. IsRightAnswer g (answer.Search x)) (sym o) tt
 search-decides r p q g (past.Satisfiable o f m few e) a =
     let (s, makes, all, assumed) = m.satisfied in
@@ -164,7 +164,7 @@ search-decides r p q g (past.Unsatisfiable o f m few e) a =
     m.1 (s, all, (λ l i. assumed l (m.0 l i))))
 search-decides r p q g (past.Interrupted o f m few e) a = subst (λ x. IsRightAnswer g (answer.Search x)) (sym o) tt
 
-decides : (p q : Past) (g : Given) (c : Call) (a : Answer) → Makes p c a q → Agrees p g → IsRightAnswer g a
+decides : (p q : ClientPast) (g : Given) (c : Call) (a : Answer) → Makes p c a q → Agrees p g → IsRightAnswer g a
 decides p q g (call.Add n) (answer.Search r) m h = absurd m
 decides p q g (call.Assume n) (answer.Search r) m h = absurd m
 decides p q g call.Begin (answer.Search r) m h = absurd m
@@ -180,7 +180,7 @@ decides p q g c (answer.HasFailed r) m h = tt
 decides p q g c (answer.Refusal r) m h = tt
 decides p q g c (answer.Steps r) m h = tt
 
-pub are-decided : (p q : Past) (g : Given) (calls : List Call) (answers : List Answer) → MakeInTurn p calls answers q → Agrees p g →
+pub are-decided : (p q : ClientPast) (g : Given) (calls : List Call) (answers : List Answer) → MakeInTurn p calls answers q → Agrees p g →
     AreDecided g calls answers
 are-decided p q g [] [] m h = tt
 are-decided p q g [] (b ∷ answers) m h = absurd m

@@ -23,7 +23,7 @@ use Rattle.varisat_client.specs.declared.refusal.Refusal.{Refusal}
 use Rattle.varisat_client.specs.declared.refusal.Refusal.TheVariants.{OutOfMemory, ClauseStoreFull}
 use Rattle.varisat_client.specs.inside.Refusals.{refusal_for}
 use Rattle.varisat_client.specs.inside.LiteralSets.{Has, IsSetOf}
-use Rattle.varisat_client.specs.promises.Pasts.{Past, empty_past, refuse, count, Again, Memory, AddsNumber, AssumesNumber, Begins, LimitsSteps, IsSearchEnd, ReturnsFailed}
+use Rattle.varisat_client.specs.promises.Pasts.{ClientPast, empty_client_past, refuse, count, Again, Memory, AddsNumber, AssumesNumber, Begins, LimitsSteps, IsSearchEnd, ReturnsFailed}
 use Rattle.varisat_client.specs.promises.Pasts as past
 use Rattle.varisat_client.specs.inside.Clients.{first_state, Client, HoldsPast, RepresentsPast, Moves, KeepsModel, KeepsCore}
 use Rattle.varisat_client.specs.inside.Clients as client
@@ -33,13 +33,13 @@ use Rattle.varisat_client.proofs.Refusing.{none-past-limit, is-full, clause-refu
 -- 1. A new client.
 
 -- what a client represents that refused no call
-stands-free : (g : Client) (p : Past) → g.refusal ≡ p.refusal → p.refusal ≡ None → HoldsPast g p → RepresentsPast g p
+stands-free : (g : Client) (p : ClientPast) → g.refusal ≡ p.refusal → p.refusal ≡ None → HoldsPast g p → RepresentsPast g p
 stands-free g p e free k = record { refusal = e; full = λ f. absurd (let z : None ≡ Some ClauseStoreFull = sym free ∙ f in cc); holds = λ _. k }
 
 -- nothing was given yet
 pub is-new : (g : Client) → g.refusal ≡ None → Represents g.solver first_state → g.clause ≡ [] → g.assumptions ≡ [] → IsSetOf [] g.model → IsSetOf [] g.core →
-    RepresentsPast g empty_past
-is-new g r s c a m k = stands-free g empty_past r refl (record {
+    RepresentsPast g empty_client_past
+is-new g r s c a m k = stands-free g empty_client_past r refl (record {
   state = first_state;
   stands = s;
   fits = record {
@@ -73,20 +73,20 @@ is-new g r s c a m k = stands-free g empty_past r refl (record {
 -- 2. Refusals.
 
 -- no call was refused
-pub not-refused : (g : Client) (p : Past) → RepresentsPast g p → is_some g.refusal ≡ false → p.refusal ≡ None
+pub not-refused : (g : Client) (p : ClientPast) → RepresentsPast g p → is_some g.refusal ≡ false → p.refusal ≡ None
 not-refused g p st e = is_none-none p.refusal (ap is_some (sym st.refusal) ∙ e)
 
 -- one was
-pub was-refused : (g : Client) (p : Past) → RepresentsPast g p → is_some g.refusal ≡ true → p.refusal ≢ None
+pub was-refused : (g : Client) (p : ClientPast) → RepresentsPast g p → is_some g.refusal ≡ true → p.refusal ≢ None
 was-refused g p st e n = let z : true ≡ false = sym e ∙ ap is_some (st.refusal ∙ n) in cc
 
 -- each call is refused once one was
-pub stays-refused : (R : Past → Past → Type 0) (g : Client) → is_some g.refusal ≡ true → ((p : Past) → p.refusal ≢ None → R p p) → Moves R g g
+pub stays-refused : (R : ClientPast → ClientPast → Type 0) (g : Client) → is_some g.refusal ≡ true → ((p : ClientPast) → p.refusal ≢ None → R p p) → Moves R g g
 stays-refused R g e f p st = (p, f p (was-refused g p st e), st)
 
 -- the first call that is refused
-refused-now : (R : Past → Past → Type 0) (g h : Client) (why : Refusal) → is_some g.refusal ≡ false → h.refusal ≡ Some why →
-    ((p : Past) → RepresentsPast g p → p.refusal ≡ None → R p (refuse why p) × (why ≡ ClauseStoreFull → HasFullStore h.solver)) → Moves R g h
+refused-now : (R : ClientPast → ClientPast → Type 0) (g h : Client) (why : Refusal) → is_some g.refusal ≡ false → h.refusal ≡ Some why →
+    ((p : ClientPast) → RepresentsPast g p → p.refusal ≡ None → R p (refuse why p) × (why ≡ ClauseStoreFull → HasFullStore h.solver)) → Moves R g h
 refused-now R g h why e f r p st =
     let (moves, full) = r p st (not-refused g p st e) in (
       refuse why p,
@@ -99,8 +99,8 @@ refused-now R g h why e f r p st =
     )
 
 -- memory ran out
-pub runs-out : (R : Past → Past → Type 0) (g h : Client) → is_some g.refusal ≡ false → h.refusal ≡ Some OutOfMemory →
-    ((p : Past) → p.refusal ≡ None → R p (refuse OutOfMemory p)) → Moves R g h
+pub runs-out : (R : ClientPast → ClientPast → Type 0) (g h : Client) → is_some g.refusal ≡ false → h.refusal ≡ Some OutOfMemory →
+    ((p : ClientPast) → p.refusal ≡ None → R p (refuse OutOfMemory p)) → Moves R g h
 runs-out R g h e f r = refused-now R g h OutOfMemory e f (λ p st free. (r p free, (λ z. absurd cc)))
 
 -- so it did for a number
@@ -115,7 +115,7 @@ assumption-refused n g h z e f = runs-out (AssumesNumber n) g h e f (λ p free. 
 pub add-stays : (n : ℤ) (g : Client) → is_some g.refusal ≡ true → Moves (AddsNumber n) g g
 add-stays n g e = stays-refused (AddsNumber n) g e (λ p r. at n p r)
   where
-    at : (n : ℤ) (p : Past) → p.refusal ≢ None → AddsNumber n p p
+    at : (n : ℤ) (p : ClientPast) → p.refusal ≢ None → AddsNumber n p p
     at (pos zero) p r = past.EndRefused refl (Again r refl)
     at (pos (suc k)) p r = past.PutRefused (λ z. cc) (Again r refl)
     at (negsuc k) p r = past.PutRefused (λ z. cc) (Again r refl)
@@ -158,7 +158,7 @@ pub put-literal : (n : ℤ) (g h : Client) → n ≢ pos 0 → is_some g.refusal
 put-literal n g h z e put q p st =
     let r = not-refused g p st e in
     let k = st.holds r in
-    let to : Past = record p { clause = p.clause ++ literal_numbered n ∷ [] } in (
+    let to : ClientPast = record p { clause = p.clause ++ literal_numbered n ∷ [] } in (
       to,
       past.Put z r refl,
       stands-free h to (ap (λ (x : Client). x.refusal) q ∙ st.refusal) r (record {
@@ -180,7 +180,7 @@ pub put-assumption : (n : ℤ) (g h : Client) → n ≢ pos 0 → is_some g.refu
 put-assumption n g h z e put q p st =
     let r = not-refused g p st e in
     let k = st.holds r in
-    let to : Past = record p { assumptions = p.assumptions ++ literal_numbered n ∷ [] } in (
+    let to : ClientPast = record p { assumptions = p.assumptions ++ literal_numbered n ∷ [] } in (
       to,
       past.Put z r refl,
       stands-free h to (ap (λ (x : Client). x.refusal) q ∙ st.refusal) r (record {
@@ -210,7 +210,7 @@ ends-clause n g h d z e own call none q p st =
     let r = not-refused g p st e in
     let k = st.holds r in
     let (t, adds, stands) = call k.state k.stands in
-    let to : Past = record (count p.clause p) { clauses = p.clauses ++ p.clause ∷ []; clause = [] } in (
+    let to : ClientPast = record (count p.clause p) { clauses = p.clauses ++ p.clause ∷ []; clause = [] } in (
       to,
       past.Ended z r (fitting.added-within k.state t p.clauses p.assumed p.steps p.limit d p.clause adds (own ∙ k.clause) k.fits) refl,
       stands-free h to (ap (λ (x : Client). x.refusal) q ∙ st.refusal) r (record {
@@ -234,7 +234,7 @@ begins-search g h d e own call none q p st =
     let r = not-refused g p st e in
     let k = st.holds r in
     let (t, assumes, stands) = call k.state k.stands in
-    let to : Past = record (count p.assumptions p) { assumed = p.assumptions; assumptions = [] } in (
+    let to : ClientPast = record (count p.assumptions p) { assumed = p.assumptions; assumptions = [] } in (
       to,
       past.Begun r (fitting.begun-within k.state t d p.assumptions assumes (own ∙ k.assumptions)) refl,
       stands-free h to (ap (λ (x : Client). x.refusal) q ∙ st.refusal) r (record {
@@ -258,7 +258,7 @@ limits-steps steps u g h e given call q p st =
     let r = not-refused g p st e in
     let k = st.holds r in
     let (t, configures, stands) = call k.state k.stands in
-    let to : Past = record p { limit = steps; since = 0 } in (
+    let to : ClientPast = record p { limit = steps; since = 0 } in (
       to,
       past.Limited r refl,
       stands-free h to (ap (λ (x : Client). x.refusal) q ∙ st.refusal) r (record {
@@ -295,7 +295,7 @@ finds-model r g m h e q call (client.Kept list found tells set o) = λ p st.
     let (t, solves, stands) = call k.state k.stands in
     let fits = fitting.decided k.state t true p.clauses p.assumed p.steps p.limit solves k.fits in
     let counts = fitting.counts-decided k.state t true p.counted solves k.counted in
-    let to : Past = record p { model = list; steps = t.ledger.steps; since = t.ledger.since } in (
+    let to : ClientPast = record p { model = list; steps = t.ledger.steps; since = t.ledger.since } in (
       to,
       past.Satisfiable found free (fitting.is-model t p.clauses p.assumed t.ledger.steps p.limit p.counted list fits counts (tells t stands))
           (fitting.decided-few p to k.state t true solves k.counted k.since k.fits.steps k.fits.limit refl refl) refl,
@@ -322,7 +322,7 @@ finds-core r g m h e q call (client.Kept core found tells set o) = λ p st.
     let (t, solves, stands) = call k.state k.stands in
     let fits = fitting.decided k.state t false p.clauses p.assumed p.steps p.limit solves k.fits in
     let (named, fails) = tells t stands in
-    let to : Past = record p { core = core; steps = t.ledger.steps; since = t.ledger.since } in (
+    let to : ClientPast = record p { core = core; steps = t.ledger.steps; since = t.ledger.since } in (
       to,
       past.Unsatisfiable found free (fitting.is-core t p.clauses p.assumed t.ledger.steps p.limit core fits named fails)
           (fitting.decided-few p to k.state t false solves k.counted k.since k.fits.steps k.fits.limit refl refl) refl,
@@ -347,7 +347,7 @@ spends-steps g h e q call p st =
     let free = not-refused g p st e in
     let k = st.holds free in
     let (t, solves, stands) = call k.state k.stands in
-    let to : Past = record p { steps = t.ledger.steps; since = t.ledger.since } in (
+    let to : ClientPast = record p { steps = t.ledger.steps; since = t.ledger.since } in (
       to,
       past.Interrupted refl free (fitting.all-spent k.state t p.clauses p.assumed p.steps p.limit solves k.fits)
           (fitting.spent-few p to k.state t solves k.counted k.since k.fits.steps k.fits.limit refl refl) refl,
@@ -367,11 +367,11 @@ spends-steps g h e q call p st =
 -- 6. What is asked of the last model and the last core.
 
 -- whether a literal is in the model
-pub in-model : (g : Client) (p : Past) (l k : Literal) → RepresentsPast g p → is_some g.refusal ≡ false → l ≡ k → Has g.model l ↔ (k ∈ p.model)
+pub in-model : (g : Client) (p : ClientPast) (l k : Literal) → RepresentsPast g p → is_some g.refusal ≡ false → l ≡ k → Has g.model l ↔ (k ∈ p.model)
 in-model g p l k st e q = subst (λ x. Has g.model l ↔ (x ∈ p.model)) q ((st.holds (not-refused g p st e)).model l)
 
 -- or in the core
-pub tells-failed : (n : ℤ) (b : Bool) (g : Client) (p : Past) (l : Literal) → n ≢ pos 0 → RepresentsPast g p → is_some g.refusal ≡ false →
+pub tells-failed : (n : ℤ) (b : Bool) (g : Client) (p : ClientPast) (l : Literal) → n ≢ pos 0 → RepresentsPast g p → is_some g.refusal ≡ false →
     l ≡ literal_numbered n →
     IsTrue b ↔ Has g.core l → ReturnsFailed n b p
 tells-failed n true g p l z st e q (f, h) =

@@ -10,7 +10,7 @@ use Rattle.varisat_solver.specs.declared.solver.SolverError.{SolverError}
 use Rattle.varisat_solver.specs.declared.solver.SolverError.TheVariants as error
 use Rattle.varisat_client.specs.declared.refusal.Refusal.TheVariants.{OutOfMemory, VariableLimit, ClauseStoreFull}
 use Rattle.varisat_client.specs.inside.Refusals.{refusal_for}
-use Rattle.varisat_client.specs.promises.Pasts.{Past, refuse, Refuses, Memory, Limit, Full}
+use Rattle.varisat_client.specs.promises.Pasts.{ClientPast, refuse, Refuses, Memory, Limit, Full}
 use Rattle.varisat_client.specs.inside.Clients.{WasGiven}
 use Rattle.varisat_client.proofs.Fitting.{past-limit}
 
@@ -43,7 +43,7 @@ is-full e q =
     (cases-refusal e)
 
 -- the reason of an error is one for which the call may be refused
-reason : (e : SolverError) (given : List Literal) (stores : Bool) (p : Past) → p.refusal ≡ None → (e ≡ error.VariableLimit → IsPastLimit given) →
+reason : (e : SolverError) (given : List Literal) (stores : Bool) (p : ClientPast) → p.refusal ≡ None → (e ≡ error.VariableLimit → IsPastLimit given) →
     (e ≢ error.VariableLimit → IsPastLimit given → ⊥) → (e ≡ error.ClauseStoreFull → stores ≡ true) → Refuses given stores p (refuse (refusal_for e) p)
 reason e given stores p free limit within store =
     ⊎_elim
@@ -114,7 +114,7 @@ list-within (error.ConfigOutOfRange field) s t d r v o other = absurd r
 list-within (error.Dimacs cause) s t d r v o other = absurd r
 
 -- a clause that is not taken
-pub clause-refused : (e : SolverError) (s t : State) (P : List Clause) (A : List Literal) (n most : ℕ) (d c : Clause) (p : Past) →
+pub clause-refused : (e : SolverError) (s t : State) (P : List Clause) (A : List Literal) (n most : ℕ) (d c : Clause) (p : ClientPast) →
     AddsClause s d (Err e) t → d ≡ c → WasGiven s P A n most → p.refusal ≡ None → Refuses c true p (refuse (refusal_for e) p)
 clause-refused e s t P A n most d c p adds own f free =
     reason e c true p free
@@ -124,7 +124,7 @@ clause-refused e s t P A n most d c p adds own f free =
     (λ _. refl)
 
 -- a list that is not assumed
-pub list-refused : (e : SolverError) (s t : State) (P : List Clause) (A : List Literal) (n most : ℕ) (d B : List Literal) (p : Past) →
+pub list-refused : (e : SolverError) (s t : State) (P : List Clause) (A : List Literal) (n most : ℕ) (d B : List Literal) (p : ClientPast) →
     Assumes s d (Err e) t → d ≡ B → WasGiven s P A n most → p.refusal ≡ None → Refuses B false p (refuse (refusal_for e) p)
 list-refused e s t P A n most d B p assumes own f free =
     reason e B false p free
@@ -138,7 +138,7 @@ pub list-stored : (e : SolverError) (s t : State) (d : List Literal) → Assumes
 list-stored e s t d assumes q = subst (λ x. Assumes s d (Err x) t) (is-full e q) assumes
 
 -- a search that comes to no end
-pub search-refused : (e : SolverError) (s t : State) (p : Past) → Solves by_state s (Err e) t → p.refusal ≡ None → Refuses [] true p (refuse (refusal_for e) p)
+pub search-refused : (e : SolverError) (s t : State) (p : ClientPast) → Solves by_state s (Err e) t → p.refusal ≡ None → Refuses [] true p (refuse (refusal_for e) p)
 search-refused e s t p solves free =
     reason e [] true p free (λ v. absurd (subst (λ x. Solves by_state s (Err x) t) v solves)) (λ _. none-past-limit) (λ _. refl)
 

@@ -1,6 +1,6 @@
 //! Any list of calls of a client.
 ghost use Rattle.std.specs.Prelude.{◌≡◌, IfOk, OnErr};
-ghost use Rattle.varisat_client.specs.promises.Pasts.{Past, empty_past};
+ghost use Rattle.varisat_client.specs.promises.Pasts.{ClientPast, empty_client_past};
 ghost use Rattle.varisat_client.specs.inside.Clients.{Moves, RepresentsPast};
 ghost use Rattle.varisat_client.specs.promises.Runs.{Makes, MakeInTurn};
 ghost use Rattle.varisat_client.specs.promises.Given.{none_given, AreDecided};
@@ -87,7 +87,7 @@ pub fn run<A: Allocator + Copy>(
 /// are in clauses that ended and assumptions under which a search was begun: so where each may make some they come to
 /// an end, or no more steps can be counted. `Steps` tells how many all searches made, until a call is refused.
 pub fn answers_of<A: Allocator + Copy>(calls: Vec<Call, A>) -> Result<Vec<Answer, A>, AllocError>
-    ensures truth { IfOk result (λ answers. (q : Past) × MakeInTurn empty_past calls.items answers.items q) }
+    ensures truth { IfOk result (λ answers. (q : ClientPast) × MakeInTurn empty_client_past calls.items answers.items q) }
     ensures decided { IfOk result (λ answers. AreDecided none_given calls.items answers.items) }
 {
     let mut client = Client::new_in(*calls.allocator());

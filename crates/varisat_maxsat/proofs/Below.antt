@@ -2,7 +2,7 @@
 use Rattle.std.proofs.Common.{◌≡◌, ℕ, ◌+◌, ◌*◌, ◌≤◌, Bool, true, false, List, [], ◌∷◌, ◌++◌, take, sym, ap, ◌∙◌, subst, arith}
 use Rattle.varisat_theory.specs.promises.Membership.{◌∈◌}
 use Rattle.varisat_theory.specs.promises.Literals.{Literal, Clause, Assignment, opposite, SatisfiesAll, MakesTrue, IsSatisfiable}
-use Rattle.varisat_client.specs.promises.Pasts.{Past, IsFoundModel, count}
+use Rattle.varisat_client.specs.promises.Pasts.{ClientPast, IsFoundModel, count}
 use Rattle.varisat_client.specs.inside.Clients.{Client}
 use Rattle.varisat_formula.specs.promises.Values.{assignment_of}
 use Rattle.varisat_maxsat.specs.promises.Problems.{Problem, cost, IsSolution, IsOptimum}
@@ -123,7 +123,7 @@ and-none : (n : ℕ) → n + 0 ≡ n
 and-none n = omega arith
 
 pub light-step : (p : Problem) (r : Reduction) (h : Client) (ds : List Charge) →
-    ((q : Past) → IsReady r.client q → FindsLightly r.charges ds q.clauses h) → ReducesTo p r → DecidesHard true p (record r { client = h; charges = ds })
+    ((q : ClientPast) → IsReady r.client q → FindsLightly r.charges ds q.clauses h) → ReducesTo p r → DecidesHard true p (record r { client = h; charges = ds })
 light-step p r h ds f st =
     let g = f st.past st.ready in
     let x = subst (λ n. Reduces p.hard p.soft p.variables r.named st.past.clauses ds [] 0 n) (and-none r.bound) (exchanged 0 ds g.exchanges st.reduces) in (
@@ -137,11 +137,11 @@ light-step p r h ds f st =
           st.reduces.clauses_below (λ a s. (st.reduces.upper a s).0),
     )
 
-pub none-step : (p : Problem) (r : Reduction) → ((q : Past) → IsReady r.client q → (a : Assignment) → SatisfiesAll a q.clauses → ⊥) → ReducesTo p r →
+pub none-step : (p : Problem) (r : Reduction) → ((q : ClientPast) → IsReady r.client q → (a : Assignment) → SatisfiesAll a q.clauses → ⊥) → ReducesTo p r →
     IsSatisfiable p.hard → ⊥
 none-step p r f st = unsatisfiable st.reduces (f st.past st.ready)
 
-pub search-below-step : (p : Problem) (r : Reduction) (h : Client) (b : Bool) → ((q : Past) → IsReady r.client q → Finds b 0 [] q.clauses h) → ReducesToBelow p r →
+pub search-below-step : (p : Problem) (r : Reduction) (h : Client) (b : Bool) → ((q : ClientPast) → IsReady r.client q → Finds b 0 [] q.clauses h) → ReducesToBelow p r →
     IsImproved b p (record r { client = h })
 search-below-step p r h true f st =
     let g : FindsModel 0 [] st.past.clauses h = f st.past st.ready in (
@@ -160,7 +160,7 @@ bound-step p r l st = bound-meets l st.reduces
 
 -- it satisfies the hard clauses
 pub found-solution : (p : Problem) (r : Reduction) (n : ℕ) (vs short : List Bool) →
-    ((q : Past) → IsReady r.client q → (a : Assignment) → MakesTrue a q.model → AreValues n q.model vs) → n ≡ r.named → short ≡ take r.variables vs →
+    ((q : ClientPast) → IsReady r.client q → (a : Assignment) → MakesTrue a q.model → AreValues n q.model vs) → n ≡ r.named → short ≡ take r.variables vs →
     FindsSolution p r → IsSolution p (cost (assignment_of short) p.soft) short
 found-solution p r n vs short values m e st =
     let (a, makes, all, assumes) = st.found.satisfied in

@@ -4,7 +4,7 @@ use Rattle.std.specs.Prelude.{Option, Some, None, MatchOption}
 use Rattle.varisat_theory.specs.promises.Membership.{◌∈◌}
 use Rattle.varisat_theory.specs.promises.Literals.{Literal, Clause, Assignment, SatisfiesAll}
 use Rattle.varisat_theory.proofs.clauses.Members.{∈-append_cases}
-use Rattle.varisat_client.specs.promises.Pasts.{Past}
+use Rattle.varisat_client.specs.promises.Pasts.{ClientPast}
 use Rattle.varisat_client.specs.inside.Clients.{Client}
 use Rattle.varisat_maxsat.specs.inside.Charges.{ChargesAreBelow, Exchanges, AreParted, IsSplit}
 use Rattle.varisat_maxsat.specs.inside.Reductions.{IsReady, IsReadyWith, FindsModel, FindsCore, Finds, FindsWithin, FindsLightly, SearchesOn, KeepsParted, GivesUp}
@@ -49,7 +49,7 @@ all-given-up left given later more taken t e f cs s =
 
 -- the charges of a core are given up
 pub core-given-up : (left given kept failed later more taken core : List Charge) (P : List Clause) (h : Client) → taken ≡ left → core ≡ failed →
-    more ≡ given ++ core → later ≡ kept → ((q : Past) → IsReady h q → IsSplit q.core taken kept failed) → FindsCore 0 left P h →
+    more ≡ given ++ core → later ≡ kept → ((q : ClientPast) → IsReady h q → IsSplit q.core taken kept failed) → FindsCore 0 left P h →
     KeepsParted left given later more
 core-given-up left given kept failed later more taken core P h t f e k split found cs s =
     subst (λ x. AreParted cs x more) (sym k)
@@ -59,7 +59,7 @@ core-given-up left given kept failed later more taken core P h t f e k split fou
 
 -- a core that names no charge
 pub core-nothing : (left kept failed taken : List Charge) (P : List Clause) (h : Client) → taken ≡ left → failed ≡ [] →
-    ((q : Past) → IsReady h q → IsSplit q.core taken kept failed) → FindsCore 0 left P h → (a : Assignment) → SatisfiesAll a P → ⊥
+    ((q : ClientPast) → IsReady h q → IsSplit q.core taken kept failed) → FindsCore 0 left P h → (a : Assignment) → SatisfiesAll a P → ⊥
 core-nothing left kept failed taken P h t e split found a s =
     let (c, i, v) = core-charge P found.assumed found.past.core found.failed found.from
     (subst (λ x. IsSplit found.past.core x kept failed) t (split found.past found.ready)) a s in
@@ -73,11 +73,11 @@ still-ready (Some false) t cs P h f = let m : FindsCore t cs P h = f in record {
 
 -- a search that goes on
 pub goes-on : (o : Option Bool) (t : ℕ) (cs ds : List Charge) (P : List Clause) (h i : Client) → ds ≡ cs → IsReadyWith P h →
-    ((q : Past) → IsReady h q → FindsWithin o t ds q.clauses i) → FindsWithin o t cs P i
+    ((q : ClientPast) → IsReady h q → FindsWithin o t ds q.clauses i) → FindsWithin o t cs P i
 goes-on o t cs ds P h i e w f =
     subst (λ x. FindsWithin o t x P i) e (subst (λ x. FindsWithin o t ds x i) w.clauses (f w.past w.ready))
 
-pub begins : (cs left given : List Charge) (g : Client) → left ≡ cs → given ≡ [] → (p : Past) → IsReady g p → SearchesOn cs left given p.clauses g
+pub begins : (cs left given : List Charge) (g : Client) → left ≡ cs → given ≡ [] → (p : ClientPast) → IsReady g p → SearchesOn cs left given p.clauses g
 begins cs left given g e f p r = record {
   ready = record { past = p; ready = r; clauses = refl };
   parted = parted-start cs left given e f;
@@ -99,12 +99,12 @@ found-lightly cs left given more taken P h i t e f s = record {
 }
 
 pub goes-to-model : (o : Option Bool) (b : Bool) (cs ds : List Charge) (P : List Clause) (h i : Client) → o ≡ Some b → b ≡ true → ds ≡ cs → IsReadyWith P h →
-    ((q : Past) → IsReady h q → FindsWithin o 0 ds q.clauses i) → FindsModel 0 cs P i
+    ((q : ClientPast) → IsReady h q → FindsWithin o 0 ds q.clauses i) → FindsModel 0 cs P i
 goes-to-model o b cs ds P h i s t e w f =
     subst (λ x. Finds x 0 cs P i) t (subst (λ x. FindsWithin x 0 cs P i) s (goes-on o 0 cs ds P h i e w f))
 
 pub goes-to-core : (o : Option Bool) (b : Bool) (cs ds : List Charge) (P : List Clause) (h i : Client) → o ≡ Some b → b ≡ false → ds ≡ cs → IsReadyWith P h →
-    ((q : Past) → IsReady h q → FindsWithin o 0 ds q.clauses i) → FindsCore 0 cs P i
+    ((q : ClientPast) → IsReady h q → FindsWithin o 0 ds q.clauses i) → FindsCore 0 cs P i
 goes-to-core o b cs ds P h i s t e w f =
     subst (λ x. Finds x 0 cs P i) t (subst (λ x. FindsWithin x 0 cs P i) s (goes-on o 0 cs ds P h i e w f))
 

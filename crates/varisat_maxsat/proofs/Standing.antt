@@ -7,7 +7,7 @@ use Rattle.varisat_formula.specs.promises.Formulas.{Formula, AreBelow, with_one_
 use Rattle.varisat_formula.proofs.FormulaBuffers.{below_more}
 use Rattle.varisat_theory.specs.promises.Membership.{◌∈◌}
 use Rattle.varisat_theory.specs.promises.Literals.{Literal, Clause, Assignment, opposite, MakesTrue, IsSatisfiable}
-use Rattle.varisat_client.specs.promises.Pasts.{Past, empty_past, count}
+use Rattle.varisat_client.specs.promises.Pasts.{ClientPast, empty_client_past, count}
 use Rattle.varisat_client.specs.inside.Clients.{Client, RepresentsPast}
 use Rattle.varisat_formula.specs.promises.Values.{is_satisfied}
 use Rattle.varisat_maxsat.specs.promises.Problems.{Problem, Soft, with_hard, with_soft, paired, problem_of, cost, IsOptimum, CostsAtLeast}
@@ -22,12 +22,12 @@ use Rattle.varisat_maxsat.proofs.Agreeing.{cost-append}
 
 -- a clause is given
 abbrev pub Gives : Clause → Client → Client → Type 0
-Gives c g h = (q : Past) → IsReady g q → IsReady h (record (count c q) { clauses = q.clauses ++ c ∷ [] })
+Gives c g h = (q : ClientPast) → IsReady g q → IsReady h (record (count c q) { clauses = q.clauses ++ c ∷ [] })
 
-pub stands-first : (n : ℕ) (r : Reduction) → RepresentsPast r.client empty_past → r.variables ≡ n → r.named ≡ n → r.charges ≡ [] → r.bound ≡ 0 →
+pub stands-first : (n : ℕ) (r : Reduction) → RepresentsPast r.client empty_client_past → r.variables ≡ n → r.named ≡ n → r.charges ≡ [] → r.bound ≡ 0 →
     ReducesTo (record { variables = n; hard = []; soft = [] }) r
 stands-first n r st v m cs k = record {
-  past = empty_past;
+  past = empty_client_past;
   ready = record { stands = st; refusal = refl; clause = refl; assumptions = refl };
   variables = v;
   reduces = subst (λ x. Reduces [] [] n x [] r.charges [] 0 r.bound) (sym m) (subst (λ x. Reduces [] [] n n [] x [] 0 r.bound) (sym cs)
@@ -72,7 +72,7 @@ stands-clause p r s c w b gives e st = subst (ReducesTo (with_soft w c p)) (sym 
 
 -- a core that names no charge
 pub core-empty : (p : Problem) (r : Reduction) (t : ℕ) (kept failed : List Charge) → failed ≡ [] →
-    ((q : Past) → IsReady r.client q → IsSplit q.core r.charges kept failed) → ReducesToAfter false t p r → IsSatisfiable p.hard → ⊥
+    ((q : ClientPast) → IsReady r.client q → IsSplit q.core r.charges kept failed) → ReducesToAfter false t p r → IsSatisfiable p.hard → ⊥
 core-empty p r t kept failed e split st =
     let f : FindsCore t r.charges st.clauses r.client = st.finds in
     unsatisfiable st.reduces
@@ -80,7 +80,7 @@ core-empty p r t kept failed e split st =
 
 -- one that does
 pub core-relaxes : (p : Problem) (r s : Reduction) (t w : ℕ) (kept failed after : List Charge) (pending : List Literal) →
-    ((q : Past) → IsReady r.client q → IsSplit q.core r.charges kept failed) → TakesWeight w failed kept after pending →
+    ((q : ClientPast) → IsReady r.client q → IsSplit q.core r.charges kept failed) → TakesWeight w failed kept after pending →
     s ≡ record r { charges = after } → ReducesToAfter false t p r → ReducesToWith p pending w s
 core-relaxes p r s t w kept failed after pending split takes e st =
     let f : FindsCore t r.charges st.clauses r.client = st.finds in
@@ -143,7 +143,7 @@ stands-none p r w st = record {
 
 -- no charge is due in the model
 pub stands-optimal : (p : Problem) (r : Reduction) (n : ℕ) (vs short : List Bool) →
-    ((q : Past) → IsReady r.client q → (a : Assignment) → MakesTrue a q.model → AreValues n q.model vs) → n ≡ r.named → short ≡ take r.variables vs →
+    ((q : ClientPast) → IsReady r.client q → (a : Assignment) → MakesTrue a q.model → AreValues n q.model vs) → n ≡ r.named → short ≡ take r.variables vs →
     ReducesToAfter true 0 p r → IsOptimum p r.bound short
 stands-optimal p r n vs short values m e st =
     let f : FindsModel 0 r.charges st.clauses r.client = st.finds in
@@ -208,7 +208,7 @@ pub join_pending-step : (p : Problem) (r : Reduction) (h : Client) (x : Literal)
 join_pending-step p r h x w k gives f st = stands-settled p r (record r { client = h; bound = k }) x w k gives f refl st
 
 pub relax-step : (p : Problem) (r : Reduction) (t w : ℕ) (kept failed after : List Charge) (pending : List Literal) →
-    ((q : Past) → IsReady r.client q → IsSplit q.core r.charges kept failed) → TakesWeight w failed kept after pending →
+    ((q : ClientPast) → IsReady r.client q → IsSplit q.core r.charges kept failed) → TakesWeight w failed kept after pending →
     ReducesToAfter false t p r → ReducesToWith p pending w (record r { charges = after })
 relax-step p r t w kept failed after pending split takes st = core-relaxes p r (record r { charges = after }) t w kept failed after pending split takes refl st
 

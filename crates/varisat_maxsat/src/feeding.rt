@@ -2,7 +2,7 @@
 ghost use Rattle.std.specs.Prelude.{◌≡◌, ◌≢◌, ℕ, ◌++◌, ◌∷◌, [], List, pos, None, IfOk, IfErr, MatchOption, MatchResult};
 ghost use Rattle.varisat_theory.specs.promises.Literals.{Clause, Assignment, SatisfiesAll, MakesTrue};
 ghost use Rattle.varisat_literals.specs.promises.Numbers.{literal_numbered};
-ghost use Rattle.varisat_client.specs.promises.Pasts.{Past, count};
+ghost use Rattle.varisat_client.specs.promises.Pasts.{ClientPast, count};
 ghost use Rattle.varisat_client.specs.inside.Clients.{RepresentsPast};
 ghost use Rattle.varisat_maxsat.specs.inside.Charges.{LiteralsAreBelow, IsSplit, AreValues};
 ghost use Rattle.varisat_maxsat.specs.inside.Errors.{IsLimit};
@@ -50,7 +50,7 @@ pub(crate) fn ensure_below(clause: &[Lit], count: usize) -> Result<(), MaxSatErr
 
 /// Refuses where the client refused a call.
 fn ensure_accepted<A: Allocator + Copy>(client: &Client<A>) -> Result<(), MaxSatError>
-    ensures { MatchResult result (λ _. (p : Past) → RepresentsPast client.now p → p.refusal ≡ None) IsLimit }
+    ensures { MatchResult result (λ _. (p : ClientPast) → RepresentsPast client.now p → p.refusal ≡ None) IsLimit }
 {
     match client.refusal() {
         Some(refusal) => Err(MaxSatError::from(refusal)),
@@ -64,7 +64,7 @@ pub(crate) fn give<A: Allocator + Copy>(
     clause: &[Lit],
 ) -> Result<(), MaxSatError>
     ensures { MatchResult result
-        (λ _. (p : Past) → IsReady client.old p →
+        (λ _. (p : ClientPast) → IsReady client.old p →
         IsReady client.new (record (count clause.now p) { clauses = p.clauses ++ clause.now ∷ [] })) IsLimit }
 {
     for literal in clause {
@@ -82,7 +82,7 @@ fn assume<A: Allocator + Copy>(
     threshold: u64,
 ) -> Result<(), MaxSatError>
     ensures { MatchResult result
-        (λ _. (p : Past) → IsReady client.old p → HasBegun threshold charges.now p client.new) IsLimit }
+        (λ _. (p : ClientPast) → IsReady client.old p → HasBegun threshold charges.now p client.new) IsLimit }
 {
     for charge in charges {
         if charge.weight >= threshold {
@@ -104,7 +104,7 @@ fn left_of<A: Allocator + Copy>(client: &Client<A>, steps: Option<u64>) -> u64 {
 
 /// Lets a search make what is left of so many steps in all.
 fn limit_search<A: Allocator + Copy>(client: &mut Client<A>, steps: Option<u64>)
-    ensures { (p : Past) → IsReady client.old p → (n : ℕ) × IsReady client.new (record p { limit = n; since = 0 }) }
+    ensures { (p : ClientPast) → IsReady client.old p → (n : ℕ) × IsReady client.new (record p { limit = n; since = 0 }) }
 {
     let left = left_of(client, steps);
     client.limit_steps(left);
@@ -119,7 +119,7 @@ pub(crate) fn search<A: Allocator + Copy>(
     steps: Option<u64>,
 ) -> Result<Option<bool>, MaxSatError>
     ensures { MatchResult result
-        (λ o. (p : Past) → IsReady client.old p → FindsWithin o threshold charges.now p.clauses client.new) IsLimit }
+        (λ o. (p : ClientPast) → IsReady client.old p → FindsWithin o threshold charges.now p.clauses client.new) IsLimit }
 {
     limit_search(client, steps);
     assume(client, charges, threshold)?;
@@ -141,7 +141,7 @@ pub(crate) fn divide<A: Allocator + Copy>(
     alloc: A,
 ) -> Result<Split<A>, MaxSatError>
     ensures { MatchResult result
-        (λ s. (p : Past) → IsReady client.now p → IsSplit p.core charges.now s.kept.items s.failed.items) IsLimit }
+        (λ s. (p : ClientPast) → IsReady client.now p → IsSplit p.core charges.now s.kept.items s.failed.items) IsLimit }
 {
     let mut kept = Vec::new(alloc);
     let mut failed = Vec::new(alloc);
@@ -205,7 +205,7 @@ pub(crate) fn search_lightly<A: Allocator + Copy>(
     alloc: A,
 ) -> Result<Option<Vec<Charge, A>>, MaxSatError>
     ensures { MatchResult result
-        (λ o. (p : Past) → IsReady client.old p →
+        (λ o. (p : ClientPast) → IsReady client.old p →
         MatchOption o ((a : Assignment) → SatisfiesAll a p.clauses → ⊥)
         (λ list. FindsLightly charges.now list.items p.clauses client.new)) IsLimit }
 {
@@ -241,7 +241,7 @@ pub(crate) fn values<A: Allocator + Copy>(
     alloc: A,
 ) -> Result<Vec<bool, A>, MaxSatError>
     ensures { MatchResult result
-        (λ vs. (p : Past) → IsReady client.now p → (a : Assignment) → MakesTrue a p.model →
+        (λ vs. (p : ClientPast) → IsReady client.now p → (a : Assignment) → MakesTrue a p.model →
         AreValues count p.model vs.items) IsLimit }
 {
     let mut values = Vec::new(alloc);

@@ -13,7 +13,7 @@ use Rattle.varisat_names.specs.promises.Settings.{no_update}
 use Rattle.varisat_names.specs.declared.config.SolverConfigUpdate.{SolverConfigUpdate}
 use Rattle.varisat_solver.specs.inside.Representations.{Represents}
 use Rattle.varisat_client.specs.inside.LiteralSets.{IsSetOf}
-use Rattle.varisat_client.specs.promises.Pasts.{Past, IsUpToCounted}
+use Rattle.varisat_client.specs.promises.Pasts.{ClientPast, IsUpToCounted}
 use Rattle.varisat_client.specs.declared.client.SearchEnd.{SearchEnd}
 use Rattle.varisat_client.specs.declared.client.SearchEnd.TheVariants as end
 use Rattle.varisat_client.specs.declared.refusal.Refusal.{Refusal}
@@ -69,7 +69,7 @@ pub record MadeFewSince (s : State) (since : ℕ) : Type 0 where
   pub few : AreFew (length s.counted) since
 
 -- What is held stands for the past, where no call was refused.
-pub record HoldsPast (g : Client) (p : Past) : Type 0 where
+pub record HoldsPast (g : Client) (p : ClientPast) : Type 0 where
   pub state : State
   pub stands : Represents g.solver state
   pub fits : WasGiven state p.clauses p.assumed p.steps p.limit
@@ -82,14 +82,14 @@ pub record HoldsPast (g : Client) (p : Past) : Type 0 where
 
 -- The client represents the past. Of one that refused a call only the reason is known, and where that is a full store of clauses, that
 -- a clause of all variables of the search would bring it to 2^32 words or more.
-pub record RepresentsPast (g : Client) (p : Past) : Type 0 where
+pub record RepresentsPast (g : Client) (p : ClientPast) : Type 0 where
   pub refusal : g.refusal ≡ p.refusal
   pub full : p.refusal ≡ Some ClauseStoreFull → HasFullStore g.solver
   pub holds : p.refusal ≡ None → HoldsPast g p
 
 -- The call moves any past that the client stands for so.
-abbrev pub Moves : (Past → Past → Type 0) → Client → Client → Type 0
-Moves R g h = (p : Past) → RepresentsPast g p → (q : Past) × R p q × RepresentsPast h q
+abbrev pub Moves : (ClientPast → ClientPast → Type 0) → Client → Client → Type 0
+Moves R g h = (p : ClientPast) → RepresentsPast g p → (q : ClientPast) × R p q × RepresentsPast h q
 
 -- memory ran out
 pub record RunsOutOfMemory (r : SearchEnd) (h : Client) : Type 0 where

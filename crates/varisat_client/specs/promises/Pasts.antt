@@ -19,7 +19,7 @@ use Rattle.varisat_client.specs.declared.refusal.Refusal.TheVariants.{OutOfMemor
 -- `counted`: the variables of the clauses that were given to their end, and of the assumptions under which a search was begun, each once.
 -- `steps`: how many steps all searches made that were not refused. `since`: how many of them since the last change, which is the last
 -- clause that ended, search that began or limit that was given. `limit`: how many one search may make.
-pub record Past : Type 0 where
+pub record ClientPast : Type 0 where
   pub refusal : Option Refusal
   pub clauses : List Clause
   pub clause : List Literal
@@ -33,8 +33,8 @@ pub record Past : Type 0 where
   pub limit : ℕ
 
 -- before the first call
-abbrev pub empty_past : Past
-empty_past =
+abbrev pub empty_client_past : ClientPast
+empty_client_past =
     record {
       refusal = None;
       clauses = [];
@@ -51,12 +51,12 @@ empty_past =
     }
 
 -- a call was refused, and each one is from then on
-abbrev pub refuse : Refusal → Past → Past
+abbrev pub refuse : Refusal → ClientPast → ClientPast
 refuse why p = record p { refusal = Some why }
 
 -- Why a call may be refused that gives these literals to the solver: one was refused before, and then nothing changes; a variable of
 -- the literals is past the limit; or none is, and memory ran out or, in a call that stores clauses, their store is full.
-pub data Refuses (given : List Literal) (stores : Bool) (p q : Past) : Type 0 where
+pub data Refuses (given : List Literal) (stores : Bool) (p q : ClientPast) : Type 0 where
   Again : p.refusal ≢ None → q ≡ p → Refuses given stores p q
   Memory : p.refusal ≡ None → (IsPastLimit given → ⊥) → q ≡ refuse OutOfMemory p → Refuses given stores p q
   Limit : p.refusal ≡ None → IsPastLimit given → q ≡ refuse VariableLimit p → Refuses given stores p q
@@ -64,12 +64,12 @@ pub data Refuses (given : List Literal) (stores : Bool) (p q : Past) : Type 0 wh
       Refuses given stores p q
 
 -- the variables of the literals are counted, too, and steps are counted anew
-abbrev pub count : List Literal → Past → Past
+abbrev pub count : List Literal → ClientPast → ClientPast
 count ls p = record p { counted = join_counted p.counted (map variable_of ls); since = 0 }
 
 -- A number that is not 0 is put behind the clause, and 0 ends it, as which the clause is given to the solver. No variable past the
 -- limit is taken, unless no assignment satisfies the clauses before it.
-pub data AddsNumber (n : ℤ) (p q : Past) : Type 0 where
+pub data AddsNumber (n : ℤ) (p q : ClientPast) : Type 0 where
   PutRefused : n ≢ pos 0 → Refuses [] false p q → AddsNumber n p q
   EndRefused : n ≡ pos 0 → Refuses p.clause true p q → AddsNumber n p q
   Ended : n ≡ pos 0 → p.refusal ≡ None → (IsPastLimit p.clause → IsSatisfiable p.clauses → ⊥) →
@@ -77,7 +77,7 @@ pub data AddsNumber (n : ℤ) (p q : Past) : Type 0 where
   Put : n ≢ pos 0 → p.refusal ≡ None → q ≡ record p { clause = p.clause ++ literal_numbered n ∷ [] } → AddsNumber n p q
 
 -- A number that is not 0 is put behind the assumptions for the next search, and 0 does nothing.
-pub data AssumesNumber (n : ℤ) (p q : Past) : Type 0 where
+pub data AssumesNumber (n : ℤ) (p q : ClientPast) : Type 0 where
   Refused : n ≢ pos 0 → Refuses [] false p q → AssumesNumber n p q
   Nothing : n ≡ pos 0 → q ≡ p → AssumesNumber n p q
   Put : n ≢ pos 0 → p.refusal ≡ None → q ≡ record p { assumptions = p.assumptions ++ literal_numbered n ∷ [] } →
@@ -85,13 +85,13 @@ pub data AssumesNumber (n : ℤ) (p q : Past) : Type 0 where
 
 -- The assumptions that were given are those of the search that begins, and none is given for the next one yet. No variable of them is
 -- past the limit.
-pub data Begins (p q : Past) : Type 0 where
+pub data Begins (p q : ClientPast) : Type 0 where
   Refused : Refuses p.assumptions false p q → Begins p q
   Begun : p.refusal ≡ None → (IsPastLimit p.assumptions → ⊥) →
       q ≡ record (count p.assumptions p) { assumed = p.assumptions; assumptions = [] } → Begins p q
 
 -- One call of a search may make so many steps from now on. This is refused only once another call was.
-pub data LimitsSteps (steps : ℕ) (p q : Past) : Type 0 where
+pub data LimitsSteps (steps : ℕ) (p q : ClientPast) : Type 0 where
   Refused : p.refusal ≢ None → q ≡ p → LimitsSteps steps p q
   Limited : p.refusal ≡ None → q ≡ record p { limit = steps; since = 0 } → LimitsSteps steps p q
 
@@ -113,7 +113,7 @@ pub record IsFoundModel (clauses : List Clause) (assumed : List Literal) (counte
   pub uncounted : (l : Literal) → l ∈ model → (variable_of l ∈ counted → ⊥) → l ≡ literal_of (variable_of l) false
 
 -- A search makes no more steps than it may, and few for so many variables, over however many searches since the last change.
-pub record MakesFew (p q : Past) : Type 0 where
+pub record MakesFew (p q : ClientPast) : Type 0 where
   pub made : ℕ
   pub count : q.steps ≡ p.steps + made
   pub since : q.since ≡ p.since + made
@@ -123,7 +123,7 @@ pub record MakesFew (p q : Past) : Type 0 where
 -- How a search ends: Satisfiable with a model of the clauses that makes the assumptions true; Unsatisfiable where no assignment
 -- satisfies the clauses and makes them true, with some of them for which it is so already; Interrupted where it made all the steps
 -- that it may, or no more can be counted; or it is refused. It makes few steps.
-pub data IsSearchEnd (r : SearchEnd) (p q : Past) : Type 0 where
+pub data IsSearchEnd (r : SearchEnd) (p q : ClientPast) : Type 0 where
   Refused : r ≡ end.Refused → Refuses [] true p q → IsSearchEnd r p q
   Satisfiable : r ≡ end.Satisfiable → p.refusal ≡ None → IsFoundModel p.clauses p.assumed p.counted q.model →
       MakesFew p q → q ≡ record p { model = q.model; steps = q.steps; since = q.since } → IsSearchEnd r p q
@@ -135,7 +135,7 @@ pub data IsSearchEnd (r : SearchEnd) (p q : Past) : Type 0 where
 
 -- A number is returned where its literal is true in the last model, the opposite number where that is, and else 0: so it is for 0, for
 -- the number that has no opposite, and once a call was refused.
-pub data ReturnsValue (n r : ℤ) (p : Past) : Type 0 where
+pub data ReturnsValue (n r : ℤ) (p : ClientPast) : Type 0 where
   True : r ≡ n → p.refusal ≡ None → literal_numbered n ∈ p.model → ReturnsValue n r p
   False : r ≡ pos 0 -ℤ n → p.refusal ≡ None → opposite (literal_numbered n) ∈ p.model → ReturnsValue n r p
   Unknown : r ≡ pos 0 → (literal_numbered n ∈ p.model → ⊥) → (opposite (literal_numbered n) ∈ p.model → ⊥) →
@@ -144,7 +144,7 @@ pub data ReturnsValue (n r : ℤ) (p : Past) : Type 0 where
   Refused : r ≡ pos 0 → p.refusal ≢ None → ReturnsValue n r p
 
 -- Whether the literal of the number is one of the last core: neither 0 is, nor any number once a call was refused.
-pub data ReturnsFailed (n : ℤ) (r : Bool) (p : Past) : Type 0 where
+pub data ReturnsFailed (n : ℤ) (r : Bool) (p : ClientPast) : Type 0 where
   Failed : r ≡ true → p.refusal ≡ None → n ≢ pos 0 → literal_numbered n ∈ p.core → ReturnsFailed n r p
   Unfailed : r ≡ false → (literal_numbered n ∈ p.core → ⊥) → ReturnsFailed n r p
   Outside : r ≡ false → (n ≡ pos 0) ⊎ (p.refusal ≢ None) → ReturnsFailed n r p

@@ -1,13 +1,13 @@
 -- Calls of a client in turn with their answers.
 use Rattle.std.specs.Prelude.{◌≡◌, None, List, [], ◌∷◌}
-use Rattle.varisat_client.specs.promises.Pasts.{Past, AddsNumber, AssumesNumber, Begins, LimitsSteps, IsSearchEnd, ReturnsValue, ReturnsFailed}
+use Rattle.varisat_client.specs.promises.Pasts.{ClientPast, AddsNumber, AssumesNumber, Begins, LimitsSteps, IsSearchEnd, ReturnsValue, ReturnsFailed}
 use Rattle.varisat_client.specs.declared.session.Call.{Call}
 use Rattle.varisat_client.specs.declared.session.Answer.{Answer}
 use Rattle.varisat_client.specs.declared.session.Call.TheVariants as call
 use Rattle.varisat_client.specs.declared.session.Answer.TheVariants as answer
 
 -- Where the past was p, the call may get the answer, and then the past is q.
-abbrev pub Makes : Past → Call → Answer → Past → Type 0
+abbrev pub Makes : ClientPast → Call → Answer → ClientPast → Type 0
 Makes p (call.Add n) answer.Done q = AddsNumber n p q
 Makes p (call.Assume n) answer.Done q = AssumesNumber n p q
 Makes p call.Begin answer.Done q = Begins p q
@@ -20,7 +20,7 @@ Makes p call.Steps (answer.Steps n) q = (p.refusal ≡ None → n ≡ p.steps) �
 Makes p _ _ q = ⊥
 
 -- The calls in turn may get the answers in turn, one each, and lead from p to q.
-abbrev pub MakeInTurn : Past → List Call → List Answer → Past → Type 0
+abbrev pub MakeInTurn : ClientPast → List Call → List Answer → ClientPast → Type 0
 MakeInTurn p [] [] q = q ≡ p
-MakeInTurn p (c ∷ cs) (a ∷ answers) q = (mid : Past) × Makes p c a mid × MakeInTurn mid cs answers q
+MakeInTurn p (c ∷ cs) (a ∷ answers) q = (mid : ClientPast) × Makes p c a mid × MakeInTurn mid cs answers q
 MakeInTurn p _ _ q = ⊥

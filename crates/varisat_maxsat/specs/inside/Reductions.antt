@@ -1,7 +1,7 @@
 -- A client that holds a problem as it was brought down.
 use Rattle.std.specs.Prelude.{◌≡◌, ◌≤◌, ℕ, Bool, true, false, Option, Some, None, option_map, Result, MatchResult, List, []}
 use Rattle.varisat_theory.specs.promises.Literals.{Literal, Clause, Assignment, SatisfiesAll, IsFailedCore, IsSatisfiable}
-use Rattle.varisat_client.specs.promises.Pasts.{Past, IsFoundModel, count}
+use Rattle.varisat_client.specs.promises.Pasts.{ClientPast, IsFoundModel, count}
 use Rattle.varisat_client.specs.inside.Clients.{Client, RepresentsPast}
 use Rattle.varisat_maxsat.specs.promises.Problems.{Problem, CostsAtLeast, Found, Improve, last_found, IsStopped}
 use Rattle.varisat_maxsat.specs.inside.Charges.{ClausesAreBelow, Exchanges, AreParted, Reduces, ReducesBelow, AreAssumed, IsPending}
@@ -11,21 +11,21 @@ use Rattle.varisat_maxsat.specs.declared.refusal.MaxSatError.TheVariants.{Ended}
 use Rattle.varisat_maxsat.specs.declared.counter.Counter.{Counter}
 
 -- No call was refused, and neither a clause nor an assumption is begun.
-pub record IsReady (g : Client) (p : Past) : Type 0 where
+pub record IsReady (g : Client) (p : ClientPast) : Type 0 where
   pub stands : RepresentsPast g p
   pub refusal : p.refusal ≡ None
   pub clause : p.clause ≡ []
   pub assumptions : p.assumptions ≡ []
 
 -- A search was begun under the assumptions.
-pub record HasBegun (threshold : ℕ) (charges : List Charge) (p : Past) (h : Client) : Type 0 where
+pub record HasBegun (threshold : ℕ) (charges : List Charge) (p : ClientPast) (h : Client) : Type 0 where
   pub assumed : List Literal
   pub from : AreAssumed threshold charges assumed
   pub ready : IsReady h (record (count assumed p) { assumed = assumed })
 
 -- A search ended under the assumptions, with a model or with a core.
 pub record FindsModel (threshold : ℕ) (charges : List Charge) (P : List Clause) (h : Client) : Type 0 where
-  pub past : Past
+  pub past : ClientPast
   pub ready : IsReady h past
   pub clauses : past.clauses ≡ P
   pub assumed : List Literal
@@ -33,7 +33,7 @@ pub record FindsModel (threshold : ℕ) (charges : List Charge) (P : List Clause
   pub found : IsFoundModel P assumed past.counted past.model
 
 pub record FindsCore (threshold : ℕ) (charges : List Charge) (P : List Clause) (h : Client) : Type 0 where
-  pub past : Past
+  pub past : ClientPast
   pub ready : IsReady h past
   pub clauses : past.clauses ≡ P
   pub assumed : List Literal
@@ -46,7 +46,7 @@ Finds false = FindsCore
 
 -- No call was refused, and these clauses were given.
 pub record IsReadyWith (P : List Clause) (h : Client) : Type 0 where
-  pub past : Past
+  pub past : ClientPast
   pub ready : IsReady h past
   pub clauses : past.clauses ≡ P
 
@@ -93,14 +93,14 @@ reduction_of g v n cs k ks u =
 
 -- the problem was brought down so far
 pub record ReducesTo (p : Problem) (r : Reduction) : Type 0 where
-  pub past : Past
+  pub past : ClientPast
   pub ready : IsReady r.client past
   pub variables : r.variables ≡ p.variables
   pub reduces : Reduces p.hard p.soft p.variables r.named past.clauses r.charges [] 0 r.bound
 
 -- the same, with literals that are pending, of which one is true
 pub record ReducesToWith (p : Problem) (pending : List Literal) (w : ℕ) (r : Reduction) : Type 0 where
-  pub past : Past
+  pub past : ClientPast
   pub ready : IsReady r.client past
   pub variables : r.variables ≡ p.variables
   pub reduces : Reduces p.hard p.soft p.variables r.named past.clauses r.charges pending w r.bound
@@ -115,7 +115,7 @@ pub record ReducesToAfter (found : Bool) (threshold : ℕ) (p : Problem) (r : Re
 
 -- The problem was brought down to what is asked for below the ceiling.
 pub record ReducesToBelow (p : Problem) (r : Reduction) : Type 0 where
-  pub past : Past
+  pub past : ClientPast
   pub ready : IsReady r.client past
   pub variables : r.variables ≡ p.variables
   pub reduces : ReducesBelow p.hard p.soft p.variables r.named past.clauses r.charges r.counters r.bound r.ceiling
@@ -126,7 +126,7 @@ KeepsReductions r s = (p : Problem) → ReducesToBelow p r → ReducesToBelow p 
 
 -- A model was found of clauses to which the hard ones were brought down.
 pub record FindsSolution (p : Problem) (r : Reduction) : Type 0 where
-  pub past : Past
+  pub past : ClientPast
   pub ready : IsReady r.client past
   pub assumed : List Literal
   pub found : IsFoundModel past.clauses assumed past.counted past.model
@@ -158,13 +158,13 @@ IsEnded false p holds = IsSatisfiable p.hard → ⊥
 
 -- A clause was given as far as these literals.
 pub record GivesSoFar (g : Client) (ls : List Literal) (h : Client) : Type 0 where
-  pub far : (p : Past) → IsReady g p →
-      (q : Past) × RepresentsPast h q × (q.refusal ≡ None → q ≡ record p { clause = ls })
+  pub far : (p : ClientPast) → IsReady g p →
+      (q : ClientPast) × RepresentsPast h q × (q.refusal ≡ None → q ≡ record p { clause = ls })
 
 -- Assumptions were given for these charges.
 pub record AssumesSoFar (g : Client) (threshold : ℕ) (charges : List Charge) (h : Client) : Type 0 where
-  pub far : (p : Past) → IsReady g p →
-      (q : Past) × (ls : List Literal) × AreAssumed threshold charges ls × RepresentsPast h q
+  pub far : (p : ClientPast) → IsReady g p →
+      (q : ClientPast) × (ls : List Literal) × AreAssumed threshold charges ls × RepresentsPast h q
       × (q.refusal ≡ None → q ≡ record p { assumptions = ls })
 
 -- the error is that the sink ended the search

@@ -1,17 +1,17 @@
 use Rattle.std.proofs.Common.{rules, w32, refl, sym, subst}
 use Rattle.std.proofs.Math.Facts.{to_z-of_z}
 use mir.Val.{SFits}
-use Rattle.varisat_client.specs.promises.Pasts.{Past, AddsNumber, AssumesNumber, ReturnsValue, ReturnsFailed}
+use Rattle.varisat_client.specs.promises.Pasts.{ClientPast, AddsNumber, AssumesNumber, ReturnsValue, ReturnsFailed}
 use Rattle.varisat_client.specs.inside.Clients.{RepresentsPast}
 use Rattle.varisat_client.proofs.session.make_call.Goals as goal
 
 pub returns-in-Add : goal.returns-in-Add
 returns-in-Add g c p st = let f : SFits w32 c.in-Add.number = search rules in
-    rw c.in-Add.is (subst (λ n. (q : Past) × AddsNumber n p q × RepresentsPast c.add.new.self q) (to_z-of_z f) (c.add.ensures p st))
+    rw c.in-Add.is (subst (λ n. (q : ClientPast) × AddsNumber n p q × RepresentsPast c.add.new.self q) (to_z-of_z f) (c.add.ensures p st))
 
 pub returns-in-Assume : goal.returns-in-Assume
 returns-in-Assume g c p st = let f : SFits w32 c.in-Assume.number = search rules in
-    rw c.in-Assume.is (subst (λ n. (q : Past) × AssumesNumber n p q × RepresentsPast c.assume.new.self q) (to_z-of_z f) (c.assume.ensures p st))
+    rw c.in-Assume.is (subst (λ n. (q : ClientPast) × AssumesNumber n p q × RepresentsPast c.assume.new.self q) (to_z-of_z f) (c.assume.ensures p st))
 
 pub returns-in-Begin : goal.returns-in-Begin
 returns-in-Begin g c p st = rw c.in-Begin.is (c.begin.ensures p st)

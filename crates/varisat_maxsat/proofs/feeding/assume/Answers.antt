@@ -2,7 +2,7 @@ use Rattle.std.proofs.Common.{rules, w32, ◌+◌, sym, ◌∙◌, subst, take}
 use Rattle.std.proofs.Math.Facts.{to_z-of_z}
 use Rattle.std.proofs.lemmas.List.{take_all}
 use mir.Val.{SFits}
-use Rattle.varisat_client.specs.promises.Pasts.{Past, AssumesNumber}
+use Rattle.varisat_client.specs.promises.Pasts.{ClientPast, AssumesNumber}
 use Rattle.varisat_client.specs.inside.Clients.{RepresentsPast}
 use Rattle.varisat_maxsat.specs.inside.Reductions.{AssumesSoFar}
 use Rattle.varisat_maxsat.proofs.Given.{assumes-start, assumes-next, assumes-skip, assumed-all}
@@ -20,7 +20,7 @@ loop-charge-preserved g c =
           subst (AssumesSoFar c.args.client.now c.args.threshold (take (c.loop-charge.charge-index + 1) c.args.charges.now)) (sym w.client-is)
           (assumes-next _ _ _ _ _ _ c.charge-item.result _ c.loop-charge-test.true c.charge-item.is (w.in_ok-number_of.ensures.lit ∙ w.not.ensures)
           w.in_ok-number_of.ensures.some
-          (λ p st. subst (λ n. (q : Past) × AssumesNumber n p q × RepresentsPast w.assume.new.self q) (to_z-of_z f) (w.assume.ensures p st)) c.loop-charge.invariant)
+          (λ p st. subst (λ n. (q : ClientPast) × AssumesNumber n p q × RepresentsPast w.assume.new.self q) (to_z-of_z f) (w.assume.ensures p st)) c.loop-charge.invariant)
       | else-charge-threshold w ↦
           subst (AssumesSoFar c.args.client.now c.args.threshold (take (c.loop-charge.charge-index + 1) c.args.charges.now)) (sym w.client-is)
           (assumes-skip _ _ _ _ _ c.charge-item.result c.loop-charge-test.true c.charge-item.is w.if-charge-threshold.false c.loop-charge.invariant)

@@ -6,11 +6,12 @@ ghost use Rattle.varisat_calls.specs.Codes.{answer_number};
 
 use crate::codes::{DONE, NOTHING, WRONG, field_of, format_of, mode_of};
 use crate::lookups::Lookups;
-use crate::numbers::{list_names, list_numbers, literal_of, put_number, read_numbers};
+use crate::numbers::{list_names, list_numbers, read_numbers};
 use crate::stream::{self, Lines, StreamTarget};
 use std::alloc::Allocator;
 use std::marker::Model;
 use std::string::String;
+use varisat_client::numbers::{literal_of, put_number};
 use varisat_formula::dimacs::DimacsParser;
 use varisat_literals::{Lit, Var};
 use varisat_names::config::SolverConfigUpdate;

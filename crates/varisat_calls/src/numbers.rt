@@ -1,31 +1,12 @@
 //! Lists of DIMACS numbers, by which callers give literals and are given them.
-ghost use Rattle.std.specs.Prelude.{◌≡◌, ◌≢◌, ◌∷◌, ◌++◌, [], pos, map, true, false, Ok, OnOk};
+ghost use Rattle.std.specs.Prelude.{◌≡◌, pos, map, true, false, Ok, OnOk};
 ghost use Rattle.varisat_theory.specs.promises.Membership.{◌∈◌};
 ghost use Rattle.varisat_literals.specs.promises.Numbers.{literal_numbered};
 ghost use Rattle.varisat_calls.specs.Numbers.{returned_number, returned_numbers, returned_names};
 
 use std::alloc::{AllocError, Allocator};
+use varisat_client::numbers::put_number;
 use varisat_literals::{Lit, Var};
-
-/// The literal of the number.
-pub fn literal_of(number: i32) -> Lit
-    requires { number ≢ pos 0 }
-    ensures { result ≡ literal_numbered number }
-{
-    Lit::from_dimacs(number as isize)
-}
-
-/// Puts the literal of the number behind the list.
-pub fn put_number<A: Allocator + Copy>(
-    list: &mut Vec<Lit, A>,
-    number: i32,
-) -> Result<(), AllocError>
-    requires { number ≢ pos 0 }
-    ensures { OnOk result (list.new.items ≡ list.old.items ++ literal_numbered number ∷ []) }
-{
-    list.push(literal_of(number))?;
-    Ok(())
-}
 
 /// Puts the literals of the numbers in place of those before. False where a number is 0.
 pub fn read_numbers<A: Allocator + Copy>(

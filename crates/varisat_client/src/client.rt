@@ -1,12 +1,12 @@
 //! A client of the solver that takes clauses and assumptions a literal at a time, and returns values one at a time.
-ghost use Rattle.std.specs.Prelude.{◌≡◌, ◌≢◌, ◌∷◌, [], ◌++◌, pos, OnOk, false, None};
-ghost use Rattle.varisat_literals.specs.promises.Numbers.{literal_numbered};
+ghost use Rattle.std.specs.Prelude.{◌≡◌, None};
 ghost use Rattle.varisat_solver.specs.inside.Representations.{Represents};
 ghost use Rattle.varisat_client.specs.inside.Clients.{first_state};
 
 use crate::literal_set::LitSet;
+use crate::numbers::{literal_of, put_number};
 use crate::refusal::{Refusal, refusal_for};
-use std::alloc::{AllocError, Allocator};
+use std::alloc::Allocator;
 use std::marker::Model;
 use varisat::config::{ConfigField, SolverConfigUpdate};
 use varisat::io::MemoryTarget;
@@ -30,23 +30,6 @@ pub enum SearchEnd {
     Interrupted,
     /// The call was refused.
     Refused,
-}
-
-/// The literal of the number.
-fn literal_of(number: i32) -> Lit
-    requires { number ≢ pos 0 }
-    ensures { result ≡ literal_numbered number }
-{
-    Lit::from_dimacs(number as isize)
-}
-
-/// Puts the literal of the number behind the list.
-fn put_number<A: Allocator + Copy>(list: &mut Vec<Lit, A>, number: i32) -> Result<(), AllocError>
-    requires { number ≢ pos 0 }
-    ensures { OnOk result (list.new.items ≡ list.old.items ++ literal_numbered number ∷ []) }
-{
-    list.push(literal_of(number))?;
-    Ok(())
 }
 
 /// A new solver with the settings of a client. It takes no memory.

@@ -3,5 +3,6 @@
 
 pub mod client;
 pub mod literal_set;
+pub mod numbers;
 pub mod refusal;
 pub mod session;

@@ -31,18 +31,7 @@ use varisat_calls::caller::Caller;
 use varisat_calls::checks::check_texts;
 
 /// Copies as many as both have, and returns how many.
-fn copy_numbers(from: &[i32], to: &mut [i32]) -> usize
-    ensures count { result ≡ min (length from.now) (length to.new) }
-    ensures copied { take result to.new ≡ take result from.now }
-    ensures kept { drop result to.new ≡ drop result to.old }
-{
-    let count = from.len().min(to.len());
-    to[..count].copy_from_slice(&from[..count]);
-    count
-}
-
-/// Copies as many as both have, and returns how many.
-fn copy_bytes(from: &[u8], to: &mut [u8]) -> usize
+fn copy_front<T: Copy>(from: &[T], to: &mut [T]) -> usize
     ensures count { result ≡ min (length from.now) (length to.new) }
     ensures copied { take result to.new ≡ take result from.now }
     ensures kept { drop result to.new ≡ drop result to.old }
@@ -384,7 +373,7 @@ pub extern "C" fn caller_list_copy(alloc: Global, handle: &mut Handle, out: &mut
     ensures kept { drop result out.new ≡ drop result out.old }
 {
     let caller = handle.take(alloc);
-    let answer = copy_numbers(caller.returned(), out);
+    let answer = copy_front(caller.returned(), out);
     handle.put(alloc, caller);
     answer
 }
@@ -405,7 +394,7 @@ pub extern "C" fn caller_written_copy(
     ensures kept { drop result out.new ≡ drop result out.old }
 {
     let caller = handle.take(alloc);
-    let answer = copy_bytes(behind(caller.written(), from), out);
+    let answer = copy_front(behind(caller.written(), from), out);
     handle.put(alloc, caller);
     answer
 }
@@ -419,7 +408,7 @@ pub extern "C" fn caller_refusal_copy(alloc: Global, handle: &mut Handle, out: &
     ensures kept { drop result out.new ≡ drop result out.old }
 {
     let caller = handle.take(alloc);
-    let answer = copy_bytes(caller.refusal_text().as_bytes(), out);
+    let answer = copy_front(caller.refusal_text().as_bytes(), out);
     handle.put(alloc, caller);
     answer
 }

@@ -3,7 +3,7 @@ ghost use Rattle.std.specs.Prelude.{◌≡◌, ◌↔◌, min, length, take, dro
 ghost use Rattle.varisat_calls.specs.Simplifiers.{nothing_given, Adds, Freezes, Simplifies, ListsClauses, Extends};
 ghost use Rattle.varisat_c.specs.Slots.{MovesHeld, IsTrueBehind};
 
-use crate::copy_numbers;
+use crate::copy_front;
 use crate::simplifier_handle::SimplifierHandle;
 use std::alloc::Global;
 use varisat_calls::simplifier::Simplifier;
@@ -132,7 +132,7 @@ pub extern "C" fn simplifier_list_copy(
     ensures kept { drop result out.new ≡ drop result out.old }
 {
     let simplifier = handle.take(alloc);
-    let answer = copy_numbers(simplifier.list(), out);
+    let answer = copy_front(simplifier.list(), out);
     handle.put(alloc, simplifier);
     answer
 }

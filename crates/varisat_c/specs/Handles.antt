@@ -1,5 +1,5 @@
--- What a handle owns. What is said of the caller behind it.
-use Rattle.std.specs.Prelude.{Option, Some, None}
+-- What a handle owns.
+use Rattle.std.specs.Prelude.{Option}
 use mir.Syntax.{Ty}
 use base.Fml.{Fml}
 use denote.RattleType.{RattleType}
@@ -7,9 +7,6 @@ use denote.RawPtr.{Ptr}
 use Rattle.core.specs.contracts.clone.Clone+copy.TheImpl as copied
 use Rattle.std_heap.specs.contracts.Global as heap
 use Rattle.std_heap.specs.contracts.GlobalAllocator.TheImpl as impl
-use Rattle.varisat_theory.specs.promises.Literals.{IsSatisfiableWith}
-use Rattle.varisat_solver.specs.promises.States.{State}
-use Rattle.varisat_solver.specs.inside.Representations.{Represents}
 use Rattle.varisat_calls.specs.Callers.{Caller}
 use Rattle.varisat_c.specs.Slots.{may_free, slot_owns}
 use Rattle.varisat_calls.specs.contracts.caller.Caller as caller
@@ -21,11 +18,3 @@ caller_row = caller.the_row heap.the_row impl.ghosts (copied.ghosts heap.the_row
 -- a caller, where it is not empty
 abbrev pub handle_owns : Ptr → Option Caller → Fml
 handle_owns p held = slot_owns may_free caller_row p held
-
--- some assignment satisfies the accepted clauses and makes the assumptions true
-abbrev pub IsSatisfiableNow : Caller → Type 0
-IsSatisfiableNow g = (s : State) → Represents g.solver s → IsSatisfiableWith s.clauses s.assumptions
-
--- none does
-abbrev pub IsUnsatisfiableNow : Caller → Type 0
-IsUnsatisfiableNow g = (s : State) → Represents g.solver s → IsSatisfiableWith s.clauses s.assumptions → ⊥

@@ -1,9 +1,9 @@
 //! A client of the solver for C programs: each call takes a handle, behind which a client stands.
 ghost use Rattle.std.specs.Prelude.{◌≡◌, ◌↔◌, Some, None, IsSome, IsTrue, IfSome};
 ghost use Rattle.varisat_client.specs.promises.Pasts.{empty_client_past, AddsNumber, AssumesNumber, Begins, LimitsSteps, ReturnsValue, ReturnsFailed};
-ghost use Rattle.varisat_client.specs.inside.Clients.{RepresentsPast};
+ghost use Rattle.varisat_client.specs.inside.Clients.{RepresentsPast, IsTrueOfPast, Moves};
 ghost use Rattle.varisat_c.specs.Ends.{SearchesBy, refusal_code};
-ghost use Rattle.varisat_c.specs.ClientHandles.{MovesPasts, IsTrueOfPasts};
+ghost use Rattle.varisat_c.specs.Slots.{MovesHeld, IsTrueBehind};
 
 use crate::client_handle::ClientHandle;
 use crate::ends::{end_code, refusal_code};
@@ -39,7 +39,7 @@ pub extern "C" fn client_close(alloc: Global, handle: &mut ClientHandle)
 #[unsafe(no_mangle)]
 pub extern "C" fn client_add(alloc: Global, handle: &mut ClientHandle, number: i32)
     requires { IsSome handle.old.held }
-    ensures { MovesPasts (AddsNumber number) handle.old.held handle.new.held }
+    ensures { MovesHeld (Moves (AddsNumber number)) handle.old.held handle.new.held }
 {
     let mut client = handle.take(alloc);
     client.add(number);
@@ -50,7 +50,7 @@ pub extern "C" fn client_add(alloc: Global, handle: &mut ClientHandle, number: i
 #[unsafe(no_mangle)]
 pub extern "C" fn client_assume(alloc: Global, handle: &mut ClientHandle, number: i32)
     requires { IsSome handle.old.held }
-    ensures { MovesPasts (AssumesNumber number) handle.old.held handle.new.held }
+    ensures { MovesHeld (Moves (AssumesNumber number)) handle.old.held handle.new.held }
 {
     let mut client = handle.take(alloc);
     client.assume(number);
@@ -61,7 +61,7 @@ pub extern "C" fn client_assume(alloc: Global, handle: &mut ClientHandle, number
 #[unsafe(no_mangle)]
 pub extern "C" fn client_limit_steps(alloc: Global, handle: &mut ClientHandle, steps: u64)
     requires { IsSome handle.old.held }
-    ensures { MovesPasts (LimitsSteps steps) handle.old.held handle.new.held }
+    ensures { MovesHeld (Moves (LimitsSteps steps)) handle.old.held handle.new.held }
 {
     let mut client = handle.take(alloc);
     client.limit_steps(steps);
@@ -72,7 +72,7 @@ pub extern "C" fn client_limit_steps(alloc: Global, handle: &mut ClientHandle, s
 #[unsafe(no_mangle)]
 pub extern "C" fn client_begin(alloc: Global, handle: &mut ClientHandle)
     requires { IsSome handle.old.held }
-    ensures { MovesPasts Begins handle.old.held handle.new.held }
+    ensures { MovesHeld (Moves Begins) handle.old.held handle.new.held }
 {
     let mut client = handle.take(alloc);
     client.begin();
@@ -84,7 +84,7 @@ pub extern "C" fn client_begin(alloc: Global, handle: &mut ClientHandle)
 #[unsafe(no_mangle)]
 pub extern "C" fn client_search(alloc: Global, handle: &mut ClientHandle) -> u8
     requires { IsSome handle.old.held }
-    ensures { MovesPasts (SearchesBy result) handle.old.held handle.new.held }
+    ensures { MovesHeld (Moves (SearchesBy result)) handle.old.held handle.new.held }
 {
     let mut client = handle.take(alloc);
     let end = client.search();
@@ -97,7 +97,7 @@ pub extern "C" fn client_search(alloc: Global, handle: &mut ClientHandle) -> u8
 pub extern "C" fn client_value(alloc: Global, handle: &mut ClientHandle, number: i32) -> i32
     requires { IsSome handle.old.held }
     ensures same { handle.new.held ≡ handle.old.held }
-    ensures value { IsTrueOfPasts (ReturnsValue number result) handle.old.held }
+    ensures value { IsTrueBehind (IsTrueOfPast (ReturnsValue number result)) handle.old.held }
 {
     let client = handle.take(alloc);
     let value = client.value(number);
@@ -110,7 +110,7 @@ pub extern "C" fn client_value(alloc: Global, handle: &mut ClientHandle, number:
 pub extern "C" fn client_has_failed(alloc: Global, handle: &mut ClientHandle, number: i32) -> bool
     requires { IsSome handle.old.held }
     ensures same { handle.new.held ≡ handle.old.held }
-    ensures failed { IsTrueOfPasts (ReturnsFailed number result) handle.old.held }
+    ensures failed { IsTrueBehind (IsTrueOfPast (ReturnsFailed number result)) handle.old.held }
 {
     let client = handle.take(alloc);
     let failed = client.has_failed(number);
@@ -124,7 +124,7 @@ pub extern "C" fn client_has_failed(alloc: Global, handle: &mut ClientHandle, nu
 pub extern "C" fn client_refusal(alloc: Global, handle: &mut ClientHandle) -> u8
     requires { IsSome handle.old.held }
     ensures same { handle.new.held ≡ handle.old.held }
-    ensures refusal { IsTrueOfPasts (λ p. result ≡ refusal_code p.refusal) handle.old.held }
+    ensures refusal { IsTrueBehind (IsTrueOfPast (λ p. result ≡ refusal_code p.refusal)) handle.old.held }
 {
     let client = handle.take(alloc);
     let refusal = client.refusal();

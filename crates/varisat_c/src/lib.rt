@@ -3,16 +3,14 @@
 #![tactic(auto)]
 
 ghost use Rattle.std.specs.Prelude.{◌≡◌, ◌↔◌, ◌≤◌, min, length, take, drop, Some, None, IsSome, IsTrue, IfSome};
-ghost use Rattle.varisat_solver.specs.promises.Represented.{LeadsRepresented};
-ghost use Rattle.varisat_solver.specs.promises.Calls.{AddsClause, Assumes, ReturnsList, ReturnsSteps, ReturnsValid, by_state};
+ghost use Rattle.varisat_solver.specs.promises.Calls.{AddsClause, Assumes};
 ghost use Rattle.varisat_solver.specs.promises.ProofCalls.{EnablesChecking};
 ghost use Rattle.varisat_calls.specs.Codes.{field_numbered, format_numbered, mode_numbered};
-ghost use Rattle.varisat_calls.specs.Callers.{IsNewCaller, MakesNumbered, MakesOver, PutsNumber, SetsMaxSteps, SolvesNumbered, SetsField, SetsModeNumbered, ReturnsListOf, ShowsHidden, OpensFormat, ClosesNumbered, TakesWritten};
+ghost use Rattle.varisat_calls.specs.Callers.{IsNewCaller, MakesNumbered, MakesOver, PutsNumber, SetsMaxSteps, SolvesNumbered, IsSatisfiableNow, IsUnsatisfiableNow, TellsSteps, TellsValid, SetsField, SetsModeNumbered, ReturnsModel, ReturnsCore, ReturnsListOf, ShowsHidden, OpensFormat, ClosesNumbered, TakesWritten};
 ghost use Rattle.varisat_calls.specs.Lookups.{LooksUpValue, LooksUpFailed};
 ghost use Rattle.varisat_calls.specs.Texts.{Feeds, IsRefutedText};
 ghost use Rattle.varisat_calls.specs.Checks.{ReturnsCheck};
 ghost use Rattle.varisat_c.specs.Codes.{NamesBy, AnswersEnd};
-ghost use Rattle.varisat_c.specs.Handles.{IsSatisfiableNow, IsUnsatisfiableNow};
 ghost use Rattle.varisat_c.specs.Slots.{MovesHeld, IsTrueBehind};
 
 pub mod client;
@@ -187,9 +185,7 @@ pub extern "C" fn caller_set_mode(alloc: Global, handle: &mut Handle, variable: 
 #[unsafe(no_mangle)]
 pub extern "C" fn caller_model(alloc: Global, handle: &mut Handle) -> u8
     requires { IsSome handle.old.held }
-    ensures { MovesHeld
-        (λ g h.
-        ReturnsListOf (λ s r t. ReturnsList (by_state.model s) s r t) g result h) handle.old.held handle.new.held }
+    ensures { MovesHeld (λ g h. ReturnsListOf ReturnsModel g result h) handle.old.held handle.new.held }
 {
     let mut caller = handle.take(alloc);
     let answer = caller.model();
@@ -201,9 +197,7 @@ pub extern "C" fn caller_model(alloc: Global, handle: &mut Handle) -> u8
 #[unsafe(no_mangle)]
 pub extern "C" fn caller_core(alloc: Global, handle: &mut Handle) -> u8
     requires { IsSome handle.old.held }
-    ensures { MovesHeld
-        (λ g h.
-        ReturnsListOf (λ s r t. ReturnsList (by_state.core s) s r t) g result h) handle.old.held handle.new.held }
+    ensures { MovesHeld (λ g h. ReturnsListOf ReturnsCore g result h) handle.old.held handle.new.held }
 {
     let mut caller = handle.take(alloc);
     let answer = caller.core();
@@ -315,8 +309,7 @@ pub extern "C" fn caller_take_written(alloc: Global, handle: &mut Handle) -> usi
 pub extern "C" fn caller_steps(alloc: Global, handle: &mut Handle) -> u64
     requires { IsSome handle.old.held }
     ensures same { handle.new.held ≡ handle.old.held }
-    ensures steps { IsTrueBehind
-        (λ g. LeadsRepresented g.solver (λ s t. ReturnsSteps s result t) g.solver) handle.old.held }
+    ensures steps { IsTrueBehind (TellsSteps result) handle.old.held }
 {
     let caller = handle.take(alloc);
     let answer = caller.steps();
@@ -341,8 +334,7 @@ pub extern "C" fn caller_counter(alloc: Global, handle: &mut Handle, number: u8)
 pub extern "C" fn caller_is_valid(alloc: Global, handle: &mut Handle) -> bool
     requires { IsSome handle.old.held }
     ensures same { handle.new.held ≡ handle.old.held }
-    ensures valid { IsTrueBehind
-        (λ g. LeadsRepresented g.solver (λ s t. ReturnsValid s result t) g.solver) handle.old.held }
+    ensures valid { IsTrueBehind (TellsValid result) handle.old.held }
 {
     let caller = handle.take(alloc);
     let answer = caller.is_valid();

@@ -21,7 +21,7 @@ use Rattle.varisat_proof.specs.promises.DratChecks.{IsDratResult}
 use Rattle.varisat_proof.specs.promises.Verified.{AreGiven, IsMarkedCheck}
 use Rattle.varisat_proof.proofs.VerifiedTexts.{given_satisfied}
 use Rattle.varisat_calls.specs.Checks as checks
-use Rattle.varisat_calls.specs.Checks.{ReturnsResult, ReturnsDrat, ReturnsMarked, ReturnsProof, ReturnsCheck, FailsText, HasFault, BreaksOff}
+use Rattle.varisat_calls.specs.Checks.{new_checker, ReturnsResult, ReturnsDrat, ReturnsMarked, ReturnsProof, ReturnsCheck, FailsText, HasFault, BreaksOff}
 
 -- a marked proof from no clause refutes the clauses that it was given, and so those among which these are
 pub marked-refutes : {A : Type 0} (P given : List Clause) (report : MarkedReport A) → P ≡ [] → IsTrueReport P report →
@@ -107,7 +107,7 @@ drat-returned f P Q proof s t (Err Spent) number place right of is = checks.NoRo
 
 -- a check of a marked proof by a new checker that comes to a report
 pub marked-checked : {A : Type 0} (old : CheckerState) (Q : List Clause) (proof : List ℕ) (report : MarkedReport A) →
-    old ≡ record { clauses = []; spent = false } → IsMarkedResult old.clauses proof (Ok report) Q →
+    old ≡ new_checker → IsMarkedResult old.clauses proof (Ok report) Q →
     IsMarkedCheck proof (Ok report.verdict) report.inputs.clauses Q
 marked-checked old Q proof report new (assumed, is) = (
   reported assumed report,
@@ -118,7 +118,7 @@ marked-checked old Q proof report new (assumed, is) = (
 
 -- or to none
 pub marked-failed : {A : Type 0} (given Q : List Clause) (old : CheckerState) (proof : List ℕ) (s t : Input) (e : CheckerError) (number place : ℕ) →
-    old ≡ record { clauses = []; spent = false } → (IsOfBytes {V = MarkedReport A} (Err e) → IsMarkedResult {A = A} old.clauses proof (Err e) Q) →
+    old ≡ new_checker → (IsOfBytes {V = MarkedReport A} (Err e) → IsMarkedResult {A = A} old.clauses proof (Err e) Q) →
     ChecksBytes {V = MarkedReport A} (λ bytes. IsMarkedResult {A = A} old.clauses bytes (Err e) Q) s (Err e) t → ReturnsResult (Err e) number place →
     ReturnsMarked given proof number place
 marked-failed {A} given Q old proof s t e number place new right of is = by e right of is where

@@ -8,8 +8,8 @@ use Rattle.varisat_literals.specs.promises.Numbers.{literal_numbered}
 use Rattle.varisat_client.specs.inside.LiteralSets.{IsSetOf}
 use Rattle.varisat_solver.specs.promises.Summaries.{Summary}
 use Rattle.varisat_solver.specs.promises.Represented.{LeadsRepresented}
-use Rattle.varisat_calls.specs.Callers.{Caller, ReturnsListOf, NoRoom}
-use Rattle.varisat_calls.specs.Lookups.{Lookups, IsCurrent, ReturnsModel, IsReturnedModel, GivesModel, IsCore, IsValueIn, IsMember, LooksUpValue, LooksUpFailed, True, False, Unknown, Yes, No, Failed, Unfailed}
+use Rattle.varisat_calls.specs.Callers.{Caller, ReturnsModel, ReturnsListOf, NoRoom}
+use Rattle.varisat_calls.specs.Lookups.{Lookups, IsCurrent, IsReturnedModel, GivesModel, IsCore, IsValueIn, IsMember, LooksUpValue, LooksUpFailed, True, False, Unknown, Yes, No, Failed, Unfailed}
 use Rattle.varisat_calls.specs.declared.lookups.Kept.TheVariants as kept
 
 -- there is a model where it found no memory

@@ -4,7 +4,7 @@
 use Rattle.std.specs.Prelude.{◌≡◌, ◌⊎◌, ℕ, ℤ, pos, ◌<ℤ◌, ◌≤ℤ◌, Bool, true, false, Option, Some, None, IsSome, List, [], ◌∷◌, ◌++◌, Result, Ok, Err, map}
 use Rattle.std.specs.declared.alloc.AllocError.{AllocError}
 use Rattle.varisat_theory.specs.promises.Membership.{◌∈◌}
-use Rattle.varisat_theory.specs.promises.Literals.{Literal}
+use Rattle.varisat_theory.specs.promises.Literals.{Literal, IsSatisfiableWith}
 use Rattle.varisat_literals.specs.promises.Numbers.{literal_numbered, variable_numbered}
 use Rattle.varisat_formula.specs.promises.Rest.{Progress}
 use Rattle.varisat_formula.specs.promises.Streams.{Taken, no_bytes}
@@ -17,7 +17,7 @@ use Rattle.varisat_solver.specs.promises.Summaries.{Summary}
 use Rattle.varisat_solver.specs.inside.Representations.{Represents}
 use Rattle.varisat_solver.specs.promises.Represented.{LeadsRepresented}
 use Rattle.varisat_solver.specs.promises.Refusals.{refusal_number}
-use Rattle.varisat_solver.specs.promises.Calls.{AddsClause, Solves, Configures, MakesVar, with_max_steps, by_state}
+use Rattle.varisat_solver.specs.promises.Calls.{AddsClause, Solves, Configures, MakesVar, ReturnsList, ReturnsSteps, ReturnsValid, with_max_steps, by_state}
 use Rattle.varisat_solver.specs.promises.Usage.{ChangesMode, Observes}
 use Rattle.varisat_solver.specs.promises.ProofCalls.{OpensProof, ClosesProof}
 use Rattle.varisat_solver.specs.declared.solver.SolverError.{SolverError}
@@ -91,15 +91,34 @@ pub data PutsNumber (number : ℤ) (g : Caller) (n : ℕ) (h : Caller) : Type 0 
       MakesNumbered (λ s r t. AddsClause s c r t) (giving_clause (Some []) g) n h → PutsNumber number g n h
   Dropped : number ≡ pos 0 → g.clause ≡ None → n ≡ 3 → h ≡ giving_clause (Some []) g → PutsNumber number g n h
 
+-- each call of `solve` may make so many steps
+abbrev pub limiting : ℕ → State → Unit {0} → State → Type 0
+limiting steps s _ t = t ≡ with_max_steps steps s
+
 -- A call of `solve` may make so many steps. The steps since the last change are counted on.
-pub record SetsMaxSteps (steps : ℕ) (g h : Caller) : Type 0 where
-  pub call : LeadsRepresented g.solver (λ s t. t ≡ with_max_steps steps s) h.solver
-  pub rest : h ≡ record g { solver = h.solver }
+abbrev pub SetsMaxSteps : ℕ → Caller → Caller → Type 0
+SetsMaxSteps steps g h = SolverMakes (limiting steps) g tt h
 
 -- the solver searched
 abbrev pub SolvesNumbered : Caller → ℕ → Caller → Type 0
 SolvesNumbered g n h =
     (answer : Result Bool SolverError) × (n ≡ verdict_number answer) × SolverMakes (Solves by_state) g answer h
+
+-- some assignment satisfies the accepted clauses and makes the assumptions true
+abbrev pub IsSatisfiableNow : Caller → Type 0
+IsSatisfiableNow g = (s : State) → Represents g.solver s → IsSatisfiableWith s.clauses s.assumptions
+
+-- none does
+abbrev pub IsUnsatisfiableNow : Caller → Type 0
+IsUnsatisfiableNow g = (s : State) → Represents g.solver s → IsSatisfiableWith s.clauses s.assumptions → ⊥
+
+-- so many steps were made in all
+abbrev pub TellsSteps : ℕ → Caller → Type 0
+TellsSteps n g = LeadsRepresented g.solver (λ s t. ReturnsSteps s n t) g.solver
+
+-- whether no refusal came from which there is no way back
+abbrev pub TellsValid : Bool → Caller → Type 0
+TellsValid b g = LeadsRepresented g.solver (λ s t. ReturnsValid s b t) g.solver
 
 -- the least free variable came into use
 abbrev pub NamesNew : Caller → Result ℕ ℕ → Caller → Type 0
@@ -119,6 +138,13 @@ pub data SetsModeNumbered (variable : ℤ) (mode : Option SamplingMode) (g : Cal
   Wrong : (variable <ℤ pos 1) ⊎ (mode ≡ None) → IsWrongCall g n h → SetsModeNumbered variable mode g n h
   Made : (m : SamplingMode) → mode ≡ Some m → pos 1 ≤ℤ variable → MakesNumbered (changing m variable) g n h →
       SetsModeNumbered variable mode g n h
+
+-- what `model` and `failed_core` of the solver may answer
+abbrev pub ReturnsModel : State → Result (Option (List Literal)) AllocError → State → Type 0
+ReturnsModel s r t = ReturnsList (by_state.model s) s r t
+
+abbrev pub ReturnsCore : State → Result (Option (List Literal)) AllocError → State → Type 0
+ReturnsCore s r t = ReturnsList (by_state.core s) s r t
 
 -- there is a list to return
 abbrev pub ReturnsSome : (State → Result (Option (List Literal)) AllocError → State → Type 0) → State → State → Type 0

@@ -1,5 +1,5 @@
 -- What the check of a proof in memory against a text in memory returns: a number, and a place.
-use Rattle.std.specs.Prelude.{◌≡◌, ◌⊎◌, ℕ, List, [], ◌++◌, Option, Some, None, IsSome, Result, Ok, Err}
+use Rattle.std.specs.Prelude.{◌≡◌, ◌⊎◌, ℕ, false, List, [], ◌++◌, Option, Some, None, IsSome, Result, Ok, Err}
 use Rattle.varisat_theory.specs.promises.Literals.{Clause}
 use Rattle.varisat_formula.specs.declared.dimacs.error.DimacsError.{DimacsError}
 use Rattle.varisat_formula.specs.declared.dimacs.error.DimacsErrorKind.{DimacsErrorKind}
@@ -11,8 +11,13 @@ use Rattle.varisat_proof.specs.declared.checker.error.CheckVerdict.{CheckVerdict
 use Rattle.varisat_proof.specs.declared.checker.error.CheckVerdict.TheVariants.{Refutation, Derivation}
 use Rattle.varisat_proof.specs.declared.checker.error.CheckerError.{CheckerError}
 use Rattle.varisat_proof.specs.declared.checker.error.CheckerError.TheVariants.{CheckFailed, NoSuchClause, CoreNotAssumed, Parse, Io, OutOfMemory, Dimacs, Spent}
+use Rattle.varisat_proof.specs.promises.Calls.{CheckerState}
 use Rattle.varisat_proof.specs.promises.DratChecks.{IsDratResult}
 use Rattle.varisat_proof.specs.promises.Verified.{AreGiven, IsMarkedCheck}
+
+-- a checker that was given nothing yet
+abbrev pub new_checker : CheckerState
+new_checker = record { clauses = []; spent = false }
 
 -- 20: the proof refutes; 0: all its lines are right, and refute nothing
 abbrev pub verdict_code : CheckVerdict → ℕ

@@ -1,24 +1,14 @@
 -- The literals of a model or a core that are kept, and what is returned of one of them.
-use Rattle.std.specs.Prelude.{◌≡◌, ℕ, ℤ, pos, Bool, Option, Some, None, List, Result, Ok}
-use Rattle.std.specs.declared.alloc.AllocError.{AllocError}
+use Rattle.std.specs.Prelude.{◌≡◌, ℕ, ℤ, pos, Bool, Some, None, List, Ok}
 use Rattle.varisat_theory.specs.promises.Membership.{◌∈◌}
 use Rattle.varisat_theory.specs.promises.Literals.{Literal, opposite}
 use Rattle.varisat_literals.specs.promises.Numbers.{literal_numbered}
 use Rattle.varisat_client.specs.inside.LiteralSets.{Has, IsSetOf}
-use Rattle.varisat_solver.specs.promises.States.{State}
 use Rattle.varisat_solver.specs.promises.Summaries.{Summary}
 use Rattle.varisat_solver.specs.promises.Represented.{LeadsRepresented}
-use Rattle.varisat_solver.specs.promises.Calls.{ReturnsList, by_state}
-use Rattle.varisat_calls.specs.Callers.{Caller, IsWrongCall, ReturnsSome}
+use Rattle.varisat_calls.specs.Callers.{Caller, IsWrongCall, ReturnsModel, ReturnsCore, ReturnsSome}
 use Rattle.varisat_calls.specs.declared.lookups.Kept.{Kept}
 use Rattle.varisat_calls.specs.declared.lookups.Kept.TheVariants as kept
-
--- what `model` and `failed_core` of the solver may answer
-abbrev pub ReturnsModel : State → Result (Option (List Literal)) AllocError → State → Type 0
-ReturnsModel s r t = ReturnsList (by_state.model s) s r t
-
-abbrev pub ReturnsCore : State → Result (Option (List Literal)) AllocError → State → Type 0
-ReturnsCore s r t = ReturnsList (by_state.core s) s r t
 
 -- the list is the one that `model` returns, or there is one, or none
 abbrev pub IsReturnedModel : Summary → List Literal → Type 0
@@ -40,6 +30,13 @@ GivesCore g = LeadsRepresented g (ReturnsSome ReturnsCore) g
 abbrev pub GivesNoCore : Summary → Type 0
 GivesNoCore g = LeadsRepresented g (λ s t. ReturnsCore s (Ok None) t) g
 
+-- exactly the literals of the model, or of the core, that the solver returns have their flags set
+abbrev pub AreModelFlags : Summary → List Bool → Type 0
+AreModelFlags g flags = (m : List Literal) × IsReturnedModel g m × IsSetOf m flags
+
+abbrev pub AreCoreFlags : Summary → List Bool → Type 0
+AreCoreFlags g flags = (m : List Literal) × IsCore g m × IsSetOf m flags
+
 -- which list has its literals kept, and these as a set
 pub record Lookups : Type 0 where
   pub kept : Kept
@@ -47,8 +44,8 @@ pub record Lookups : Type 0 where
 
 -- what is kept is what the solver returns
 pub record IsCurrent (c : Lookups) (solver : Summary) : Type 0 where
-  pub model : c.kept ≡ kept.Model → (m : List Literal) × IsReturnedModel solver m × IsSetOf m c.literals
-  pub core : c.kept ≡ kept.Core → (m : List Literal) × IsCore solver m × IsSetOf m c.literals
+  pub model : c.kept ≡ kept.Model → AreModelFlags solver c.literals
+  pub core : c.kept ≡ kept.Core → AreCoreFlags solver c.literals
 
 -- 1: the literal is in the set; 0: its opposite is; 15: neither is
 pub data IsValueIn (flags : List Bool) (l : Literal) (n : ℕ) : Type 0 where

@@ -1,5 +1,5 @@
 //! A solver, and what is kept for its caller between calls.
-ghost use Rattle.std.specs.Prelude.{◌≡◌, pos, ◌≤ℤ◌, ◌-◌, ◌^◌, [], None, true, false};
+ghost use Rattle.std.specs.Prelude.{◌≡◌, pos, ◌≤ℤ◌, [], None};
 ghost use Rattle.varisat_literals.specs.promises.Numbers.{variable_numbered};
 ghost use Rattle.varisat_solver.specs.promises.Refusals.{refusal_number};
 ghost use Rattle.varisat_calls.specs.Codes.{answer_number};
@@ -67,16 +67,11 @@ impl<A: Allocator + Copy> Model for Caller<A> {
 }
 
 impl<A: Allocator + Copy> Caller<A> {
-    ghost use Rattle.std.specs.Prelude.{Ok, Err};
-    ghost use Rattle.varisat_solver.specs.promises.States.{State};
-    ghost use Rattle.varisat_solver.specs.inside.Representations.{Represents};
-    ghost use Rattle.varisat_solver.specs.promises.Represented.{LeadsRepresented};
-    ghost use Rattle.varisat_solver.specs.promises.Calls.{AddsClause, Assumes, ReturnsList, ReturnsSteps, ReturnsValid, by_state};
+    ghost use Rattle.varisat_solver.specs.promises.Calls.{AddsClause, Assumes};
     ghost use Rattle.varisat_solver.specs.promises.ProofCalls.{EnablesChecking};
     ghost use Rattle.varisat_solver.specs.promises.Usage.{ChangesMode};
-    ghost use Rattle.varisat_theory.specs.promises.Literals.{IsSatisfiableWith};
     ghost use Rattle.varisat_calls.specs.Codes.{field_numbered, format_numbered, mode_numbered};
-    ghost use Rattle.varisat_calls.specs.Callers.{IsNewCaller, SolverMakes, MakesNumbered, MakesOver, PutsNumber, SetsMaxSteps, SolvesNumbered, NamesNew, SetsField, SetsModeNumbered, ReturnsListOf, ShowsHidden, OpensFormat, ClosesNumbered, TakesWritten};
+    ghost use Rattle.varisat_calls.specs.Callers.{IsNewCaller, SolverMakes, MakesNumbered, MakesOver, PutsNumber, SetsMaxSteps, SolvesNumbered, IsSatisfiableNow, IsUnsatisfiableNow, TellsSteps, TellsValid, NamesNew, SetsField, SetsModeNumbered, ReturnsModel, ReturnsCore, ReturnsListOf, ShowsHidden, OpensFormat, ClosesNumbered, TakesWritten};
     ghost use Rattle.varisat_calls.specs.Lookups.{LooksUpValue, LooksUpFailed};
     ghost use Rattle.varisat_calls.specs.Texts.{text_of, without_clauses, AddsClauses, Feeds, EndsGivenText};
 
@@ -196,10 +191,8 @@ impl<A: Allocator + Copy> Caller<A> {
     /// 10 where the clauses are satisfiable under the assumptions, 20 where they are not, or the number of a refusal.
     pub fn solve(&mut self) -> u8
         ensures call { SolvesNumbered self.old result self.new }
-        ensures satisfiable { result ≡ 10 →
-            (s : State) → Represents self.old.solver s → IsSatisfiableWith s.clauses s.assumptions }
-        ensures unsatisfiable { result ≡ 20 →
-            (s : State) → Represents self.old.solver s → IsSatisfiableWith s.clauses s.assumptions → ⊥ }
+        ensures satisfiable { result ≡ 10 → IsSatisfiableNow self.old }
+        ensures unsatisfiable { result ≡ 20 → IsUnsatisfiableNow self.old }
     {
         self.lookups.forget();
         match self.solver.solve() {
@@ -257,7 +250,7 @@ impl<A: Allocator + Copy> Caller<A> {
 
     /// Tells the model, or 15 where there is none.
     pub fn model(&mut self) -> u8
-        ensures { ReturnsListOf (λ s r t. ReturnsList (by_state.model s) s r t) self.old result self.new }
+        ensures { ReturnsListOf ReturnsModel self.old result self.new }
     {
         match self.solver.model() {
             Ok(Some(lits)) => match list_numbers(&mut self.returned, &lits) {
@@ -271,7 +264,7 @@ impl<A: Allocator + Copy> Caller<A> {
 
     /// Tells the core, or 15 where there is none.
     pub fn core(&mut self) -> u8
-        ensures { ReturnsListOf (λ s r t. ReturnsList (by_state.core s) s r t) self.old result self.new }
+        ensures { ReturnsListOf ReturnsCore self.old result self.new }
     {
         match self.solver.failed_core() {
             Some(core) => match list_numbers(&mut self.returned, core) {
@@ -346,7 +339,7 @@ impl<A: Allocator + Copy> Caller<A> {
 
     /// All steps made.
     pub fn steps(&self) -> u64
-        ensures { LeadsRepresented self.now.solver (λ s t. ReturnsSteps s result t) self.now.solver }
+        ensures { TellsSteps result self.now }
     {
         self.solver.steps()
     }
@@ -368,7 +361,7 @@ impl<A: Allocator + Copy> Caller<A> {
 
     /// Whether no refusal came from which there is no way back.
     pub fn is_valid(&self) -> bool
-        ensures { LeadsRepresented self.now.solver (λ s t. ReturnsValid s result t) self.now.solver }
+        ensures { TellsValid result self.now }
     {
         self.solver.is_valid()
     }

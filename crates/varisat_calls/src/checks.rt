@@ -1,11 +1,11 @@
 //! The check of a proof in memory against a DIMACS text in memory.
-ghost use Rattle.std.specs.Prelude.{◌≡◌, ◌≢◌, [], false, Some, None, Ok, Err, OnOk, IfErr};
+ghost use Rattle.std.specs.Prelude.{◌≡◌, ◌≢◌, false, Some, None, Ok, Err, OnOk, IfErr};
 ghost use Rattle.varisat_theory.specs.promises.Literals.{IsSatisfiable};
 ghost use Rattle.varisat_formula.specs.promises.Dimacs.{dimacs};
 ghost use Rattle.varisat_proof.specs.declared.checker.error.CheckVerdict.TheVariants.{Refutation};
 ghost use Rattle.varisat_calls.specs.Codes.{format_numbered};
 ghost use Rattle.varisat_calls.specs.Texts.{IsRefutedText};
-ghost use Rattle.varisat_calls.specs.Checks.{ReturnsResult, ReturnsDrat, ReturnsMarked, ReturnsCheck, FailsText};
+ghost use Rattle.varisat_calls.specs.Checks.{new_checker, ReturnsResult, ReturnsDrat, ReturnsMarked, ReturnsCheck, FailsText};
 
 use crate::codes::{WRONG, format_of};
 use std::alloc::Allocator;
@@ -64,8 +64,8 @@ fn returned_verdict(verdict: CheckVerdict) -> Returned
 
 /// Adds the clauses of the text to a new checker.
 fn add_text<A: Allocator + Copy>(checker: &mut Checker<A>, text: &[u8]) -> Result<(), CheckerError>
-    requires new { checker.old ≡ record { clauses = []; spent = false } }
-    ensures clauses { OnOk result (checker.new ≡ record { clauses = (dimacs text.now).clauses; spent = false }) }
+    requires new { checker.old ≡ new_checker }
+    ensures clauses { OnOk result (checker.new ≡ record new_checker { clauses = (dimacs text.now).clauses }) }
     ensures fine { OnOk result ((dimacs text.now).fault ≡ None) }
     ensures fails { IfErr result (FailsText text.now) }
 {
@@ -79,7 +79,7 @@ fn check_marked<A: Allocator + Copy>(
     given: &Checker<A>,
     proof: &[u8],
 ) -> Returned
-    requires new { checker.old ≡ record { clauses = []; spent = false } }
+    requires new { checker.old ≡ new_checker }
     ensures returns { ReturnsMarked given.now.clauses proof.now result.number result.place }
     ensures sound { result.number ≡ 20 → IsSatisfiable given.now.clauses → ⊥ }
 {
@@ -123,8 +123,8 @@ fn check_with<A: Allocator + Copy>(
     text: &[u8],
     proof: &[u8],
 ) -> Returned
-    requires given_new { given.old ≡ record { clauses = []; spent = false } }
-    requires checker_new { checker.old ≡ record { clauses = []; spent = false } }
+    requires given_new { given.old ≡ new_checker }
+    requires checker_new { checker.old ≡ new_checker }
     ensures returns { ReturnsCheck (Some format) text.now proof.now result.number result.place }
     ensures sound { result.number ≡ 20 → IsRefutedText text.now }
 {

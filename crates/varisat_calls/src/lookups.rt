@@ -1,9 +1,8 @@
 //! The literals of a model or a core, kept so that each is looked up in one step.
-ghost use Rattle.std.specs.Prelude.{◌≡◌, ◌↔◌, IsTrue, true, false, OnOk, OnErr, Ok, List};
-ghost use Rattle.varisat_theory.specs.promises.Literals.{Literal};
-ghost use Rattle.varisat_client.specs.inside.LiteralSets.{Has, IsSetOf};
+ghost use Rattle.std.specs.Prelude.{◌≡◌, true, false, OnOk, OnErr, Ok};
+ghost use Rattle.varisat_client.specs.inside.LiteralSets.{IsSetOf};
 ghost use Rattle.varisat_solver.specs.promises.Summaries.{Summary};
-ghost use Rattle.varisat_calls.specs.Lookups.{IsCurrent, IsValueIn, IsMember, IsReturnedModel, IsCore, GivesModel, GivesNoModel, GivesCore, GivesNoCore};
+ghost use Rattle.varisat_calls.specs.Lookups.{IsCurrent, IsValueIn, IsMember, AreModelFlags, AreCoreFlags, GivesModel, GivesNoModel, GivesCore, GivesNoCore};
 ghost use Rattle.varisat_calls.specs.declared.lookups.Kept.TheVariants.{Nothing};
 
 use crate::codes::NOTHING;
@@ -70,7 +69,7 @@ impl<A: Allocator + Copy> Lookups<A> {
     pub fn find_model(&mut self, solver: &Solver<StreamTarget<A>, A>) -> Result<bool, AllocError>
         requires { IsCurrent self.old solver.now }
         ensures current { IsCurrent self.new solver.now }
-        ensures model { result ≡ Ok true → (m : List Literal) × IsReturnedModel solver.now m × IsSetOf m self.new.literals }
+        ensures model { result ≡ Ok true → AreModelFlags solver.now self.new.literals }
         ensures none { result ≡ Ok false → GivesNoModel solver.now }
         ensures lost { OnErr result (GivesModel solver.now) }
     {
@@ -91,7 +90,7 @@ impl<A: Allocator + Copy> Lookups<A> {
     pub fn find_core(&mut self, solver: &Solver<StreamTarget<A>, A>) -> Result<bool, AllocError>
         requires { IsCurrent self.old solver.now }
         ensures current { IsCurrent self.new solver.now }
-        ensures core { result ≡ Ok true → (m : List Literal) × IsCore solver.now m × IsSetOf m self.new.literals }
+        ensures core { result ≡ Ok true → AreCoreFlags solver.now self.new.literals }
         ensures none { result ≡ Ok false → GivesNoCore solver.now }
         ensures lost { OnErr result (GivesCore solver.now) }
     {

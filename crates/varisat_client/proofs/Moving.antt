@@ -22,10 +22,10 @@ use Rattle.varisat_client.specs.declared.client.SearchEnd.TheVariants as end
 use Rattle.varisat_client.specs.declared.refusal.Refusal.{Refusal}
 use Rattle.varisat_client.specs.declared.refusal.Refusal.TheVariants.{OutOfMemory, ClauseStoreFull}
 use Rattle.varisat_client.specs.inside.Refusals.{refusal_for}
-use Rattle.varisat_client.specs.inside.LiteralSets.{Has, IsSetOf}
+use Rattle.varisat_client.specs.inside.LiteralSets.{Has}
 use Rattle.varisat_client.specs.promises.Pasts.{ClientPast, empty_client_past, refuse, count, Again, Memory, AddsNumber, AssumesNumber, Begins, LimitsSteps, IsSearchEnd, ReturnsFailed}
 use Rattle.varisat_client.specs.promises.Pasts as past
-use Rattle.varisat_client.specs.inside.Clients.{first_state, Client, HoldsPast, RepresentsPast, Moves, KeepsModel, KeepsCore}
+use Rattle.varisat_client.specs.inside.Clients.{first_state, Client, IsSetOfModel, IsSetOfCore, HoldsPast, RepresentsPast, Moves, KeepsModel, KeepsCore}
 use Rattle.varisat_client.specs.inside.Clients as client
 use Rattle.varisat_client.proofs.Fitting as fitting
 use Rattle.varisat_client.proofs.Refusing.{none-past-limit, is-full, clause-refused, list-refused, list-stored, search-refused, never-refused}
@@ -37,7 +37,7 @@ stands-free : (g : Client) (p : ClientPast) → g.refusal ≡ p.refusal → p.re
 stands-free g p e free k = record { refusal = e; full = λ f. absurd (let z : None ≡ Some ClauseStoreFull = sym free ∙ f in cc); holds = λ _. k }
 
 -- nothing was given yet
-pub is-new : (g : Client) → g.refusal ≡ None → Represents g.solver first_state → g.clause ≡ [] → g.assumptions ≡ [] → IsSetOf [] g.model → IsSetOf [] g.core →
+pub is-new : (g : Client) → g.refusal ≡ None → Represents g.solver first_state → g.clause ≡ [] → g.assumptions ≡ [] → IsSetOfModel [] g → IsSetOfCore [] g →
     RepresentsPast g empty_client_past
 is-new g r s c a m k = stands-free g empty_client_past r refl (record {
   state = first_state;
@@ -169,8 +169,8 @@ put-literal n g h z e put q p st =
         since = k.since;
         clause = put ∙ ap (λ (ls : List Literal). ls ++ literal_numbered n ∷ []) k.clause;
         assumptions = ap (λ (x : Client). x.assumptions) q ∙ k.assumptions;
-        model = subst (λ (x : Client). IsSetOf p.model x.model) (sym q) k.model;
-        core = subst (λ (x : Client). IsSetOf p.core x.core) (sym q) k.core;
+        model = subst (IsSetOfModel p.model) (sym q) k.model;
+        core = subst (IsSetOfCore p.core) (sym q) k.core;
       }),
     )
 
@@ -191,8 +191,8 @@ put-assumption n g h z e put q p st =
         since = k.since;
         clause = ap (λ (x : Client). x.clause) q ∙ k.clause;
         assumptions = put ∙ ap (λ (ls : List Literal). ls ++ literal_numbered n ∷ []) k.assumptions;
-        model = subst (λ (x : Client). IsSetOf p.model x.model) (sym q) k.model;
-        core = subst (λ (x : Client). IsSetOf p.core x.core) (sym q) k.core;
+        model = subst (IsSetOfModel p.model) (sym q) k.model;
+        core = subst (IsSetOfCore p.core) (sym q) k.core;
       }),
     )
 
@@ -221,8 +221,8 @@ ends-clause n g h d z e own call none q p st =
         since = fitting.since-added k.state t d adds;
         clause = none;
         assumptions = ap (λ (x : Client). x.assumptions) q ∙ k.assumptions;
-        model = subst (λ (x : Client). IsSetOf p.model x.model) (sym q) k.model;
-        core = subst (λ (x : Client). IsSetOf p.core x.core) (sym q) k.core;
+        model = subst (IsSetOfModel p.model) (sym q) k.model;
+        core = subst (IsSetOfCore p.core) (sym q) k.core;
       }),
     )
 
@@ -245,8 +245,8 @@ begins-search g h d e own call none q p st =
         since = fitting.since-begun k.state t d assumes;
         clause = ap (λ (x : Client). x.clause) q ∙ k.clause;
         assumptions = none;
-        model = subst (λ (x : Client). IsSetOf p.model x.model) (sym q) k.model;
-        core = subst (λ (x : Client). IsSetOf p.core x.core) (sym q) k.core;
+        model = subst (IsSetOfModel p.model) (sym q) k.model;
+        core = subst (IsSetOfCore p.core) (sym q) k.core;
       }),
     )
 
@@ -269,8 +269,8 @@ limits-steps steps u g h e given call q p st =
         since = fitting.since-limited k.state t u configures;
         clause = ap (λ (x : Client). x.clause) q ∙ k.clause;
         assumptions = ap (λ (x : Client). x.assumptions) q ∙ k.assumptions;
-        model = subst (λ (x : Client). IsSetOf p.model x.model) (sym q) k.model;
-        core = subst (λ (x : Client). IsSetOf p.core x.core) (sym q) k.core;
+        model = subst (IsSetOfModel p.model) (sym q) k.model;
+        core = subst (IsSetOfCore p.core) (sym q) k.core;
       }),
     )
 
@@ -308,7 +308,7 @@ finds-model r g m h e q call (client.Kept list found tells set o) = λ p st.
         clause = ap (λ (x : Client). x.clause) o ∙ ap (λ (x : Client). x.clause) q ∙ k.clause;
         assumptions = ap (λ (x : Client). x.assumptions) o ∙ ap (λ (x : Client). x.assumptions) q ∙ k.assumptions;
         model = set;
-        core = subst (λ (x : Client). IsSetOf p.core x.core) (sym (o ∙ ap (λ (x : Client). record x { model = h.model }) q)) k.core;
+        core = subst (IsSetOfCore p.core) (sym (o ∙ ap (λ (x : Client). record x { model = h.model }) q)) k.core;
       }),
     )
 
@@ -334,7 +334,7 @@ finds-core r g m h e q call (client.Kept core found tells set o) = λ p st.
         since = fitting.since-decided k.state t false p.since solves k.since;
         clause = ap (λ (x : Client). x.clause) o ∙ ap (λ (x : Client). x.clause) q ∙ k.clause;
         assumptions = ap (λ (x : Client). x.assumptions) o ∙ ap (λ (x : Client). x.assumptions) q ∙ k.assumptions;
-        model = subst (λ (x : Client). IsSetOf p.model x.model) (sym (o ∙ ap (λ (x : Client). record x { core = h.core }) q)) k.model;
+        model = subst (IsSetOfModel p.model) (sym (o ∙ ap (λ (x : Client). record x { core = h.core }) q)) k.model;
         core = set;
       }),
     )
@@ -359,8 +359,8 @@ spends-steps g h e q call p st =
         since = fitting.since-spent k.state t solves;
         clause = ap (λ (x : Client). x.clause) q ∙ k.clause;
         assumptions = ap (λ (x : Client). x.assumptions) q ∙ k.assumptions;
-        model = subst (λ (x : Client). IsSetOf p.model x.model) (sym q) k.model;
-        core = subst (λ (x : Client). IsSetOf p.core x.core) (sym q) k.core;
+        model = subst (IsSetOfModel p.model) (sym q) k.model;
+        core = subst (IsSetOfCore p.core) (sym q) k.core;
       }),
     )
 

@@ -73,8 +73,8 @@ impl<A: Allocator + Copy> Model for Client<A> {
 }
 
 impl<A: Allocator + Copy> Client<A> {
-    ghost use Rattle.varisat_client.specs.promises.Pasts.{ClientPast, empty_client_past, AddsNumber, AssumesNumber, Begins, LimitsSteps, IsSearchEnd, ReturnsValue, ReturnsFailed};
-    ghost use Rattle.varisat_client.specs.inside.Clients.{RepresentsPast, Moves, RunsOutOfMemory, KeepsModel, KeepsCore};
+    ghost use Rattle.varisat_client.specs.promises.Pasts.{empty_client_past, AddsNumber, AssumesNumber, Begins, LimitsSteps, IsSearchEnd, ReturnsValue, ReturnsFailed};
+    ghost use Rattle.varisat_client.specs.inside.Clients.{RepresentsPast, IsTrueOfPast, Moves, RunsOutOfMemory, KeepsModel, KeepsCore};
 
     /// A client with a new solver. It takes no memory.
     pub fn new_in(alloc: A) -> Client<A>
@@ -155,7 +155,7 @@ impl<A: Allocator + Copy> Client<A> {
 
     /// How many steps all searches made together, as long as no call was refused.
     pub fn steps(&self) -> u64
-        ensures { (p : ClientPast) → RepresentsPast self.now p → p.refusal ≡ None → result ≡ p.steps }
+        ensures { IsTrueOfPast (λ p. p.refusal ≡ None → result ≡ p.steps) self.now }
     {
         self.solver.steps()
     }
@@ -215,7 +215,7 @@ impl<A: Allocator + Copy> Client<A> {
 
     /// The number where its literal is true in the model that was found last, the opposite number where that is, else 0.
     pub fn value(&self, number: i32) -> i32
-        ensures { (p : ClientPast) → RepresentsPast self.now p → ReturnsValue number result p }
+        ensures { IsTrueOfPast (ReturnsValue number result) self.now }
     {
         if self.refusal.is_some() {
             return 0;
@@ -235,7 +235,7 @@ impl<A: Allocator + Copy> Client<A> {
 
     /// Whether the literal of the number is in the core that was found last.
     pub fn has_failed(&self, number: i32) -> bool
-        ensures { (p : ClientPast) → RepresentsPast self.now p → ReturnsFailed number result p }
+        ensures { IsTrueOfPast (ReturnsFailed number result) self.now }
     {
         if self.refusal.is_some() {
             return false;
@@ -248,7 +248,7 @@ impl<A: Allocator + Copy> Client<A> {
 
     /// Why calls are refused, if they are.
     pub fn refusal(&self) -> Option<Refusal>
-        ensures { (p : ClientPast) → RepresentsPast self.now p → result ≡ p.refusal }
+        ensures { IsTrueOfPast (λ p. result ≡ p.refusal) self.now }
     {
         self.refusal
     }

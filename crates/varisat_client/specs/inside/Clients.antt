@@ -37,6 +37,13 @@ pub record Client : Type 0 where
   pub core : List Bool
   pub refusal : Option Refusal
 
+-- exactly these literals are in the set that is held of the last model, or of the last core
+abbrev pub IsSetOfModel : List Literal → Client → Type 0
+IsSetOfModel ls g = IsSetOf ls g.model
+
+abbrev pub IsSetOfCore : List Literal → Client → Type 0
+IsSetOfCore ls g = IsSetOf ls g.core
+
 -- The state of the solver has the clauses P that were given to their end, and the assumptions A; it made so many steps in all, and may
 -- make `most` in one call. No proof is open. As no name is ever freed, names are in order, and each literal stands for itself.
 pub record WasGiven (s : State) (P : List Clause) (A : List Literal) (made most : ℕ) : Type 0 where
@@ -77,8 +84,8 @@ pub record HoldsPast (g : Client) (p : ClientPast) : Type 0 where
   pub since : MadeFewSince state p.since
   pub clause : g.clause ≡ p.clause
   pub assumptions : g.assumptions ≡ p.assumptions
-  pub model : IsSetOf p.model g.model
-  pub core : IsSetOf p.core g.core
+  pub model : IsSetOfModel p.model g
+  pub core : IsSetOfCore p.core g
 
 -- The client represents the past. Of one that refused a call only the reason is known, and where that is a full store of clauses, that
 -- a clause of all variables of the search would bring it to 2^32 words or more.
@@ -86,6 +93,10 @@ pub record RepresentsPast (g : Client) (p : ClientPast) : Type 0 where
   pub refusal : g.refusal ≡ p.refusal
   pub full : p.refusal ≡ Some ClauseStoreFull → HasFullStore g.solver
   pub holds : p.refusal ≡ None → HoldsPast g p
+
+-- What is said holds of any past that the client stands for.
+abbrev pub IsTrueOfPast : (ClientPast → Type 0) → Client → Type 0
+IsTrueOfPast P g = (p : ClientPast) → RepresentsPast g p → P p
 
 -- The call moves any past that the client stands for so.
 abbrev pub Moves : (ClientPast → ClientPast → Type 0) → Client → Client → Type 0
@@ -101,7 +112,7 @@ pub data KeepsModel (r : SearchEnd) (g h : Client) : Type 0 where
   Refused : RunsOutOfMemory r h → KeepsModel r g h
   Kept : (m : List Literal) → r ≡ end.Satisfiable →
       ((s : State) → Represents g.solver s → IsCompletable s.naming s.clauses s.assumptions s.counted m) →
-      IsSetOf m h.model → h ≡ record g { model = h.model } → KeepsModel r g h
+      IsSetOfModel m h → h ≡ record g { model = h.model } → KeepsModel r g h
 
 -- The core is kept that the solver returns, or memory ran out.
 pub data KeepsCore (r : SearchEnd) (g h : Client) : Type 0 where
@@ -109,4 +120,4 @@ pub data KeepsCore (r : SearchEnd) (g h : Client) : Type 0 where
   Kept : (core : List Literal) → r ≡ end.Unsatisfiable →
       ((s : State) → Represents g.solver s →
       AreNamesInUse s.naming core × IsFailedCore s.clauses s.assumptions (map (through_names s.naming) core)) →
-      IsSetOf core h.core → h ≡ record g { core = h.core } → KeepsCore r g h
+      IsSetOfCore core h → h ≡ record g { core = h.core } → KeepsCore r g h

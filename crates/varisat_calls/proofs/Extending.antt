@@ -1,5 +1,5 @@
 -- Values by the literals of a model, and what is made of them.
-use Rattle.std.proofs.Common.{◌≡◌, ◌<◌, ◌/◌, ◌⊎◌, ℕ, List, [], ◌∷◌, inl, inr, refl, sym, subst}
+use Rattle.std.proofs.Common.{◌≡◌, ◌<◌, ◌/◌, ℕ, List, [], ◌∷◌, inl, inr, refl, sym, subst}
 use Rattle.varisat_theory.specs.promises.Membership.{◌∈◌}
 use Rattle.varisat_theory.specs.promises.Literals.{Literal, Clause, SatisfiesAll}
 use Rattle.varisat_theory.specs.promises.Derivations.{Line}
@@ -7,9 +7,8 @@ use Rattle.varisat_formula.specs.promises.Formulas.{Formula, AllBelow, AreBelow}
 use Rattle.varisat_formula.specs.promises.Values.{assignment_of, model_values}
 use Rattle.varisat_formula.proofs.ValueLemmas.{length-model, model-true}
 use Rattle.varisat_rules.specs.promises.Stacks.{extended}
-use Rattle.varisat_theory.specs.promises.Held.{SameClauses}
-use Rattle.varisat_simplify.specs.promises.Simplified.{IsMadeOf, IsShorter}
-use Rattle.varisat_calls.specs.Simplifiers.{SimplifiedFormula, Simplifier, SimplifiesFormula, IsModelOf, IsExtension}
+use Rattle.varisat_simplify.specs.promises.Simplified.{IsMadeOf}
+use Rattle.varisat_calls.specs.Simplifiers.{SimplifiedFormula, Simplifier, AreNoLonger, SimplifiesFormula, IsModelOf, IsExtension}
 
 literal_below : (n : ℕ) (c : Clause) (l : Literal) → AllBelow n c → l ∈ c → l / 2 < n
 literal_below n [] l b i = absurd i
@@ -36,18 +35,17 @@ pub extension : (g : Simplifier) (m : SimplifiedFormula) (ls : List Literal) →
     IsExtension g m ls (extended m.stack (model_values g.given.var_count ls))
 extension g m ls s =
     let n = g.given.var_count in
-    let vs = model_values n ls in
-    let whole = λ (t : SatisfiesAll (assignment_of vs) m.left.clauses). s.made.1.extends vs
-    (subst (λ k. AreBelow k g.given.clauses) (sym (length-model n ls)) s.below) t in
     record {
-      extends = record { same = refl; satisfies = whole; frozen = λ v f. s.keeps vs v f; left = λ v h. s.made.1.kept vs v h };
-      model = λ is. whole (model_satisfies n ls m.left.clauses
+      simplified = s;
+      values = refl;
+      model = λ is. s.made.1.extends (model_values n ls) (subst (λ k. AreBelow k g.given.clauses) (sym (length-model n ls)) s.below)
+          (model_satisfies n ls m.left.clauses
           (λ c l i j. let (d, in_P, in_d) = s.made.1.named c l i j in named_below n g.given.clauses d l s.below in_P in_d) is);
     }
 
 -- what is shorter than a copy, or the same, is so beside the formula
-pub shorter_of_copy : (copy P Q : List Clause) → copy ≡ P → SameClauses Q copy ⊎ IsShorter Q copy → SameClauses Q P ⊎ IsShorter Q P
-shorter_of_copy copy P Q e = subst (λ (cs : List Clause). SameClauses Q cs ⊎ IsShorter Q cs) e
+pub shorter_of_copy : (copy P Q : List Clause) → copy ≡ P → AreNoLonger Q copy → AreNoLonger Q P
+shorter_of_copy copy P Q e = subst (AreNoLonger Q) e
 
 -- what was made of a copy was made of the formula
 pub made_of_copy : (f copy g : Formula) (stack : List Clause) (lines : List Line) → copy.clauses ≡ f.clauses → IsMadeOf copy g stack lines →

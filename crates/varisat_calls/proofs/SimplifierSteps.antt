@@ -1,17 +1,16 @@
 -- What the calls of a simplifier make of it, over its fields.
-use Rattle.std.proofs.Common.{◌≡◌, ◌⊎◌, ◌≤◌, ◌^◌, ℕ, ℤ, pos, Bool, true, false, List, [], length, map, refl, sym, ap, subst, ◌∙◌}
+use Rattle.std.proofs.Common.{◌≡◌, ◌≤◌, ◌^◌, ℕ, ℤ, pos, Bool, true, false, List, [], length, map, refl, sym, ap, subst, ◌∙◌}
 use Rattle.std.specs.Prelude.{Option, Some, None, is_some, IfSome, unwrap_or}
 use Rattle.varisat_theory.specs.promises.Membership.{◌∈◌}
 use Rattle.varisat_theory.specs.promises.Literals.{Literal, Clause}
 use Rattle.varisat_theory.specs.promises.Derivations.{Line}
-use Rattle.varisat_theory.specs.promises.Held.{SameClauses}
 use Rattle.varisat_literals.specs.promises.Numbers.{literal_numbered}
 use Rattle.varisat_formula.specs.promises.Formulas.{Formula, AreBelow}
 use Rattle.varisat_rules.specs.promises.Stacks.{extended, KeepsFrozen}
-use Rattle.varisat_simplify.specs.promises.Simplified.{IsMadeOf, IsShorter}
+use Rattle.varisat_simplify.specs.promises.Simplified.{IsMadeOf}
 use Rattle.varisat_formula.specs.promises.Values.{model_values}
 use Rattle.varisat_calls.specs.Lists.{clause_numbers, value_numbers}
-use Rattle.varisat_calls.specs.Simplifiers.{SimplifiedFormula, Simplifier, made_of, given_of, SimplifiesFormula, Simplifies, Simplified, ListsClauses, Listed, NoRoom, Extends, Extended}
+use Rattle.varisat_calls.specs.Simplifiers.{SimplifiedFormula, Simplifier, made_of, given_of, AreNoLonger, SimplifiesFormula, Simplifies, Simplified, ListsClauses, Listed, NoRoom, Extends, Extended}
 use Rattle.varisat_formula.proofs.ValueLemmas.{length-model}
 use Rattle.varisat_rules.proofs.ExtendLemmas.{extended_length}
 use Rattle.varisat_calls.proofs.Extending.{extension}
@@ -32,7 +31,7 @@ few_values stack n ls vs h e =
 
 pub simplified-now : (old : Option (List Clause)) (f left : Formula) (n count : ℕ) (before cs : List Clause) (frozen flags : List Bool)
     (list : List ℤ) (stack : List Clause) (lines : List Line) → is_some old ≡ false → count ≡ f.var_count → cs ≡ f.clauses →
-    IsMadeOf f left stack lines → flags ≡ frozen → KeepsFrozen flags stack → SameClauses left.clauses f.clauses ⊎ IsShorter left.clauses f.clauses → AreBelow f.var_count f.clauses → count ≤ 2 ^ 31 →
+    IsMadeOf f left stack lines → flags ≡ frozen → KeepsFrozen flags stack → AreNoLonger left.clauses f.clauses → AreBelow f.var_count f.clauses → count ≤ 2 ^ 31 →
     Simplifies (simplifier_of old f n before frozen list) 0 (simplifier_of (Some stack) left count cs frozen list)
 simplified-now (Some x) f left n count before cs frozen flags list stack lines none e q made same keeps short below small = absurd (cc)
 simplified-now None f left n count before cs frozen flags list stack lines none e q made same keeps short below small =

@@ -10,7 +10,6 @@ use Rattle.varisat_formula.specs.promises.Formulas.{Formula, no_clauses, with_on
 use Rattle.varisat_formula.specs.promises.Values.{assignment_of, model_values}
 use Rattle.varisat_rules.specs.promises.Stacks.{extended, KeepsFrozen}
 use Rattle.varisat_theory.specs.promises.Held.{SameClauses}
-use Rattle.varisat_rules.specs.promises.Leading.{HasVariable}
 use Rattle.varisat_simplify.specs.promises.Simplified.{IsMadeOf, IsShorter}
 use Rattle.varisat_calls.specs.Lists.{AreWithinLimit, clause_numbers, value_numbers}
 
@@ -41,13 +40,17 @@ abbrev pub given_of : Option (List Clause) → Formula → ℕ → List Clause �
 given_of None f n cs = f
 given_of (Some stack) f n cs = record { var_count = n; clauses = cs }
 
+-- the clauses Q are those of P, or have fewer literals
+abbrev pub AreNoLonger : List Clause → List Clause → Type 0
+AreNoLonger Q P = SameClauses Q P ⊎ IsShorter Q P
+
 -- What was made of the formula while these variables were frozen: what satisfies it satisfies what is left, and values that satisfy
--- what is left are extended to ones that satisfy it, where no frozen variable has another value. Its clauses are the same, or have fewer
--- literals.
+-- what is left are extended to ones that satisfy it, where no frozen variable has another value, nor one of the clauses that are
+-- left. Its clauses are the same, or have fewer literals.
 pub record SimplifiesFormula (g : Formula) (frozen : List Bool) (m : SimplifiedFormula) : Type 0 where
   pub made : (lines : List Line) × IsMadeOf g m.left m.stack lines
   pub keeps : KeepsFrozen frozen m.stack
-  pub shorter : SameClauses m.left.clauses g.clauses ⊎ IsShorter m.left.clauses g.clauses
+  pub shorter : AreNoLonger m.left.clauses g.clauses
   pub below : AreBelow g.var_count g.clauses
   pub small : g.var_count ≤ 2 ^ 31
 
@@ -99,18 +102,11 @@ pub record IsModelOf (P : List Clause) (ls : List Literal) : Type 0 where
   pub meets : (c : Clause) → c ∈ P → (l : Literal) × (l ∈ c) × (l ∈ ls)
   pub apart : (l : Literal) → l ∈ ls → opposite l ∈ ls → ⊥
 
--- What is made of values of all variables up to the highest that was given: where they satisfy what is left it satisfies the clauses
--- that were given, and no frozen variable has another value, nor one of the clauses that are left.
-pub record ExtendsValues (g : Formula) (flags : List Bool) (m : SimplifiedFormula) (vs ws : List Bool) : Type 0 where
-  pub same : ws ≡ extended m.stack vs
-  pub satisfies : SatisfiesAll (assignment_of vs) m.left.clauses → SatisfiesAll (assignment_of ws) g.clauses
-  pub frozen : (v : ℕ) → slice_index_or flags v false ≡ true → slice_index_or ws v false ≡ slice_index_or vs v false
-  pub left : (v : ℕ) → HasVariable m.left.clauses v → slice_index_or ws v false ≡ slice_index_or vs v false
-
--- Values of all variables up to the highest that was given are listed, which are made of those by the literals of the numbers. They satisfy
--- the clauses that were given where the literals are a model of those that are left.
+-- The values that the literals give all variables up to the highest that was given are extended by the stack. They satisfy the
+-- clauses that were given where the literals are a model of those that are left.
 pub record IsExtension (g : Simplifier) (m : SimplifiedFormula) (ls : List Literal) (ws : List Bool) : Type 0 where
-  pub extends : ExtendsValues g.given g.frozen m (model_values g.given.var_count ls) ws
+  pub simplified : SimplifiesFormula g.given g.frozen m
+  pub values : ws ≡ extended m.stack (model_values g.given.var_count ls)
   pub model : IsModelOf m.left.clauses ls → SatisfiesAll (assignment_of ws) g.given.clauses
 
 -- A model of the clauses that are left is extended to one of those that were given.

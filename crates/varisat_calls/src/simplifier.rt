@@ -1,10 +1,10 @@
 //! Clauses that are simplified before a solver is given them.
 ghost use Rattle.std.specs.Prelude.{◌≡◌, ◌⊎◌, ◌≤◌, ◌<◌, ◌^◌, IfOk, OnOk};
 ghost use Rattle.varisat_rules.specs.promises.Stacks.{extended, KeepsFrozen};
-ghost use Rattle.varisat_simplify.specs.promises.Simplified.{IsMadeOf, IsShorter};
-ghost use Rattle.varisat_theory.specs.promises.Held.{SameClauses};
+ghost use Rattle.varisat_simplify.specs.promises.Simplified.{IsMadeOf};
 ghost use Rattle.varisat_formula.specs.promises.Values.{model_values};
 ghost use Rattle.varisat_calls.specs.Lists.{value_numbers};
+ghost use Rattle.varisat_calls.specs.Simplifiers.{AreNoLonger};
 
 use crate::codes::{DONE, NOTHING, OUT_OF_MEMORY, TOO_LATE, VARIABLE_LIMIT, WRONG};
 use crate::given::GivenClauses;
@@ -41,8 +41,7 @@ fn simplified<A: Allocator + Copy>(
 ) -> Result<Simplified<A>, FormulaError>
     ensures made { IfOk result (λ s. IsMadeOf formula.now s.formula s.stack s.history.lines) }
     ensures frozen { IfOk result (λ s. KeepsFrozen frozen.now s.stack) }
-    ensures shorter { IfOk result (λ s.
-        SameClauses s.formula.clauses formula.now.clauses ⊎ IsShorter s.formula.clauses formula.now.clauses) }
+    ensures shorter { IfOk result (λ s. AreNoLonger s.formula.clauses formula.now.clauses) }
 {
     let copy = copy_of(alloc, formula)?;
     let made = simplify(alloc, copy, frozen)?;

@@ -1,6 +1,5 @@
 -- What a handle owns.
 use Rattle.std.specs.Prelude.{Option}
-use mir.Syntax.{Ty}
 use base.Fml.{Fml}
 use denote.RattleType.{RattleType}
 use denote.RawPtr.{Ptr}

@@ -1,5 +1,5 @@
 //! A client of the solver for C programs: each call takes a handle, behind which a client stands.
-ghost use Rattle.std.specs.Prelude.{◌≡◌, ◌↔◌, Some, None, IsSome, IsTrue, IfSome};
+ghost use Rattle.std.specs.Prelude.{◌≡◌, ◌↔◌, None, IsSome, IsTrue, IfSome};
 ghost use Rattle.varisat_client.specs.promises.Pasts.{empty_client_past, AddsNumber, AssumesNumber, Begins, LimitsSteps, ReturnsValue, ReturnsFailed};
 ghost use Rattle.varisat_client.specs.inside.Clients.{RepresentsPast, IsTrueOfPast, Moves};
 ghost use Rattle.varisat_c.specs.Ends.{SearchesBy, refusal_code};
@@ -118,8 +118,8 @@ pub extern "C" fn client_has_failed(alloc: Global, handle: &mut ClientHandle, nu
     failed
 }
 
-/// Why calls are refused: 0 where they are not, 1 since memory ran out, 2 since a variable is past 2^28, 3 since the store
-/// of clauses is full.
+/// Why calls are refused: 0 where they are not, 1 since memory ran out, 2 since a variable is past 2^28, 3 since the
+/// store of clauses is full.
 #[unsafe(no_mangle)]
 pub extern "C" fn client_refusal(alloc: Global, handle: &mut ClientHandle) -> u8
     requires { IsSome handle.old.held }

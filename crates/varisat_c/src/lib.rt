@@ -2,7 +2,7 @@
 //! them and those of `simplifier`, and `contrib/c/ipasir.c` those of `client`.
 #![tactic(auto)]
 
-ghost use Rattle.std.specs.Prelude.{◌≡◌, ◌↔◌, ◌≤◌, min, length, take, drop, Some, None, IsSome, IsTrue, IfSome};
+ghost use Rattle.std.specs.Prelude.{◌≡◌, ◌↔◌, ◌≤◌, min, length, take, drop, None, IsSome, IsTrue, IfSome};
 ghost use Rattle.varisat_solver.specs.promises.Calls.{AddsClause, Assumes};
 ghost use Rattle.varisat_solver.specs.promises.ProofCalls.{EnablesChecking};
 ghost use Rattle.varisat_calls.specs.Codes.{field_numbered, format_numbered, mode_numbered};
@@ -142,7 +142,7 @@ pub extern "C" fn caller_limit_steps(alloc: Global, handle: &mut Handle, steps: 
     handle.put(alloc, caller);
 }
 
-/// Searches: 10 where the clauses are satisfiable under the assumptions, 20 where they are not, or the number of a refusal.
+/// Searches: 10 where the clauses are satisfiable under the assumptions, 20 where they are not, or a refusal's number.
 #[unsafe(no_mangle)]
 pub extern "C" fn caller_solve(alloc: Global, handle: &mut Handle) -> u8
     requires { IsSome handle.old.held }
@@ -205,8 +205,8 @@ pub extern "C" fn caller_core(alloc: Global, handle: &mut Handle) -> u8
     answer
 }
 
-/// 1 where the literal of the number is true in the model, 0 where it is false, 15 where there is no model or it has no such
-/// variable.
+/// 1 where the literal of the number is true in the model, 0 where it is false, 15 where there is no model or it
+/// has no such variable.
 #[unsafe(no_mangle)]
 pub extern "C" fn caller_value(alloc: Global, handle: &mut Handle, number: i32) -> u8
     requires { IsSome handle.old.held }
@@ -405,7 +405,8 @@ pub extern "C" fn caller_refusal_copy(alloc: Global, handle: &mut Handle, out: &
     answer
 }
 
-/// Checks a proof against a DIMACS text: 20 where it refutes the clauses, 0 where all lines are right, else what is wrong and where.
+/// Checks a proof against a DIMACS text: 20 where it refutes the clauses, 0 where all lines are right, else what is
+/// wrong and where.
 #[unsafe(no_mangle)]
 pub extern "C" fn caller_check(
     alloc: Global,

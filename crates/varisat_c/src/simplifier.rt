@@ -1,5 +1,5 @@
 //! A simplifier of clauses for C programs: each call takes a handle, behind which a simplifier stands.
-ghost use Rattle.std.specs.Prelude.{◌≡◌, ◌↔◌, min, length, take, drop, Some, None, IsSome, IsTrue, IfSome};
+ghost use Rattle.std.specs.Prelude.{◌≡◌, ◌↔◌, min, length, take, drop, None, IsSome, IsTrue, IfSome};
 ghost use Rattle.varisat_calls.specs.Simplifiers.{nothing_given, Adds, Freezes, Simplifies, ListsClauses, Extends};
 ghost use Rattle.varisat_c.specs.Slots.{MovesHeld, IsTrueBehind};
 

@@ -1,6 +1,6 @@
--- What a caller holds, and what the number of a call's answer says: the relation that the call of `Solver` has, over the literals of
--- the numbers given. Numbers of answers are 0, those of the solver's refusals, 14 where what was given is none of what it should be,
--- and 15 where there is nothing to return.
+-- What a caller holds, and what the number of a call's answer says: the relation that the call of `Solver` has, over
+-- the literals of the numbers given. Numbers of answers are 0, those of the solver's refusals, 14 where what was given
+-- is none of what it should be, and 15 where there is nothing to return.
 use Rattle.std.specs.Prelude.{◌≡◌, ◌⊎◌, ℕ, ℤ, pos, ◌<ℤ◌, ◌≤ℤ◌, Bool, true, false, Option, Some, None, IsSome, List, [], ◌∷◌, ◌++◌, Result, Ok, Err, map}
 use Rattle.std.specs.declared.alloc.AllocError.{AllocError}
 use Rattle.varisat_theory.specs.promises.Membership.{◌∈◌}
@@ -24,9 +24,9 @@ use Rattle.varisat_solver.specs.declared.solver.SolverError.{SolverError}
 use Rattle.varisat_calls.specs.Numbers.{returned_numbers, returned_names}
 use Rattle.varisat_calls.specs.Codes.{answer_number, verdict_number, numbered}
 
--- The solver; what was given of the clause that is given a literal at a time, unless one of its literals found no memory; the numbers
--- of the list that was returned last; how far the DIMACS text came that is being given, if one is; and the bytes that were taken out
--- of a proof last.
+-- The solver; what was given of the clause that is given a literal at a time, unless one of its literals found no
+-- memory; the numbers of the list that was returned last; how far the DIMACS text came that is being given, if one is;
+-- and the bytes that were taken out of a proof last.
 pub record Caller : Type 0 where
   pub solver : Summary
   pub clause : Option (List Literal)
@@ -70,7 +70,8 @@ abbrev pub over : List ℤ → (State → List Literal → DoneOrRefused → Sta
     Type 0
 over numbers R s r t = R s (map literal_numbered numbers) r t
 
--- The call is over the literals of these numbers, of which none is 0. It is 3 also where there was no room for them; then nothing changes.
+-- The call is over the literals of these numbers, of which none is 0. It is 3 also where there was no room for them;
+-- then nothing changes.
 pub data MakesOver (numbers : List ℤ) (R : State → List Literal → DoneOrRefused → State → Type 0) (g : Caller)
     (n : ℕ) (h : Caller) : Type 0 where
   Zero : pos 0 ∈ numbers → IsWrongCall g n h → MakesOver numbers R g n h
@@ -81,8 +82,8 @@ pub data MakesOver (numbers : List ℤ) (R : State → List Literal → DoneOrRe
 abbrev pub giving_clause : Option (List Literal) → Caller → Caller
 giving_clause c g = record g { clause = c }
 
--- A number that is not 0 is put behind the clause that is given a literal at a time, and 0 ends it, as which the solver is given it.
--- It is 3 where a literal found no memory; then the whole clause is refused at its end.
+-- A number that is not 0 is put behind the clause that is given a literal at a time, and 0 ends it, as which the solver
+-- is given it. It is 3 where a literal found no memory; then the whole clause is refused at its end.
 pub data PutsNumber (number : ℤ) (g : Caller) (n : ℕ) (h : Caller) : Type 0 where
   Put : (c : List Literal) → (number ≡ pos 0 → ⊥) → g.clause ≡ Some c → n ≡ 0 →
       h ≡ giving_clause (Some (c ++ literal_numbered number ∷ [])) g → PutsNumber number g n h
@@ -150,7 +151,8 @@ ReturnsCore s r t = ReturnsList (by_state.core s) s r t
 abbrev pub ReturnsSome : (State → Result (Option (List Literal)) AllocError → State → Type 0) → State → State → Type 0
 ReturnsSome R s t = (list : List Literal) × R s (Ok (Some list)) t
 
--- The list is returned that the solver returns, if it does. It is 3 where there is one but no room for it, and then none is returned.
+-- The list is returned that the solver returns, if it does. It is 3 where there is one but no room for it, and then
+-- none is returned.
 pub data ReturnsListOf (R : State → Result (Option (List Literal)) AllocError → State → Type 0) (g : Caller)
     (n : ℕ) (h : Caller) : Type 0 where
   Returned : (list : List Literal) → n ≡ 0 → LeadsRepresented g.solver (λ s t. R s (Ok (Some list)) t) h.solver →

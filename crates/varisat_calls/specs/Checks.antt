@@ -57,7 +57,8 @@ pub data ReturnsDrat (format : ProofFormat) (P : List Clause) (proof : List ℕ)
       ReturnsResult r number place → ReturnsDrat format P proof number place
   NoRoom : number ≡ 3 → place ≡ 0 → ReturnsDrat format P proof number place
 
--- A check of marked lines has the one right result, or it is 17, as the proof was given a clause that is not among P; or memory ran out.
+-- A check of marked lines has the one right result, or it is 17, as the proof was given a clause that is not among P;
+-- or memory ran out.
 pub data ReturnsMarked (P : List Clause) (proof : List ℕ) (number place : ℕ) : Type 0 where
   Checked : (v : CheckVerdict) (inputs Q : List Clause) → IsMarkedCheck proof (Ok v) inputs Q → AreGiven P inputs →
       ReturnsResult (Ok v) number place → ReturnsMarked P proof number place
@@ -73,8 +74,8 @@ ReturnsProof Drat P proof number place = ReturnsDrat Drat P proof number place
 ReturnsProof BinaryDrat P proof number place = ReturnsDrat BinaryDrat P proof number place
 ReturnsProof Marked P proof number place = ReturnsMarked P proof number place
 
--- Why a text is not taken: it has a fault; or its front has one where it breaks off, as its source fails or memory runs out; or memory
--- ran out for a clause.
+-- Why a text is not taken: it has a fault; or its front has one where it breaks off, as its source fails or memory runs
+-- out; or memory ran out for a clause.
 pub data FailsText (text : List ℕ) (e : CheckerError) : Type 0 where
   HasFault : (cause : DimacsError) → (dimacs text).fault ≡ Some cause → e ≡ Dimacs cause → FailsText text e
   BreaksOff : (why : DimacsErrorKind) (front rest : List ℕ) (cause : DimacsError) →
@@ -82,7 +83,8 @@ pub data FailsText (text : List ℕ) (e : CheckerError) : Type 0 where
       e ≡ Dimacs cause → FailsText text e
   RanOut : e ≡ OutOfMemory → FailsText text e
 
--- What is returned: 14 where there is no such format; or why the text is not taken; or what the proof comes to from its clauses on.
+-- What is returned: 14 where there is no such format; or why the text is not taken; or what the proof comes to from its
+-- clauses on.
 pub data ReturnsCheck (format : Option ProofFormat) (text proof : List ℕ) (number place : ℕ) : Type 0 where
   NoFormat : format ≡ None → number ≡ 14 → place ≡ 0 → ReturnsCheck format text proof number place
   TextFails : (e : CheckerError) → IsSome format → FailsText text e → ReturnsResult (Err e) number place →

@@ -58,8 +58,8 @@ pub data IsMember (flags : List Bool) (l : Literal) (n : ℕ) : Type 0 where
   Yes : n ≡ 1 → Has flags l → IsMember flags l n
   No : n ≡ 0 → (Has flags l → ⊥) → IsMember flags l n
 
--- What a look-up answers that finds no list: the number is 0; or there is none; or there is one, whose literals found no memory, and another
--- look-up may be made.
+-- What a look-up answers that finds no list: the number is 0; or there is none; or there is one, whose literals found
+-- no memory, and another look-up may be made.
 pub data FindsNone (some none : Summary → Type 0) (number : ℤ) (g : Caller) (n : ℕ) (h : Caller) : Type 0 where
   Zero : number ≡ pos 0 → IsWrongCall g n h → FindsNone some none number g n h
   NoList : n ≡ 15 → none g.solver → h ≡ g → FindsNone some none number g n h

@@ -3,7 +3,8 @@ use Rattle.std.specs.Prelude.{ℕ, ◌-◌, ◌^◌, nat_eq, if◌then◌else◌
 use Rattle.varisat_theory.specs.promises.Literals.{Literal, literal_of}
 use Rattle.varisat_literals.specs.promises.Numbers.{literal_number}
 
--- A literal's number. That of the last variable of all is 2^31, which such a number can't be: it is returned as 0, and no solver has it.
+-- A literal's number. That of the last variable of all is 2^31, which such a number can't be: it is returned as 0, and
+-- no solver has it.
 abbrev pub returned_number : Literal → ℤ
 returned_number l = if nat_eq l (2 ^ 32 - 2) then pos 0 else literal_number l
 

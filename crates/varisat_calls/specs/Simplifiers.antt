@@ -1,6 +1,7 @@
--- What a simplifier has, and what the number of a call's answer says. It is 0, 3 where memory ran out, 7 where a variable is above the
--- limit that a solver has, 14 where a number is none of a literal or a variable, 15 before the clauses are simplified, and 19 behind that.
--- A call that is refused changes nothing; where memory ran out for a list, another one may be there.
+-- What a simplifier has, and what the number of a call's answer says. It is 0, 3 where memory ran out, 7 where a
+-- variable is above the limit that a solver has, 14 where a number is none of a literal or a variable, 15 before the
+-- clauses are simplified, and 19 behind that. A call that is refused changes nothing; where memory ran out for a list,
+-- another one may be there.
 use Rattle.std.specs.Prelude.{◌≡◌, ◌≢◌, ◌⊎◌, ℕ, ◌≤◌, ◌<◌, ◌^◌, ℤ, pos, ◌<ℤ◌, ◌≤ℤ◌, Bool, true, false, Option, Some, None, IsSome, List, [], map, slice_index_or}
 use Rattle.varisat_theory.specs.promises.Membership.{◌∈◌}
 use Rattle.varisat_theory.specs.promises.Literals.{Literal, Clause, SatisfiesAll, opposite}
@@ -18,8 +19,8 @@ pub record SimplifiedFormula : Type 0 where
   pub left : Formula
   pub stack : List Clause
 
--- The clauses that were given, flags of the frozen variables, what was made of them once they are simplified, and the list that was
--- asked for last.
+-- The clauses that were given, flags of the frozen variables, what was made of them once they are simplified, and the
+-- list that was asked for last.
 pub record Simplifier : Type 0 where
   pub given : Formula
   pub frozen : List Bool
@@ -44,9 +45,9 @@ given_of (Some stack) f n cs = record { var_count = n; clauses = cs }
 abbrev pub AreNoLonger : List Clause → List Clause → Type 0
 AreNoLonger Q P = SameClauses Q P ⊎ IsShorter Q P
 
--- What was made of the formula while these variables were frozen: what satisfies it satisfies what is left, and values that satisfy
--- what is left are extended to ones that satisfy it, where no frozen variable has another value, nor one of the clauses that are
--- left. Its clauses are the same, or have fewer literals.
+-- What was made of the formula while these variables were frozen: what satisfies it satisfies what is left, and values
+-- that satisfy what is left are extended to ones that satisfy it, where no frozen variable has another value, nor one
+-- of the clauses that are left. Its clauses are the same, or have fewer literals.
 pub record SimplifiesFormula (g : Formula) (frozen : List Bool) (m : SimplifiedFormula) : Type 0 where
   pub made : (lines : List Line) × IsMadeOf g m.left m.stack lines
   pub keeps : KeepsFrozen frozen m.stack
@@ -102,8 +103,8 @@ pub record IsModelOf (P : List Clause) (ls : List Literal) : Type 0 where
   pub meets : (c : Clause) → c ∈ P → (l : Literal) × (l ∈ c) × (l ∈ ls)
   pub apart : (l : Literal) → l ∈ ls → opposite l ∈ ls → ⊥
 
--- The values that the literals give all variables up to the highest that was given are extended by the stack. They satisfy the
--- clauses that were given where the literals are a model of those that are left.
+-- The values that the literals give all variables up to the highest that was given are extended by the stack. They
+-- satisfy the clauses that were given where the literals are a model of those that are left.
 pub record IsExtension (g : Simplifier) (m : SimplifiedFormula) (ls : List Literal) (ws : List Bool) : Type 0 where
   pub simplified : SimplifiesFormula g.given g.frozen m
   pub values : ws ≡ extended m.stack (model_values g.given.var_count ls)

@@ -28,7 +28,7 @@ pub record AddsClauses (read : Progress) (answer : DoneOrRefused) (text : Option
   pub call : LeadsRepresented g.solver (λ s t. AddsFormula s read.reading.clauses answer t) h.solver
   pub rest : h ≡ record g { solver = h.solver; text = text }
 
--- The clauses that ended are added, and then the text goes on, or its fault is reported. A text that is refused is over.
+-- The clauses that ended are added, and the text goes on, or its fault is reported. A text that is refused is over.
 pub data AddsEndedClauses (read : Progress) (g : Caller) (n : ℕ) (h : Caller) : Type 0 where
   GoesOn : read.reading.fault ≡ None → n ≡ 0 →
       AddsClauses read (Ok tt) (Some (without_clauses read)) g h → AddsEndedClauses read g n h

@@ -145,7 +145,7 @@ impl<A: Allocator + Copy> Caller<A> {
         self.answer(added)
     }
 
-    /// Puts the literal of the number behind the clause that is being given, or accepts that clause where the number is 0.
+    /// Puts the literal of the number behind the clause that is being given, or accepts that clause where it is 0.
     /// One of which a literal found no memory is refused as a whole.
     pub fn add(&mut self, number: i32) -> u8
         ensures { PutsNumber number self.old result self.new }
@@ -275,8 +275,8 @@ impl<A: Allocator + Copy> Caller<A> {
         }
     }
 
-    /// 1 where the literal of the number is true in the model, 0 where it is false, 15 where there is no model or it has no
-    /// such variable.
+    /// 1 where the literal of the number is true in the model, 0 where it is false, 15 where there is no model or it
+    /// has no such variable.
     pub fn value(&mut self, number: i32) -> u8
         ensures { LooksUpValue number self.old result self.new }
     {
@@ -392,9 +392,8 @@ impl<A: Allocator + Copy> Caller<A> {
     {
         let mut parser = self.take_text();
         let read = parser.feed(piece);
-        match self.add_read(&mut parser) {
-            Ok(()) => {}
-            Err(error) => return self.refuse(error),
+        if let Err(error) = self.add_read(&mut parser) {
+            return self.refuse(error);
         }
         match read {
             Ok(()) => {
@@ -411,9 +410,8 @@ impl<A: Allocator + Copy> Caller<A> {
     {
         let mut parser = self.take_text();
         let read = parser.finish();
-        match self.add_read(&mut parser) {
-            Ok(()) => {}
-            Err(error) => return Err(self.refuse(error)),
+        if let Err(error) = self.add_read(&mut parser) {
+            return Err(self.refuse(error));
         }
         match read {
             Ok(()) => Ok(parser.var_count()),
@@ -462,8 +460,8 @@ impl<A: Allocator + Copy> Caller<A> {
         }
     }
 
-    /// Takes out what a proof wrote since the last call: from now on that is `written`. No contract says what bytes these are, since they
-    /// pass through a cell; what the target took is returned by `close_proof`.
+    /// Takes out what a proof wrote since the last call: from now on that is `written`. No contract says what bytes
+    /// these are, since they pass through a cell; what the target took is returned by `close_proof`.
     pub fn take_written(&mut self)
         ensures { TakesWritten self.old self.new }
     {

@@ -7,7 +7,7 @@ ghost use Rattle.varisat_calls.specs.Codes.{format_numbered};
 ghost use Rattle.varisat_calls.specs.Texts.{IsRefutedText};
 ghost use Rattle.varisat_calls.specs.Checks.{new_checker, ReturnsResult, ReturnsDrat, ReturnsMarked, ReturnsCheck, FailsText};
 
-use crate::codes::{WRONG, format_of};
+use crate::codes::{OUT_OF_MEMORY, WRONG, format_of};
 use std::alloc::Allocator;
 use varisat_formula::io::CutSource;
 use varisat_formula::io::source::known_bytes_are_read;
@@ -20,6 +20,9 @@ pub const REFUTATION: u8 = 20;
 
 /// All lines are right, and refute nothing.
 pub const DERIVATION: u8 = 0;
+
+/// The text has a fault.
+pub const WRONG_TEXT: u8 = 13;
 
 /// A line is wrong, or the bytes are no lines.
 pub const WRONG_PROOF: u8 = 16;
@@ -44,8 +47,10 @@ fn returned_error(error: &CheckerError) -> Returned
         | CheckerError::NoSuchClause { step }
         | CheckerError::CoreNotAssumed { step } => (WRONG_PROOF, *step),
         CheckerError::Parse { offset } => (WRONG_PROOF, *offset),
-        CheckerError::Dimacs { cause } => (13, cause.line),
-        CheckerError::Io { .. } | CheckerError::OutOfMemory | CheckerError::Spent => (3, 0),
+        CheckerError::Dimacs { cause } => (WRONG_TEXT, cause.line),
+        CheckerError::Io { .. } | CheckerError::OutOfMemory | CheckerError::Spent => {
+            (OUT_OF_MEMORY, 0)
+        }
     };
     Returned { number, place }
 }
@@ -97,8 +102,8 @@ fn check_marked<A: Allocator + Copy>(
     }
 }
 
-/// Checks a DRAT proof against the clauses of the checker. Its clauses may be RAT, and deletions that find no clause, or one
-/// by which a literal is implied, are passed over.
+/// Checks a DRAT proof against the clauses of the checker. Its clauses may be RAT, and deletions that find no clause,
+/// or one by which a literal is implied, are passed over.
 fn check_drat<A: Allocator + Copy>(
     checker: &mut Checker<A>,
     format: ProofFormat,
@@ -128,9 +133,8 @@ fn check_with<A: Allocator + Copy>(
     ensures returns { ReturnsCheck (Some format) text.now proof.now result.number result.place }
     ensures sound { result.number ≡ 20 → IsRefutedText text.now }
 {
-    match add_text(given, text) {
-        Ok(()) => {}
-        Err(error) => return returned_error(&error),
+    if let Err(error) = add_text(given, text) {
+        return returned_error(&error);
     }
     match format {
         ProofFormat::Marked => check_marked(checker, given, proof),

@@ -1,4 +1,4 @@
-//! The numbers by which callers name answers, settings, formats and modes. Refusals have those of `SolverError::number`.
+//! The numbers of answers, settings, formats and modes for callers. Refusals have those of `SolverError::number`.
 ghost use Rattle.std.specs.Prelude.{◌≡◌};
 ghost use Rattle.varisat_calls.specs.Codes.{field_numbered, format_numbered, mode_numbered};
 

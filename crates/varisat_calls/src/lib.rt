@@ -1,8 +1,6 @@
-//! A solver and a simplifier for callers in other languages: lists of DIMACS numbers and pieces of texts go in, a number comes out of each
-//! call, and a list that is returned is kept until the next one.
+//! A solver and a simplifier for callers in other languages: lists of DIMACS numbers and pieces of texts go in, a
+//! number comes out of each call, and a list that is returned is kept until the next one.
 #![tactic(auto)]
-
-ghost use Rattle.std.specs.Prelude.{◌≡◌};
 
 pub mod caller;
 pub mod checks;

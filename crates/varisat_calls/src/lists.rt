@@ -1,6 +1,5 @@
 //! Lists of numbers: those of clauses, of flags and of values.
-ghost use Rattle.std.specs.Prelude.{◌≡◌, ◌≢◌, ◌<◌, ◌≤◌, ◌^◌, ◌/◌, ◌++◌, ◌∷◌, ◌↔◌, ℕ, [], pos, false, true, length, IsTrue, EachIndex, slice_index, slice_index_or, OnOk, OnErr, IfOk};
-ghost use Rattle.varisat_literals.specs.promises.Numbers.{variable_limit};
+ghost use Rattle.std.specs.Prelude.{◌≡◌, ◌≢◌, ◌<◌, ◌≤◌, ◌^◌, ◌++◌, ◌∷◌, ◌↔◌, ℕ, [], pos, false, true, length, IsTrue, slice_index_or, OnOk, OnErr};
 ghost use Rattle.varisat_calls.specs.Numbers.{returned_numbers};
 ghost use Rattle.varisat_calls.specs.Lists.{AreWithinLimit, clause_numbers, value_numbers};
 

@@ -1,4 +1,5 @@
-//! The literals of a model or a core, kept so that each is looked up in one step.
+//! The literals of a model or a core, kept so that each is looked up in one step. The solver makes a model anew each
+//! time that it is asked for it: so it is asked once, until it changes.
 ghost use Rattle.std.specs.Prelude.{◌≡◌, true, false, OnOk, OnErr, Ok};
 ghost use Rattle.varisat_client.specs.inside.LiteralSets.{IsSetOf};
 ghost use Rattle.varisat_solver.specs.promises.Summaries.{Summary};
@@ -24,7 +25,9 @@ pub enum Kept {
 /// The literals of the list that was looked up last, until the solver changes.
 #[derive(Drop)]
 pub struct Lookups<A: Allocator + Copy> {
+    // Which list the literals are those of. Where it is `Nothing` they are of no use, and only their memory is kept.
     kept: Kept,
+    // A flag for each literal.
     literals: LitSet<A>,
 }
 
@@ -59,13 +62,14 @@ impl<A: Allocator + Copy> Lookups<A> {
         ensures kept { OnOk result ((self.new.kept ≡ kept) × IsSetOf lits.now self.new.literals) }
         ensures lost { OnErr result (self.new.kept ≡ Nothing) }
     {
+        // Where memory runs out the set is neither the old nor the new one.
         self.kept = Kept::Nothing;
         self.literals.replace(lits)?;
         self.kept = kept;
         Ok(())
     }
 
-    /// Keeps the literals of the model, if there is one.
+    /// Keeps the literals of the model, if there is one. Where they are kept already the solver is not asked.
     pub fn find_model(&mut self, solver: &Solver<StreamTarget<A>, A>) -> Result<bool, AllocError>
         requires { IsCurrent self.old solver.now }
         ensures current { IsCurrent self.new solver.now }
@@ -86,7 +90,7 @@ impl<A: Allocator + Copy> Lookups<A> {
         }
     }
 
-    /// Keeps the literals of the core, if there is one.
+    /// Keeps the literals of the core, if there is one. Where they are kept already the solver is not asked.
     pub fn find_core(&mut self, solver: &Solver<StreamTarget<A>, A>) -> Result<bool, AllocError>
         requires { IsCurrent self.old solver.now }
         ensures current { IsCurrent self.new solver.now }
@@ -106,7 +110,7 @@ impl<A: Allocator + Copy> Lookups<A> {
         }
     }
 
-    /// 1 where the literal is kept, 0 where its opposite is, 15 where neither is.
+    /// 1 where the literal is kept, 0 where its opposite is, 15 where neither is: the model has no such variable.
     pub fn value(&self, lit: Lit) -> u8
         ensures { IsValueIn self.now.literals lit result }
     {

@@ -31,10 +31,7 @@ pub fn read_numbers<A: Allocator + Copy>(
 fn number_of(lit: Lit) -> i32
     ensures { result ≡ returned_number lit }
 {
-    match i32::try_from(lit.to_dimacs()) {
-        Ok(number) => number,
-        Err(_) => 0,
-    }
+    i32::try_from(lit.to_dimacs()).unwrap_or(0)
 }
 
 /// Puts the numbers of the literals in place of those before.

@@ -1,5 +1,5 @@
 //! Clauses that are simplified before a solver is given them.
-ghost use Rattle.std.specs.Prelude.{◌≡◌, ◌⊎◌, ◌≤◌, ◌<◌, ◌^◌, IfOk, OnOk};
+ghost use Rattle.std.specs.Prelude.{◌≡◌, ◌≤◌, ◌^◌, IfOk, OnOk};
 ghost use Rattle.varisat_rules.specs.promises.Stacks.{extended, KeepsFrozen};
 ghost use Rattle.varisat_simplify.specs.promises.Simplified.{IsMadeOf};
 ghost use Rattle.varisat_formula.specs.promises.Values.{model_values};
@@ -62,7 +62,7 @@ fn extended<A: Allocator + Copy>(
     Ok(values)
 }
 
-/// Lists them.
+/// Lists these values.
 fn list_extended<A: Allocator + Copy>(
     alloc: A,
     count: usize,
@@ -85,7 +85,8 @@ pub struct Simplifier<A: Allocator + Copy> {
     // The clauses given, and those left once they are simplified.
     formula: CnfFormula<A>,
     frozen: Vec<bool, A>,
-    // By which models are extended, once the clauses are simplified: then these are the clauses given and the count of their variables.
+    // By which models are extended, once the clauses are simplified: then these are the clauses given and the count of
+    // their variables.
     stack: Option<ClauseList<A>>,
     given: GivenClauses,
     var_count: usize,
@@ -98,19 +99,20 @@ pub struct Simplifier<A: Allocator + Copy> {
 impl<A: Allocator + Copy> Model for Simplifier<A> {
     ghost use Rattle.std.specs.Prelude.{IfSome};
     ghost use Rattle.varisat_calls.specs.Simplifiers as simplifiers;
+    ghost use Rattle.varisat_calls.specs.Simplifiers.{given_of, made_of, SimplifiesFormula};
 
     ghost Value = { simplifiers.Simplifier };
 
     ghost view = { λ c. record {
-      given = simplifiers.given_of c.stack c.formula c.var_count c.given.clauses;
+      given = given_of c.stack c.formula c.var_count c.given.clauses;
       frozen = c.frozen.items;
-      made = simplifiers.made_of c.stack c.formula;
+      made = made_of c.stack c.formula;
       list = c.list.items;
     } };
 
     ghost invariant = { λ c.
-        IfSome (simplifiers.made_of c.stack c.formula)
-        (simplifiers.SimplifiesFormula (simplifiers.given_of c.stack c.formula c.var_count c.given.clauses) c.frozen.items) };
+        IfSome (made_of c.stack c.formula)
+        (SimplifiesFormula (given_of c.stack c.formula c.var_count c.given.clauses) c.frozen.items) };
 }
 
 impl<A: Allocator + Copy> Simplifier<A> {

@@ -1,5 +1,5 @@
 //! A target of a proof whose bytes are taken out while the proof is open.
-ghost use Rattle.std.specs.Prelude.{◌≡◌, ◌++◌, ◌+◌, ◌-◌, ◌<◌, ◌^◌, [], OnOk, OnErr, IfOk};
+ghost use Rattle.std.specs.Prelude.{◌≡◌, [], IfOk};
 ghost use Rattle.varisat_formula.specs.promises.Streams.{Taken};
 
 use std::alloc::{AllocError, Allocator};
@@ -34,9 +34,7 @@ impl<A: Allocator + Copy> Model for StreamTarget<A> {
 pub fn stream_in<A: Allocator + Copy>(alloc: A) -> Result<(Lines<A>, StreamTarget<A>), AllocError>
     ensures { IfOk result (λ both. both.1 ≡ record { bytes = []; faults = 0 }) }
 {
-    let Ok(shared) = Rc::new(alloc, RefCell::new(Vec::new(alloc))) else {
-        return Err(AllocError);
-    };
+    let shared = Rc::new(alloc, RefCell::new(Vec::new(alloc)))?;
     let target = StreamTarget {
         shared: shared.clone()?,
         history: History::new(),
@@ -58,13 +56,11 @@ impl<A: Allocator + Copy> Lines<A> {
 impl<A: Allocator + Copy> StreamTarget<A> {
     /// Appends the bytes, or none of them.
     fn append(&self, bytes: &[u8]) -> Result<(), AllocError> {
-        match self.shared.try_borrow_mut() {
-            Ok(mut lines) => {
-                lines.extend_from_slice(bytes)?;
-                Ok(())
-            }
-            Err(_) => Err(AllocError),
-        }
+        let Ok(mut lines) = self.shared.try_borrow_mut() else {
+            return Err(AllocError);
+        };
+        lines.extend_from_slice(bytes)?;
+        Ok(())
     }
 }
 

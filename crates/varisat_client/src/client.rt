@@ -6,15 +6,15 @@ ghost use Rattle.varisat_client.specs.inside.Clients.{first_state};
 use crate::literal_set::LitSet;
 use crate::numbers::{literal_of, put_number};
 use crate::refusal::{Refusal, refusal_for};
-use std::alloc::Allocator;
+use std::alloc::{AllocError, Allocator};
 use std::marker::Model;
 use varisat::config::{ConfigField, SolverConfigUpdate};
 use varisat::io::MemoryTarget;
 use varisat::solver::SolverError;
 use varisat::{Lit, Solver};
 
-// The settings of a client's solver. Where calls come to many conflicts they took 0.7 of the time of a new solver's settings,
-// and else the same. Restarts that glue chooses, by which the program decides a file, were not tried on calls.
+// The settings of a client's solver. Where calls come to many conflicts they took 0.7 of the time of a new solver's
+// settings, and else the same. Restarts that glue chooses, as the program has for a file, were not tried on calls.
 const REDUCE_LOCALS_INTERVAL: u64 = 2000;
 
 const LUBY_RESTART_INTERVAL_SCALE: u64 = 64;
@@ -104,9 +104,8 @@ impl<A: Allocator + Copy> Client<A> {
             }
             return;
         }
-        match put_number(&mut self.clause, number) {
-            Ok(()) => {}
-            Err(_) => self.refusal = Some(Refusal::OutOfMemory),
+        if let Err(AllocError) = put_number(&mut self.clause, number) {
+            self.refusal = Some(Refusal::OutOfMemory);
         }
     }
 
@@ -120,9 +119,8 @@ impl<A: Allocator + Copy> Client<A> {
         if self.refusal.is_some() {
             return;
         }
-        match put_number(&mut self.assumptions, number) {
-            Ok(()) => {}
-            Err(_) => self.refusal = Some(Refusal::OutOfMemory),
+        if let Err(AllocError) = put_number(&mut self.assumptions, number) {
+            self.refusal = Some(Refusal::OutOfMemory);
         }
     }
 
@@ -147,9 +145,8 @@ impl<A: Allocator + Copy> Client<A> {
             return;
         }
         let update = SolverConfigUpdate::one(ConfigField::MaxSteps, steps);
-        match self.solver.config(&update) {
-            Ok(()) => {}
-            Err(error) => self.refusal = Some(refusal_for(&error)),
+        if let Err(error) = self.solver.config(&update) {
+            self.refusal = Some(refusal_for(&error));
         }
     }
 
@@ -191,12 +188,12 @@ impl<A: Allocator + Copy> Client<A> {
     fn keep_model(&mut self) -> SearchEnd
         ensures { KeepsModel result self.old self.new }
     {
-        match self.solver.model() {
-            Ok(Some(list)) => match self.model.replace(&list) {
-                Ok(()) => SearchEnd::Satisfiable,
-                Err(_) => self.run_out(),
-            },
-            Ok(None) | Err(_) => self.run_out(),
+        let Ok(Some(list)) = self.solver.model() else {
+            return self.run_out();
+        };
+        match self.model.replace(&list) {
+            Ok(()) => SearchEnd::Satisfiable,
+            Err(_) => self.run_out(),
         }
     }
 
@@ -204,16 +201,16 @@ impl<A: Allocator + Copy> Client<A> {
     fn keep_core(&mut self) -> SearchEnd
         ensures { KeepsCore result self.old self.new }
     {
-        match self.solver.failed_core() {
-            Some(list) => match self.core.replace(list) {
-                Ok(()) => SearchEnd::Unsatisfiable,
-                Err(_) => self.run_out(),
-            },
-            None => self.run_out(),
+        let Some(list) = self.solver.failed_core() else {
+            return self.run_out();
+        };
+        match self.core.replace(list) {
+            Ok(()) => SearchEnd::Unsatisfiable,
+            Err(_) => self.run_out(),
         }
     }
 
-    /// The number where its literal is true in the model that was found last, the opposite number where that is, else 0.
+    /// The number where its literal is true in the last model that was found, its opposite where that is, else 0.
     pub fn value(&self, number: i32) -> i32
         ensures { IsTrueOfPast (ReturnsValue number result) self.now }
     {

@@ -1,5 +1,5 @@
 //! Sets of literals that are asked for in one step each.
-ghost use Rattle.std.specs.Prelude.{◌≡◌, [], length, ◌↔◌, IsTrue, OnOk, ◌^◌, ◌≤◌};
+ghost use Rattle.std.specs.Prelude.{[], length, ◌↔◌, IsTrue, OnOk, ◌^◌, ◌≤◌};
 ghost use Rattle.varisat_client.specs.inside.LiteralSets.{Has, IsSetOf, HaveFlags};
 
 use std::alloc::{AllocError, Allocator};

@@ -1,7 +1,7 @@
 //! Any list of calls of a client.
 ghost use Rattle.std.specs.Prelude.{◌≡◌, IfOk, OnErr};
 ghost use Rattle.varisat_client.specs.promises.Pasts.{ClientPast, empty_client_past};
-ghost use Rattle.varisat_client.specs.inside.Clients.{Moves, RepresentsPast};
+ghost use Rattle.varisat_client.specs.inside.Clients.{Moves};
 ghost use Rattle.varisat_client.specs.promises.Runs.{Makes, MakeInTurn};
 ghost use Rattle.varisat_client.specs.promises.Given.{none_given, AreDecided};
 
@@ -82,12 +82,13 @@ pub fn run<A: Allocator + Copy>(
 
 /// The answers of a new client to the calls. Each is true of what the calls and answers before it say. Of the calls
 /// alone: for each search that is satisfiable some assignment satisfies the clauses that were given until then and
-/// makes the assumptions true under which it was begun, and for each that is unsatisfiable none does. All searches since
-/// a clause ended, a search was begun or a limit was given make fewer than 2^(2n+3) steps together, where n variables
-/// are in clauses that ended and assumptions under which a search was begun: so where each may make some they come to
-/// an end, or no more steps can be counted. `Steps` tells how many all searches made, until a call is refused.
+/// makes the assumptions true under which it was begun, and for each that is unsatisfiable none does. All searches
+/// since a clause ended, a search was begun or a limit was given make fewer than 2^(2n+3) steps together, where n
+/// variables are in clauses that ended and assumptions under which a search was begun: so where each may make some they
+/// come to an end, or no more steps can be counted. `Steps` tells how many all searches made, until a call is refused.
 pub fn answers_of<A: Allocator + Copy>(calls: Vec<Call, A>) -> Result<Vec<Answer, A>, AllocError>
-    ensures truth { IfOk result (λ answers. (q : ClientPast) × MakeInTurn empty_client_past calls.items answers.items q) }
+    ensures truth { IfOk result
+        (λ answers. (q : ClientPast) × MakeInTurn empty_client_past calls.items answers.items q) }
     ensures decided { IfOk result (λ answers. AreDecided none_given calls.items answers.items) }
 {
     let mut client = Client::new_in(*calls.allocator());

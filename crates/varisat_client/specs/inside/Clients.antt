@@ -27,8 +27,8 @@ client_update = record no_update { reduce_locals_interval = Some 2000; luby_rest
 abbrev pub first_state : State
 first_state = with_update client_update (new_state false)
 
--- What the solver holds; the clause that is being given, and the assumptions for the next search; the literals of the last model and
--- of the last core, as sets; why a call was refused, if one was.
+-- What the solver holds; the clause that is being given, and the assumptions for the next search; the literals of the
+-- last model and of the last core, as sets; why a call was refused, if one was.
 pub record Client : Type 0 where
   pub solver : Summary
   pub clause : List Literal
@@ -44,8 +44,9 @@ IsSetOfModel ls g = IsSetOf ls g.model
 abbrev pub IsSetOfCore : List Literal → Client → Type 0
 IsSetOfCore ls g = IsSetOf ls g.core
 
--- The state of the solver has the clauses P that were given to their end, and the assumptions A; it made so many steps in all, and may
--- make `most` in one call. No proof is open. As no name is ever freed, names are in order, and each literal stands for itself.
+-- The state of the solver has the clauses P that were given to their end, and the assumptions A; it made so many steps
+-- in all, and may make `most` in one call. No proof is open. As no name is ever freed, names are in order, and each
+-- literal stands for itself.
 pub record WasGiven (s : State) (P : List Clause) (A : List Literal) (made most : ℕ) : Type 0 where
   pub valid : s.ledger.valid ≡ true
   pub proof : s.proof ≡ None
@@ -62,8 +63,8 @@ pub record WasGiven (s : State) (P : List Clause) (A : List Literal) (made most 
   pub steps : s.ledger.steps ≡ made
   pub limit : s.ledger.settings.max_steps ≡ most
 
--- The state counts these variables alone, or some of them, each once. No name is in use above the highest of them, and names are in
--- use up to it, unless a clause was not accepted.
+-- The state counts these variables alone, or some of them, each once. No name is in use above the highest of them, and
+-- names are in use up to it, unless a clause was not accepted.
 pub record CountsAmong (s : State) (known : List ℕ) : Type 0 where
   pub within : s.counted ⊆ known
   pub once : IsDistinct s.counted
@@ -87,8 +88,8 @@ pub record HoldsPast (g : Client) (p : ClientPast) : Type 0 where
   pub model : IsSetOfModel p.model g
   pub core : IsSetOfCore p.core g
 
--- The client represents the past. Of one that refused a call only the reason is known, and where that is a full store of clauses, that
--- a clause of all variables of the search would bring it to 2^32 words or more.
+-- The client represents the past. Of one that refused a call only the reason is known, and where that is a full store
+-- of clauses, that a clause of all variables of the search would bring it to 2^32 words or more.
 pub record RepresentsPast (g : Client) (p : ClientPast) : Type 0 where
   pub refusal : g.refusal ≡ p.refusal
   pub full : p.refusal ≡ Some ClauseStoreFull → HasFullStore g.solver

@@ -8,8 +8,8 @@ use Rattle.varisat_client.specs.declared.session.Call.TheVariants as call
 use Rattle.varisat_client.specs.declared.session.Answer.TheVariants as answer
 use Rattle.varisat_client.specs.declared.client.SearchEnd.TheVariants as end
 
--- The clauses that were given to their end, and what was given of the next one; the assumptions for the next search, and those of
--- the search that was begun last.
+-- The clauses that were given to their end, and what was given of the next one; the assumptions for the next search,
+-- and those of the search that was begun last.
 pub record Given : Type 0 where
   pub clauses : List Clause
   pub clause : List Literal
@@ -35,8 +35,8 @@ give (call.Assume n) g = if is_zero n then g else record g { assumptions = g.ass
 give call.Begin g = record g { assumed = g.assumptions; assumptions = [] }
 give _ g = g
 
--- A search is satisfiable only where some assignment satisfies the clauses and makes the assumptions true, and unsatisfiable only
--- where none does.
+-- A search is satisfiable only where some assignment satisfies the clauses and makes the assumptions true, and
+-- unsatisfiable only where none does.
 abbrev pub IsRightAnswer : Given → Answer → Type 0
 IsRightAnswer g (answer.Search end.Satisfiable) = IsSatisfiableWith g.clauses g.assumed
 IsRightAnswer g (answer.Search end.Unsatisfiable) = IsSatisfiableWith g.clauses g.assumed → ⊥

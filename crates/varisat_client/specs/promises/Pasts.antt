@@ -1,4 +1,4 @@
--- What the calls of a client and their answers say so far, and how a call moves it: no state of the solver is spoken of.
+-- What the calls of a client and their answers say so far, and how a call moves it, without a state of the solver.
 use Rattle.std.specs.Prelude.{◌≡◌, ◌≢◌, ◌⊎◌, ℕ, ◌+◌, ◌-◌, ◌^◌, ◌≤◌, ℤ, pos, negsuc, ◌-ℤ◌, Bool, true, false, Option, Some, None, List, [], ◌∷◌, ◌++◌, length, map}
 use Rattle.varisat_theory.specs.promises.Membership.{◌∈◌, ◌⊆◌}
 use Rattle.varisat_theory.specs.promises.Literals.{Literal, Clause, Assignment, variable_of, literal_of, opposite, SatisfiesAll, MakesTrue, IsSatisfiable, IsFailedCore}
@@ -13,12 +13,13 @@ use Rattle.varisat_client.specs.declared.refusal.Refusal.TheVariants.{OutOfMemor
 
 -- Literals are those of the numbers that the client gives: a number's variable is the same in all calls.
 --
--- `refusal`: why a call was refused, if one was. `clauses`: those that were given to their end. `clause`: what was given of the next
--- one. `assumptions`: those for the next search. `assumed`: those of the search that was begun last. `model`: the literals that are
--- true in the model of the last search that was satisfiable. `core`: those of the core of the last one that was unsatisfiable.
--- `counted`: the variables of the clauses that were given to their end, and of the assumptions under which a search was begun, each once.
--- `steps`: how many steps all searches made that were not refused. `since`: how many of them since the last change, which is the last
--- clause that ended, search that began or limit that was given. `limit`: how many one search may make.
+-- `refusal`: why a call was refused, if one was. `clauses`: those that were given to their end. `clause`: what was
+-- given of the next one. `assumptions`: those for the next search. `assumed`: those of the search that was begun last.
+-- `model`: the literals that are true in the model of the last search that was satisfiable. `core`: those of the core
+-- of the last one that was unsatisfiable. `counted`: the variables of the clauses that were given to their end, and of
+-- the assumptions under which a search was begun, each once. `steps`: how many steps all searches made that were not
+-- refused. `since`: how many of them since the last change, which is the last clause that ended, search that began or
+-- limit that was given. `limit`: how many one search may make.
 pub record ClientPast : Type 0 where
   pub refusal : Option Refusal
   pub clauses : List Clause
@@ -43,8 +44,7 @@ empty_client_past =
       assumed = [];
       model = [];
       core = [];
-      counted =
-          [];
+      counted = [];
       steps = 0;
       since = 0;
       limit = 2 ^ 64 - 1;
@@ -54,8 +54,9 @@ empty_client_past =
 abbrev pub refuse : Refusal → ClientPast → ClientPast
 refuse why p = record p { refusal = Some why }
 
--- Why a call may be refused that gives these literals to the solver: one was refused before, and then nothing changes; a variable of
--- the literals is past the limit; or none is, and memory ran out or, in a call that stores clauses, their store is full.
+-- Why a call may be refused that gives these literals to the solver: one was refused before, and then nothing changes;
+-- a variable of the literals is past the limit; or none is, and memory ran out or, in a call that stores clauses, their
+-- store is full.
 pub data Refuses (given : List Literal) (stores : Bool) (p q : ClientPast) : Type 0 where
   Again : p.refusal ≢ None → q ≡ p → Refuses given stores p q
   Memory : p.refusal ≡ None → (IsPastLimit given → ⊥) → q ≡ refuse OutOfMemory p → Refuses given stores p q
@@ -67,8 +68,8 @@ pub data Refuses (given : List Literal) (stores : Bool) (p q : ClientPast) : Typ
 abbrev pub count : List Literal → ClientPast → ClientPast
 count ls p = record p { counted = join_counted p.counted (map variable_of ls); since = 0 }
 
--- A number that is not 0 is put behind the clause, and 0 ends it, as which the clause is given to the solver. No variable past the
--- limit is taken, unless no assignment satisfies the clauses before it.
+-- A number that is not 0 is put behind the clause, and 0 ends it, as which the clause is given to the solver. No
+-- variable past the limit is taken, unless no assignment satisfies the clauses before it.
 pub data AddsNumber (n : ℤ) (p q : ClientPast) : Type 0 where
   PutRefused : n ≢ pos 0 → Refuses [] false p q → AddsNumber n p q
   EndRefused : n ≡ pos 0 → Refuses p.clause true p q → AddsNumber n p q
@@ -83,8 +84,8 @@ pub data AssumesNumber (n : ℤ) (p q : ClientPast) : Type 0 where
   Put : n ≢ pos 0 → p.refusal ≡ None → q ≡ record p { assumptions = p.assumptions ++ literal_numbered n ∷ [] } →
       AssumesNumber n p q
 
--- The assumptions that were given are those of the search that begins, and none is given for the next one yet. No variable of them is
--- past the limit.
+-- The assumptions that were given are those of the search that begins, and none is given for the next one yet. No
+-- variable of them is past the limit.
 pub data Begins (p q : ClientPast) : Type 0 where
   Refused : Refuses p.assumptions false p q → Begins p q
   Begun : p.refusal ≡ None → (IsPastLimit p.assumptions → ⊥) →
@@ -99,9 +100,10 @@ pub data LimitsSteps (steps : ℕ) (p q : ClientPast) : Type 0 where
 abbrev pub IsUpToCounted : List ℕ → ℕ → Type 0
 IsUpToCounted counted u = (v : ℕ) × (v ∈ counted) × (u ≤ v)
 
--- The literals that are true in a model: one of each clause and all assumptions are among them, of each literal of a clause it or its
--- opposite, and some assignment makes them true that satisfies the clauses. So none is among them together with its opposite. Exactly the
--- variables up to the highest that is counted have a literal among them, and those that are not counted are false.
+-- The literals that are true in a model: one of each clause and all assumptions are among them, of each literal of a
+-- clause it or its opposite, and some assignment makes them true that satisfies the clauses. So none is among them
+-- together with its opposite. Exactly the variables up to the highest that is counted have a literal among them, and
+-- those that are not counted are false.
 pub record IsFoundModel (clauses : List Clause) (assumed : List Literal) (counted : List ℕ) (model : List Literal) :
     Type 0 where
   pub satisfied : (a : Assignment) × MakesTrue a model × SatisfiesAll a clauses × MakesTrue a assumed
@@ -112,7 +114,7 @@ pub record IsFoundModel (clauses : List Clause) (assumed : List Literal) (counte
   pub up_to_counted : (l : Literal) → l ∈ model → IsUpToCounted counted (variable_of l)
   pub uncounted : (l : Literal) → l ∈ model → (variable_of l ∈ counted → ⊥) → l ≡ literal_of (variable_of l) false
 
--- A search makes no more steps than it may, and few for so many variables, over however many searches since the last change.
+-- A search makes no more steps than it may, and few for so many variables, over all searches since the last change.
 pub record MakesFew (p q : ClientPast) : Type 0 where
   pub made : ℕ
   pub count : q.steps ≡ p.steps + made
@@ -120,9 +122,9 @@ pub record MakesFew (p q : ClientPast) : Type 0 where
   pub budget : made ≤ p.limit
   pub few : AreFew (length p.counted) q.since
 
--- How a search ends: Satisfiable with a model of the clauses that makes the assumptions true; Unsatisfiable where no assignment
--- satisfies the clauses and makes them true, with some of them for which it is so already; Interrupted where it made all the steps
--- that it may, or no more can be counted; or it is refused. It makes few steps.
+-- How a search ends: Satisfiable with a model of the clauses that makes the assumptions true; Unsatisfiable where no
+-- assignment satisfies the clauses and makes them true, with some of them for which it is so already; Interrupted where
+-- it made all the steps that it may, or no more can be counted; or it is refused. It makes few steps.
 pub data IsSearchEnd (r : SearchEnd) (p q : ClientPast) : Type 0 where
   Refused : r ≡ end.Refused → Refuses [] true p q → IsSearchEnd r p q
   Satisfiable : r ≡ end.Satisfiable → p.refusal ≡ None → IsFoundModel p.clauses p.assumed p.counted q.model →
@@ -133,8 +135,8 @@ pub data IsSearchEnd (r : SearchEnd) (p q : ClientPast) : Type 0 where
       MakesFew p q →
       q ≡ record p { steps = q.steps; since = q.since } → IsSearchEnd r p q
 
--- A number is returned where its literal is true in the last model, the opposite number where that is, and else 0: so it is for 0, for
--- the number that has no opposite, and once a call was refused.
+-- A number is returned where its literal is true in the last model, the opposite number where that is, and else 0: so
+-- it is for 0, for the number that has no opposite, and once a call was refused.
 pub data ReturnsValue (n r : ℤ) (p : ClientPast) : Type 0 where
   True : r ≡ n → p.refusal ≡ None → literal_numbered n ∈ p.model → ReturnsValue n r p
   False : r ≡ pos 0 -ℤ n → p.refusal ≡ None → opposite (literal_numbered n) ∈ p.model → ReturnsValue n r p

@@ -12,13 +12,13 @@ returns-in-Err g c = record {
       (text-taken _ _ _ _ _ _ c.take_text-parser.ensures.taken c.in-Err.ensures.added c.refuse.ensures.frame);
 }
 
-pub returns-in-Ok-read : goal.returns-in-Ok-read
-returns-in-Ok-read g c = record {
+pub returns-in-Ok : goal.returns-in-Ok
+returns-in-Ok g c = record {
   read = c.finish-read.new.self;
   ends = subst (λ p. IsEnding p c.finish-read.new.self) c.take_text-parser.ensures.text c.finish-read.ensures.reads;
-  adds = Ended (sym c.finish-read.ensures.answer ∙ ap fault_of c.in-Ok-read.is)
-      (ap Ok (c.var_count.ensures ∙ ap (λ p. p.reading.highest) c.in-Ok.ensures.taken))
-      (text-taken _ _ _ _ _ _ c.take_text-parser.ensures.taken c.in-Ok.ensures.added refl);
+  adds = Ended (sym c.finish-read.ensures.answer ∙ ap fault_of c.in-Ok.is)
+      (ap Ok (c.var_count.ensures ∙ ap (λ p. p.reading.highest) c.in_default.ensures.taken))
+      (text-taken _ _ _ _ _ _ c.take_text-parser.ensures.taken c.in_default.ensures.added refl);
 }
 
 pub returns : goal.returns
@@ -27,5 +27,5 @@ returns g c = record {
   ends = subst (λ p. IsEnding p c.finish-read.new.self) c.take_text-parser.ensures.text c.finish-read.ensures.reads;
   adds = HasFault c.in-Err-read.fault c.from_text.result (sym c.finish-read.ensures.answer ∙ ap fault_of c.in-Err-read.is) c.from_text.ensures
       (ap Err c.refuse-in-Err-read.ensures.number)
-      (text-taken _ _ _ _ _ _ c.take_text-parser.ensures.taken c.in-Ok.ensures.added c.refuse-in-Err-read.ensures.frame);
+      (text-taken _ _ _ _ _ _ c.take_text-parser.ensures.taken c.in_default.ensures.added c.refuse-in-Err-read.ensures.frame);
 }

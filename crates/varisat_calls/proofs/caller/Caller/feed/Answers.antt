@@ -12,13 +12,13 @@ returns-in-Err g c = (
   Refused c.in-Err.error c.refuse.ensures.number (text-taken _ _ _ _ _ _ c.take_text-parser.ensures.taken c.in-Err.ensures.added c.refuse.ensures.frame),
 )
 
-pub returns-in-Ok-read : goal.returns-in-Ok-read
-returns-in-Ok-read g c =
+pub returns-in-Ok : goal.returns-in-Ok
+returns-in-Ok g c =
     let on : Caller → Caller = λ x. record x { text = Some c.add_read.new.parser } in (
       c.feed-read.new.self,
       read-behind c.args.piece.now _ _ _ c.take_text-parser.ensures.text c.feed-read.ensures.reads,
-      text-goes-on _ _ _ _ _ _ c.take_text-parser.ensures.taken c.in-Ok.ensures.added (sym c.feed-read.ensures.answer ∙ ap fault_of c.in-Ok-read.is)
-          c.in-Ok.ensures.taken (ap on c.self.view_is),
+      text-goes-on _ _ _ _ _ _ c.take_text-parser.ensures.taken c.in_default.ensures.added (sym c.feed-read.ensures.answer ∙ ap fault_of c.in-Ok.is)
+          c.in_default.ensures.taken (ap on c.self.view_is),
     )
 
 pub returns-in-Err-read : goal.returns-in-Err-read
@@ -27,5 +27,5 @@ returns-in-Err-read g c = (
   read-behind c.args.piece.now _ _ _ c.take_text-parser.ensures.text c.feed-read.ensures.reads,
   HasFault c.in-Err-read.fault c.from_text.result (sym c.feed-read.ensures.answer ∙ ap fault_of c.in-Err-read.is) c.from_text.ensures
       c.refuse-in-Err-read.ensures.number
-      (text-taken _ _ _ _ _ _ c.take_text-parser.ensures.taken c.in-Ok.ensures.added c.refuse-in-Err-read.ensures.frame),
+      (text-taken _ _ _ _ _ _ c.take_text-parser.ensures.taken c.in_default.ensures.added c.refuse-in-Err-read.ensures.frame),
 )

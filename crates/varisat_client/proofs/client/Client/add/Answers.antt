@@ -17,10 +17,10 @@ returns-in-Err g c = rw (← c.self.view_is)
     (end-refused _ _ _ _ _ (sym (to_z-of_z c.ranges.number) ∙ ap (to_z w32) c.if-number-eq0.true) (sym c.is_some.ensures ∙ c.if-is_some.false)
     c.deref.ensures.value c.in-Err.ensures.call (λ e. c.in-Err.ensures.full (ap Err e)) (ap Some c.refusal_for.ensures))
 
-pub returns-in-Ok-put_number : goal.returns-in-Ok-put_number
-returns-in-Ok-put_number g c = rw (← c.self.view_is)
+pub returns-in_default : goal.returns-in_default
+returns-in_default g c = rw (← c.self.view_is)
     (put-literal _ _ _ (λ e. c.if-number-eq0.false (ap (of_z w32) e)) (sym c.is_some.ensures ∙ c.if-is_some.false)
-    (c.in-Ok-put_number.ensures {u = tt} ∙ ap (λ n. c.self.inside.clause.items ++ literal_numbered n ∷ []) (to_z-of_z c.ranges.number)) refl)
+    (c.in_default.ensures {u = tt} ∙ ap (λ n. c.self.inside.clause.items ++ literal_numbered n ∷ []) (to_z-of_z c.ranges.number)) refl)
 
 pub returns-in-Err-put_number : goal.returns-in-Err-put_number
 returns-in-Err-put_number g c = rw (← c.self.view_is)

@@ -13,10 +13,10 @@ returns-then-is_some g c = rw (← c.self.view_is)
     (stays-refused (AssumesNumber _) _ (sym c.is_some.ensures ∙ c.if-is_some.true)
     (λ p r. Refused (λ e. c.if-number-eq0.false (ap (of_z w32) e)) (Again r refl)))
 
-pub returns-in-Ok : goal.returns-in-Ok
-returns-in-Ok g c = rw (← c.self.view_is)
+pub returns-in_default : goal.returns-in_default
+returns-in_default g c = rw (← c.self.view_is)
     (put-assumption _ _ _ (λ e. c.if-number-eq0.false (ap (of_z w32) e)) (sym c.is_some.ensures ∙ c.if-is_some.false)
-    (c.in-Ok.ensures {u = tt} ∙ ap (λ n. c.self.inside.assumptions.items ++ literal_numbered n ∷ []) (to_z-of_z c.ranges.number)) refl)
+    (c.in_default.ensures {u = tt} ∙ ap (λ n. c.self.inside.assumptions.items ++ literal_numbered n ∷ []) (to_z-of_z c.ranges.number)) refl)
 
 pub returns-in-Err : goal.returns-in-Err
 returns-in-Err g c = rw (← c.self.view_is)

@@ -6,7 +6,7 @@ use std::process::ExitCode;
 use std::{env, fs};
 use varisat::line::parse_number;
 use varisat_formula::io::IoTarget;
-use varisat_wcnf::program::{solve_lines, tell};
+use varisat_wcnf::program::{solve_lines, tell, tell_file};
 
 /// What `--help` prints.
 const HELP: &str = "maxsat FILE [--max-steps N]
@@ -73,7 +73,12 @@ fn run(rt: &HostRuntime) -> io::Result<u8> {
 
 /// Solves the problem in the file.
 fn solve(rt: &HostRuntime, path: &str, steps: Option<u64>) -> io::Result<u8> {
-    let text = fs::read(rt, path)?;
-    let mut out = IoTarget::new(BufWriter::new(rt.alloc(), io::writer(rt))?);
-    Ok(solve_lines(rt.alloc(), &text, steps, &mut out, &mut rt.stderr()))
+    let mut err = rt.stderr();
+    match fs::read(rt, path) {
+        Ok(text) => {
+            let mut out = IoTarget::new(BufWriter::new(rt.alloc(), io::writer(rt))?);
+            Ok(solve_lines(rt.alloc(), &text, steps, &mut out, &mut err))
+        }
+        Err(error) => Ok(tell_file(&mut err, path, &error)),
+    }
 }

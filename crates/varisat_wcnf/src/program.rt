@@ -160,3 +160,10 @@ pub fn tell<E: Write, F: Display>(err: &mut E, fault: &F) -> u8
     let _ = writeln!(err, "error: {fault}");
     STATUS_FAULT
 }
+
+/// Tells why a file cannot be read, and returns the status for it.
+pub fn tell_file<E: Write, F: Display>(err: &mut E, path: &str, fault: &F) -> u8
+    ensures { result ≡ 2 }
+{
+    tell(err, &format_args!("'{path}': {fault}"))
+}

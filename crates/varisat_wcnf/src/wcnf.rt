@@ -5,8 +5,9 @@ ghost use Rattle.varisat_formula.specs.promises.Dimacs.{is_line_feed, is_blank, 
 ghost use Rattle.varisat_maxsat.specs.promises.Problems.{Problem as Asked, with_hard, with_soft};
 ghost use Rattle.varisat_wcnf.specs.promises.Texts.{WcnfReading, line_words, below_limit, clause_of, heading_by, top_of, heading_of, after_heading, after_clause, after_weight, after_line, is_hard, wcnf};
 ghost use Rattle.varisat_wcnf.specs.declared.wcnf.WcnfFault.TheVariants.{OutOfMemory, End};
+ghost use Rattle.varisat_wcnf.specs.inside.Faults.{fault_of_formula};
 
-use std::alloc::Allocator;
+use std::alloc::{AllocFailed, Allocator};
 use std::marker::Model;
 use thiserror::Error;
 use varisat_formula::dimacs::token::{Digits, Meaning, Word, is_blank_byte};
@@ -35,6 +36,25 @@ pub enum WcnfFault {
     /// A clause has no 0 at its end, or something behind it.
     #[error("expected 0 at the end of the line")]
     End,
+}
+
+impl<T: Drop> From<AllocFailed<T>> for WcnfFault {
+    ghost from_gives = { λ _ fault. fault ≡ OutOfMemory };
+
+    fn from(_error: AllocFailed<T>) -> WcnfFault {
+        WcnfFault::OutOfMemory
+    }
+}
+
+impl From<FormulaError> for WcnfFault {
+    ghost from_gives = { λ error fault. fault ≡ fault_of_formula error };
+
+    fn from(error: FormulaError) -> WcnfFault {
+        match error {
+            FormulaError::Full => WcnfFault::VariableLimit,
+            FormulaError::Memory => WcnfFault::OutOfMemory,
+        }
+    }
 }
 
 /// A fault, and the number of its line.
@@ -161,10 +181,7 @@ fn parse_clause<A: Allocator + Copy>(line: &[u8], clause: &mut Vec<Lit, A>) -> R
                 ensure_end(others)?;
                 return Ok(());
             }
-            Meaning::Literal(literal) => match clause.push(literal) {
-                Ok(()) => {}
-                Err(_) => return Err(WcnfFault::OutOfMemory),
-            },
+            Meaning::Literal(literal) => clause.push(literal)?,
             Meaning::TooLarge => return Err(WcnfFault::VariableLimit),
             Meaning::Wrong => return Err(WcnfFault::Literal),
         }
@@ -182,15 +199,9 @@ fn heading_by(
     ensures heading { result ≡ heading_by variables clauses top }
     ensures small { IfOk result (λ h. h.variables ≤ 2 ^ 28) }
 {
-    let Some(variables) = variables else {
-        return Err(WcnfFault::Header);
-    };
-    if clauses.is_none() {
-        return Err(WcnfFault::Header);
-    }
-    let Some(top) = top else {
-        return Err(WcnfFault::Header);
-    };
+    let variables = variables.ok_or(WcnfFault::Header)?;
+    clauses.ok_or(WcnfFault::Header)?;
+    let top = top.ok_or(WcnfFault::Header)?;
     if variables > VARIABLE_LIMIT as u64 {
         return Err(WcnfFault::VariableLimit);
     }
@@ -207,10 +218,8 @@ fn top_of(line: &[u8]) -> Option<Option<u64>>
     if split_word(rest).is_some() {
         return None;
     }
-    match number_of(word) {
-        Some(top) => Some(Some(top)),
-        None => None,
-    }
+    let top = number_of(word)?;
+    Some(Some(top))
 }
 
 /// Reads what follows the `p` of a header.
@@ -218,15 +227,9 @@ fn parse_header(line: &[u8]) -> Result<WcnfHeading, WcnfFault>
     ensures heading { result ≡ heading_of (line_words line.now) }
     ensures small { IfOk result (λ h. h.variables ≤ 2 ^ 28) }
 {
-    let Some((name, behind_name)) = split_word(line) else {
-        return Err(WcnfFault::Header);
-    };
-    let Some((variables, behind_variables)) = split_word(behind_name) else {
-        return Err(WcnfFault::Header);
-    };
-    let Some((clauses, rest)) = split_word(behind_variables) else {
-        return Err(WcnfFault::Header);
-    };
+    let (name, rest) = split_word(line).ok_or(WcnfFault::Header)?;
+    let (variables, rest) = split_word(rest).ok_or(WcnfFault::Header)?;
+    let (clauses, rest) = split_word(rest).ok_or(WcnfFault::Header)?;
     if name != b"wcnf".as_slice() {
         return Err(WcnfFault::Header);
     }
@@ -256,13 +259,9 @@ impl<A: Allocator + Copy> Reader<A> {
             (λ e. (e ≡ OutOfMemory) ⊎ (after_clause with_hard self.old (clause_of (line_words line.now)) ≡ Err e)) }
     {
         parse_clause(line, clause)?;
-        match self.problem.add_hard(clause) {
-            Ok(()) => {
-                self.has_begun = true;
-                Ok(())
-            }
-            Err(_) => Err(WcnfFault::OutOfMemory),
-        }
+        self.problem.add_hard(clause)?;
+        self.has_begun = true;
+        Ok(())
     }
 
     /// Takes a soft clause.
@@ -278,13 +277,9 @@ impl<A: Allocator + Copy> Reader<A> {
             (λ e. (e ≡ OutOfMemory) ⊎ (after_clause (with_soft weight) self.old (clause_of (line_words line.now)) ≡ Err e)) }
     {
         parse_clause(line, clause)?;
-        match self.problem.add_soft(weight, clause) {
-            Ok(()) => {
-                self.has_begun = true;
-                Ok(())
-            }
-            Err(_) => Err(WcnfFault::OutOfMemory),
-        }
+        self.problem.add_soft(weight, clause)?;
+        self.has_begun = true;
+        Ok(())
     }
 
     /// Takes a clause with a weight.
@@ -359,14 +354,11 @@ pub fn parse<A: Allocator + Copy>(text: &[u8], alloc: A) -> Result<Problem<A>, W
     'lines: while let Some(behind) = rest {
         let (line, others) = split_line(behind);
         number += 1;
-        match reader.take_line(line, &mut clause) {
-            Ok(()) => {}
-            Err(fault) => {
-                return Err(WcnfError {
-                    line: number,
-                    fault,
-                });
-            }
+        if let Err(fault) = reader.take_line(line, &mut clause) {
+            return Err(WcnfError {
+                line: number,
+                fault,
+            });
         }
         rest = others;
     }

@@ -12,9 +12,20 @@ use Rattle.varisat_client.specs.inside.Clients.{Client, RepresentsPast, Moves}
 use Rattle.varisat_client.specs.declared.client.SearchEnd.{SearchEnd}
 use Rattle.varisat_client.specs.declared.client.SearchEnd.TheVariants as end
 use Rattle.varisat_maxsat.specs.inside.Charges.{AreAssumed, IsSplit, AreValues}
-use Rattle.varisat_maxsat.specs.inside.Reductions.{IsReady, HasBegun, FindsModel, FindsCore, IsReadyWith, GivesSoFar, AssumesSoFar}
+use Rattle.varisat_maxsat.specs.inside.Reductions.{IsReady, HasBegun, FindsModel, FindsCore, IsReadyWith}
 use Rattle.varisat_maxsat.specs.declared.charge.Charge.{Charge}
 use Rattle.varisat_maxsat.proofs.Taking.{take-item, assumes-none, assumes-one, assumes-not, splits-failed, splits-kept}
+
+-- A clause was given as far as these literals.
+pub record GivesSoFar (g : Client) (ls : List Literal) (h : Client) : Type 0 where
+  pub far : (p : ClientPast) → IsReady g p →
+      (q : ClientPast) × RepresentsPast h q × (q.refusal ≡ None → q ≡ record p { clause = ls })
+
+-- Assumptions were given for these charges.
+pub record AssumesSoFar (g : Client) (threshold : ℕ) (charges : List Charge) (h : Client) : Type 0 where
+  pub far : (p : ClientPast) → IsReady g p →
+      (q : ClientPast) × (ls : List Literal) × AreAssumed threshold charges ls × RepresentsPast h q
+      × (q.refusal ≡ None → q ≡ record p { assumptions = ls })
 
 -- what is not refused was not refused before
 not-refused : (given : List Literal) (stores : Bool) (p q : ClientPast) → Refuses given stores p q → q.refusal ≡ None → ⊥

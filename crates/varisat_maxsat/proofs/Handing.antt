@@ -3,41 +3,38 @@ use Rattle.std.proofs.Common.{◌≡◌, ℕ, ◌<◌, ◌≤◌, Bool, true, fa
 use Rattle.std.specs.Prelude.{Option, Some, None, option_map, Result, Ok, Err, IfSome, IfErr, IsSomeAnd, IsErr, IsErrAnd, MatchResult, ◌↔◌}
 use Rattle.varisat_theory.specs.promises.Literals.{IsSatisfiable}
 use Rattle.varisat_formula.specs.promises.Values.{assignment_of}
-use Rattle.varisat_maxsat.specs.promises.Problems.{Problem, cost, IsSolution, IsOptimum, Found, Improve, last_found, IsStopped}
+use Rattle.varisat_maxsat.specs.promises.Problems.{Problem, cost, IsSolution, IsOptimum, Found, found_of, Improve, last_found, IsStopped}
 use Rattle.varisat_maxsat.specs.declared.refusal.MaxSatError.{MaxSatError}
 use Rattle.varisat_maxsat.specs.declared.refusal.MaxSatError.TheVariants.{StepsSpent, Ended}
-use Rattle.varisat_maxsat.specs.inside.Reductions.{Took, EndsBySink}
+use Rattle.varisat_maxsat.specs.declared.solving.Solution.{Solution}
+use Rattle.varisat_maxsat.specs.inside.Reductions.{Took, EndsBySink, IfSomeSolution, IfSomeOptimum}
 
 improve-more : (p : Problem) (f : Found) (fs : List Found) → IfSome (last_found fs) (λ g. (f.cost < g.cost) × (g.goes_on ≡ true)) → IsSolution p f.cost f.values →
     Improve p fs → Improve p (f ∷ fs)
 improve-more p f [] less s i = s
 improve-more p f (g ∷ fs) (less, on) s i = (s, less, on, i)
 
--- a solution and what was said as it was handed on
-abbrev pub found_at : {X : Type 0} → (X → ℕ) → (X → List Bool) → Bool → X → Found
-found_at cost_of values_of b x = record { cost = cost_of x; values = values_of x; goes_on = b }
-
-less-mapped : {X : Type 0} (cost_of : X → ℕ) (values_of : X → List Bool) (o : Option X) (k : ℕ) (b : Bool) → b ≡ true → IfSome o (λ x. k < cost_of x) →
-    IfSome (option_map (found_at cost_of values_of b) o) (λ g. (k < g.cost) × (g.goes_on ≡ true))
-less-mapped cost_of values_of None k b e h = h
-less-mapped cost_of values_of (Some x) k b e h = (h, e)
+less-mapped : {A : Type 0} (o : Option (Solution A)) (k : ℕ) (b : Bool) → b ≡ true → IfSome o (λ x. k < x.cost) →
+    IfSome (option_map (found_of b) o) (λ g. (k < g.cost) × (g.goes_on ≡ true))
+less-mapped None k b e h = h
+less-mapped (Some x) k b e h = (h, e)
 
 goes-on : (b : Bool) → (b ≡ false → ⊥) → b ≡ true
 goes-on true f = refl
 goes-on false f = absurd (f refl)
 
 -- a better solution is handed on
-pub took-better : {S X : Type 0} (takes : S → List Found → S → Type 0) (p : Problem) (cost_of : X → ℕ) (values_of : X → List Bool) (o : Option X) (k : ℕ)
-    (given values : List Bool) (on : Bool) (ended : Type 0) (s t x : S) → given ≡ values → IfSome o (λ y. k < cost_of y) →
+pub took-better : {S A : Type 0} (takes : S → List Found → S → Type 0) (p : Problem) (o : Option (Solution A)) (k : ℕ)
+    (given values : List Bool) (on : Bool) (ended : Type 0) (s t x : S) → given ≡ values → IfSome o (λ y. k < y.cost) →
     ((x : S) (found : List Found) → takes x found s → takes x (record { cost = k; values = given; goes_on = on } ∷ found) t) → IsSolution p k values →
-    (on ≡ false → ended) → (ended → on ≡ false) → Took takes x p (λ b. option_map (found_at cost_of values_of b) o) ⊥ s →
+    (on ≡ false → ended) → (ended → on ≡ false) → Took takes x p (λ b. option_map (found_of b) o) ⊥ s →
     Took takes x p (λ b. Some (record { cost = k; values = values; goes_on = b })) ended t
-took-better takes p cost_of values_of o k given values on ended s t x e less step sol stops ends b = record {
+took-better takes p o k given values on ended s t x e less step sol stops ends b = record {
   found = record { cost = k; values = values; goes_on = on } ∷ b.found;
   taken = subst (λ vs. takes x (record { cost = k; values = vs; goes_on = on } ∷ b.found) t) e (step x b.found b.taken);
   improve = improve-more p (record { cost = k; values = values; goes_on = on }) b.found
       (subst (λ l. IfSome l (λ g. (k < g.cost) × (g.goes_on ≡ true))) (sym b.last)
-      (less-mapped cost_of values_of o k b.goes_on (goes-on b.goes_on b.stops) less)) sol b.improve;
+      (less-mapped o k b.goes_on (goes-on b.goes_on b.stops) less)) sol b.improve;
   goes_on = on;
   last = refl;
   stops = stops;
@@ -90,22 +87,21 @@ none-found p (f ∷ []) n i = absurd (n (assignment_of f.values, i.satisfied))
 none-found p (f ∷ g ∷ fs) n i = absurd (n (assignment_of f.values, i.0.satisfied))
 
 -- what costs no more than an optimum is one
-pub also-optimal : {X : Type 0} (cost_of : X → ℕ) (values_of : X → List Bool) (p : Problem) (k : ℕ) (values : List Bool) (o : Option X) →
-    IfSome o (λ s. cost_of s ≤ k) → IsOptimum p k values → IfSome o (λ s. IsSolution p (cost_of s) (values_of s)) →
-    IfSome o (λ s. IsOptimum p (cost_of s) (values_of s))
-also-optimal cost_of values_of p k values None l m s = l
-also-optimal cost_of values_of p k values (Some x) l m s = record {
+pub also-optimal : {A : Type 0} (p : Problem) (k : ℕ) (values : List Bool) (o : Option (Solution A)) →
+    IfSome o (λ s. s.cost ≤ k) → IsOptimum p k values → IfSomeSolution p o → IfSomeOptimum p o
+also-optimal p k values None l m s = l
+also-optimal p k values (Some x) l m s = record {
   solution = s;
   least = λ a h. let j = m.least a h in omega (arith, l, j);
 }
 
 -- the answer is the last one that was handed on
-answer-last : {X : Type 0} (cost_of : X → ℕ) (values_of : X → List Bool) (o : Option X) (k : ℕ) (values : List Bool) (b : Bool) (fs : List Found) → b ≡ true →
-    last_found fs ≡ option_map (found_at cost_of values_of b) o → IsSomeAnd o (λ t. (cost_of t ≡ k) × (values_of t ≡ values)) →
+answer-last : {A : Type 0} (o : Option (Solution A)) (k : ℕ) (values : List Bool) (b : Bool) (fs : List Found) → b ≡ true →
+    last_found fs ≡ option_map (found_of b) o → IsSomeAnd o (λ t. (t.cost ≡ k) × (t.values.items ≡ values)) →
     last_found fs ≡ Some (record { cost = k; values = values; goes_on = true })
-answer-last cost_of values_of None k values b fs on e h = absurd h
-answer-last cost_of values_of (Some x) k values b fs on e (c, v) =
-    e ∙ ap (λ n. Some (record { cost = n; values = values_of x; goes_on = b })) c ∙ ap (λ vs. Some (record { cost = k; values = vs; goes_on = b })) v
+answer-last None k values b fs on e h = absurd h
+answer-last (Some x) k values b fs on e (c, v) =
+    e ∙ ap (λ n. Some (record { cost = n; values = x.values.items; goes_on = b })) c ∙ ap (λ vs. Some (record { cost = k; values = vs; goes_on = b })) v
     ∙ ap (λ y. Some (record { cost = k; values = values; goes_on = y })) on
 
 -- a solution with what it was found to cost
@@ -114,34 +110,34 @@ pub costs-so : (p : Problem) (k : ℕ) (given values : List Bool) → given ≡ 
 costs-so p k given values e c sol = subst (λ n. IsSolution p n values) (ap (λ vs. cost (assignment_of vs) p.soft) (sym e) ∙ c) sol
 
 -- a sink and a best solution that were handed back
-pub took-moves : {S X : Type 0} (takes : S → List Found → S → Type 0) (p : Problem) (as_found : Bool → X → Found) (o q : Option X) (s t x : S) → q ≡ o → t ≡ s →
-    Took takes x p (λ b. option_map (as_found b) o) ⊥ s → Took takes x p (λ b. option_map (as_found b) q) ⊥ t
-took-moves takes p as_found o q s t x e f b =
-    subst (λ y. Took takes x p (λ b. option_map (as_found b) y) ⊥ t) (sym e) (subst (λ y. Took takes x p (λ b. option_map (as_found b) o) ⊥ y) (sym f) b)
+pub took-moves : {S A : Type 0} (takes : S → List Found → S → Type 0) (p : Problem) (o q : Option (Solution A)) (s t x : S) → q ≡ o → t ≡ s →
+    Took takes x p (λ b. option_map (found_of b) o) ⊥ s → Took takes x p (λ b. option_map (found_of b) q) ⊥ t
+took-moves takes p o q s t x e f b =
+    subst (λ y. Took takes x p (λ b. option_map (found_of b) y) ⊥ t) (sym e) (subst (λ y. Took takes x p (λ b. option_map (found_of b) o) ⊥ y) (sym f) b)
 
 -- what was handed on at the end
 pub handed-none : {S : Type 0} (takes : S → List Found → S → Type 0) (p : Problem) (best : Bool → Option Found) (ended : Type 0) (x s : S) →
     (IsSatisfiable p.hard → ⊥) → Took takes x p best ended s → (found : List Found) × Improve p found × takes x found s × (found ≡ [])
 handed-none takes p best ended x s n b = (b.found, b.improve, b.taken, none-found p b.found n b.improve)
 
-pub handed-best : {S X : Type 0} (takes : S → List Found → S → Type 0) (p : Problem) (cost_of : X → ℕ) (values_of : X → List Bool) (o : Option X) (k : ℕ)
-    (values : List Bool) (ended : Type 0) (x s : S) → IsSomeAnd o (λ t. (cost_of t ≡ k) × (values_of t ≡ values)) → (ended → ⊥) →
-    Took takes x p (λ b. option_map (found_at cost_of values_of b) o) ended s →
+pub handed-best : {S A : Type 0} (takes : S → List Found → S → Type 0) (p : Problem) (o : Option (Solution A)) (k : ℕ)
+    (values : List Bool) (ended : Type 0) (x s : S) → IsSomeAnd o (λ t. (t.cost ≡ k) × (t.values.items ≡ values)) → (ended → ⊥) →
+    Took takes x p (λ b. option_map (found_of b) o) ended s →
     (found : List Found) × Improve p found × takes x found s × (last_found found ≡ Some (record { cost = k; values = values; goes_on = true }))
-handed-best takes p cost_of values_of o k values ended x s h f b =
-    (b.found, b.improve, b.taken, answer-last cost_of values_of o k values b.goes_on b.found (goes-on b.goes_on (λ e. f (b.stops e))) b.last h)
+handed-best takes p o k values ended x s h f b =
+    (b.found, b.improve, b.taken, answer-last o k values b.goes_on b.found (goes-on b.goes_on (λ e. f (b.stops e))) b.last h)
 
-last-stops : {X : Type 0} (cost_of : X → ℕ) (values_of : X → List Bool) (o : Option X) (fs : List Found) (b : Bool) (ended : Type 0) →
-    last_found fs ≡ option_map (found_at cost_of values_of b) o → (b ≡ false → ended) → IsStopped fs → ended
-last-stops cost_of values_of None fs b ended e h s = absurd (subst (λ l. IsSomeAnd l (λ f. f.goes_on ≡ false)) e s)
-last-stops cost_of values_of (Some x) fs b ended e h s = h (subst (λ l. IsSomeAnd l (λ f. f.goes_on ≡ false)) e s)
+last-stops : {A : Type 0} (o : Option (Solution A)) (fs : List Found) (b : Bool) (ended : Type 0) →
+    last_found fs ≡ option_map (found_of b) o → (b ≡ false → ended) → IsStopped fs → ended
+last-stops None fs b ended e h s = absurd (subst (λ l. IsSomeAnd l (λ f. f.goes_on ≡ false)) e s)
+last-stops (Some x) fs b ended e h s = h (subst (λ l. IsSomeAnd l (λ f. f.goes_on ≡ false)) e s)
 
-pub handed-so-far : {S X : Type 0} (takes : S → List Found → S → Type 0) (p : Problem) (cost_of : X → ℕ) (values_of : X → List Bool) (o : Option X)
-    (ended : Type 0) (x s : S) (A : List Found → Type 0) →
-    ((found : List Found) → (ended ↔ IsStopped found) → A found) →
-    Took takes x p (λ b. option_map (found_at cost_of values_of b) o) ended s → (found : List Found) × Improve p found × takes x found s × A found
-handed-so-far takes p cost_of values_of o ended x s A f b =
-    (b.found, b.improve, b.taken, f b.found (b.ends, last-stops cost_of values_of o b.found b.goes_on ended b.last b.stops))
+pub handed-so-far : {S A : Type 0} (takes : S → List Found → S → Type 0) (p : Problem) (o : Option (Solution A))
+    (ended : Type 0) (x s : S) (P : List Found → Type 0) →
+    ((found : List Found) → (ended ↔ IsStopped found) → P found) →
+    Took takes x p (λ b. option_map (found_of b) o) ended s → (found : List Found) × Improve p found × takes x found s × P found
+handed-so-far takes p o ended x s P f b =
+    (b.found, b.improve, b.taken, f b.found (b.ends, last-stops o b.found b.goes_on ended b.last b.stops))
 
 -- an error where the search went on
 pub other-error : {X : Type 0} (r : Result X MaxSatError) (d : MaxSatError) (fs : List Found) (P : X → Type 0) → IsErr r × IsErrAnd r (λ e. e ≡ d) → (d ≡ Ended → ⊥) →

@@ -7,10 +7,15 @@ use Rattle.varisat_theory.proofs.clauses.Members.{∈-append_cases}
 use Rattle.varisat_client.specs.promises.Pasts.{ClientPast}
 use Rattle.varisat_client.specs.inside.Clients.{Client}
 use Rattle.varisat_maxsat.specs.inside.Charges.{ChargesAreBelow, Exchanges, AreParted, IsSplit}
-use Rattle.varisat_maxsat.specs.inside.Reductions.{IsReady, IsReadyWith, FindsModel, FindsCore, Finds, FindsWithin, FindsLightly, SearchesOn, KeepsParted, GivesUp}
+use Rattle.varisat_maxsat.specs.inside.Reductions.{IsReady, IsReadyWith, FindsModel, FindsCore, Finds, FindsWithin, FindsLightly, KeepsParted, GivesUp}
 use Rattle.varisat_maxsat.specs.declared.charge.Charge.{Charge}
 use Rattle.varisat_maxsat.proofs.Agreeing.{charged-append}
 use Rattle.varisat_maxsat.proofs.Taking.{core-charge}
+
+-- A search goes on for a model in which no charge is due that is left.
+pub record SearchesOn (charges left given_up : List Charge) (P : List Clause) (h : Client) : Type 0 where
+  pub ready : IsReadyWith P h
+  pub parted : AreParted charges left given_up
 
 both-below : (n : ℕ) (xs ys : List Charge) → ChargesAreBelow n xs → ChargesAreBelow n ys → ChargesAreBelow n (xs ++ ys)
 both-below n xs ys f g c i = ⊎_elim (λ j. f c j) (λ j. g c j) (∈-append_cases c xs ys i)

@@ -119,7 +119,8 @@ pub(crate) fn search<A: Allocator + Copy>(
     steps: Option<u64>,
 ) -> Result<Option<bool>, MaxSatError>
     ensures { MatchResult result
-        (λ o. (p : ClientPast) → IsReady client.old p → FindsWithin o threshold charges.now p.clauses client.new) IsLimit }
+        (λ o. (p : ClientPast) → IsReady client.old p → FindsWithin o threshold charges.now p.clauses client.new)
+        IsLimit }
 {
     limit_search(client, steps);
     assume(client, charges, threshold)?;
@@ -141,7 +142,8 @@ pub(crate) fn divide<A: Allocator + Copy>(
     alloc: A,
 ) -> Result<Split<A>, MaxSatError>
     ensures { MatchResult result
-        (λ s. (p : ClientPast) → IsReady client.now p → IsSplit p.core charges.now s.kept.items s.failed.items) IsLimit }
+        (λ s. (p : ClientPast) → IsReady client.now p → IsSplit p.core charges.now s.kept.items s.failed.items)
+        IsLimit }
 {
     let mut kept = Vec::new(alloc);
     let mut failed = Vec::new(alloc);
@@ -196,8 +198,8 @@ fn light_steps(steps: Option<u64>) -> Option<u64> {
     }
 }
 
-/// Searches for a model in which few charges are due: those of each core are given up, and all once half of the steps are
-/// made, or many. They come first in the list that is returned. None is for clauses that no assignment satisfies.
+/// Searches for a model in which few charges are due: those of each core are given up, and all once half of the steps
+/// are made, or many. They come first in the list that is returned. None is for clauses that no assignment satisfies.
 pub(crate) fn search_lightly<A: Allocator + Copy>(
     client: &mut Client<A>,
     charges: &[Charge],

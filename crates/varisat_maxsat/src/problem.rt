@@ -3,7 +3,7 @@ ghost use Rattle.std.specs.Prelude.{◌≡◌, ◌++◌, max, OnOk, IfErr, IfSom
 ghost use Rattle.varisat_formula.specs.promises.Formulas.{AreBelow, variables_of};
 ghost use Rattle.varisat_formula.specs.declared.formula.cnf.FormulaError.TheVariants.{Memory};
 ghost use Rattle.varisat_formula.specs.promises.Values.{assignment_of, is_satisfied};
-ghost use Rattle.varisat_maxsat.specs.promises.Problems.{Problem as Asked, Soft, starting, paired, with_hard, with_soft, cost};
+ghost use Rattle.varisat_maxsat.specs.promises.Problems.{Problem as Asked, Soft, starting, with_var_count, paired, with_hard, with_soft, cost};
 ghost use Rattle.varisat_maxsat.specs.inside.Errors.{IsLimit};
 ghost use Rattle.varisat_maxsat.specs.inside.Reductions.{ReducesTo};
 
@@ -29,7 +29,8 @@ impl<A: Allocator + Copy> Model for Problem<A> {
 
     ghost Value = { problems.Problem };
 
-    ghost view = { λ p. problems.problem_of (max p.hard.var_count p.soft.var_count) p.hard.clauses (problems.paired p.weights.items p.soft.clauses) };
+    ghost view = { λ p. problems.problem_of (max p.hard.var_count p.soft.var_count) p.hard.clauses
+        (problems.paired p.weights.items p.soft.clauses) };
 
     ghost invariant = { λ p. length p.weights.items ≡ length p.soft.clauses };
 }
@@ -124,7 +125,7 @@ impl<A: Allocator + Copy> Problem<A> {
     /// Raises the count of variables to the given one, and never lowers it.
     pub fn set_var_count(&mut self, count: usize)
         requires { count ≤ 2 ^ 31 }
-        ensures { self.new ≡ record self.old { variables = max self.old.variables count } }
+        ensures { self.new ≡ with_var_count count self.old }
     {
         self.hard.set_var_count(count);
     }
@@ -132,8 +133,7 @@ impl<A: Allocator + Copy> Problem<A> {
     /// Takes a hard clause. An error comes where there is no memory for it, and then nothing changes.
     pub fn add_hard(&mut self, clause: &[Lit]) -> Result<(), FormulaError>
         ensures ok { OnOk result
-            (self.new
-            ≡ record (with_hard clause.now self.old) { variables = max self.old.variables (variables_of clause.now) }) }
+            (self.new ≡ with_hard clause.now (with_var_count (variables_of clause.now) self.old)) }
         ensures refused { IfErr result (λ e. (e ≡ Memory) × (self.new ≡ self.old)) }
     {
         self.hard.add_clause(clause)?;
@@ -143,9 +143,7 @@ impl<A: Allocator + Copy> Problem<A> {
     /// Takes a soft clause with its weight. An error comes where there is no memory for it, and then nothing changes.
     pub fn add_soft(&mut self, weight: u64, clause: &[Lit]) -> Result<(), FormulaError>
         ensures ok { OnOk result
-            (self.new
-            ≡ record
-            (with_soft weight clause.now self.old) { variables = max self.old.variables (variables_of clause.now) }) }
+            (self.new ≡ with_soft weight clause.now (with_var_count (variables_of clause.now) self.old)) }
         ensures refused { IfErr result (λ e. (e ≡ Memory) × (self.new ≡ self.old)) }
     {
         self.weights.reserve(1)?;

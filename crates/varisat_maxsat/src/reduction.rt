@@ -4,7 +4,7 @@ ghost use Rattle.varisat_formula.specs.promises.Values.{assignment_of};
 ghost use Rattle.varisat_maxsat.specs.promises.Problems.{Problem, starting, with_hard, with_soft, cost, IsSolution, IsOptimum, CostsAtLeast};
 ghost use Rattle.varisat_maxsat.specs.declared.refusal.MaxSatError.TheVariants.{CostOverflow, Ended};
 ghost use Rattle.varisat_maxsat.specs.inside.Errors.{IsLimit};
-ghost use Rattle.varisat_maxsat.specs.inside.Reductions.{ReducesTo, ReducesToWith, ReducesToAfter, ReducesToBelow, FindsSolution, DecidesHard, IsImproved, KeepsReductions, IsRelaxed};
+ghost use Rattle.varisat_maxsat.specs.inside.Reductions.{ReducesTo, ReducesToWith, ReducesToAfter, ReducesToBelow, FindsSolution, DecidesHard, IsImproved, KeepsReductions, KeepsOrMeetsLimit, IsRelaxed};
 
 use crate::charge::{Charge, Joined, divide_digits, join_equal, least_weight, raised, take_weight};
 use crate::counter::{Counter, adds_up, counter_of_charge, is_within};
@@ -36,7 +36,8 @@ impl<A: Allocator + Copy> Model for Reduction<A> {
 
     ghost Value = { reductions.Reduction };
 
-    ghost view = { λ r. reductions.reduction_of r.client r.variables r.named r.charges.items r.bound r.counters.items r.ceiling };
+    ghost view = { λ r. reductions.reduction_of r.client r.variables r.named r.charges.items r.bound r.counters.items
+        r.ceiling };
 }
 
 impl<A: Allocator + Copy> Reduction<A> {
@@ -181,8 +182,8 @@ impl<A: Allocator + Copy> Reduction<A> {
         Ok(())
     }
 
-    /// In place of two literals: one that is true where either is, which is returned, and one that is true where both are,
-    /// which is charged.
+    /// In place of two literals: one that is true where either is, which is returned, and one that is true where both
+    /// are, which is charged.
     fn join(&mut self, first: Lit, second: Lit, weight: u64) -> Result<Lit, MaxSatError>
         ensures { MatchResult result
             (λ d. (p : Problem) (rest : List ℕ) → ReducesToWith p (first ∷ second ∷ rest) weight self.old →
@@ -244,7 +245,7 @@ impl<A: Allocator + Copy> Reduction<A> {
 
     /// Counts a sum of charges.
     pub fn add_counter(&mut self, sum: Sum) -> Result<(), MaxSatError>
-        ensures { MatchResult result (λ _. KeepsReductions self.old self.new) IsLimit }
+        ensures { KeepsOrMeetsLimit result self.old self.new }
     {
         if let Some(counter) = counter_of_charge(&self.charges, sum) {
             self.counters.push(counter)?;
@@ -262,7 +263,7 @@ impl<A: Allocator + Copy> Reduction<A> {
 
     /// Gives the clause of a rule by which one counter follows from another one.
     fn imply(&mut self, cause: usize, effect: usize) -> Result<(), MaxSatError>
-        ensures { MatchResult result (λ _. KeepsReductions self.old self.new) IsLimit }
+        ensures { KeepsOrMeetsLimit result self.old self.new }
     {
         if cause >= self.counters.len() || effect >= self.counters.len() {
             return Ok(());
@@ -278,7 +279,7 @@ impl<A: Allocator + Copy> Reduction<A> {
 
     /// Gives the clause of a rule by which one counter follows from two others.
     fn add_up(&mut self, left: usize, right: usize, effect: usize) -> Result<(), MaxSatError>
-        ensures { MatchResult result (λ _. KeepsReductions self.old self.new) IsLimit }
+        ensures { KeepsOrMeetsLimit result self.old self.new }
     {
         let count = self.counters.len();
         if left >= count || right >= count || effect >= count {
@@ -299,7 +300,7 @@ impl<A: Allocator + Copy> Reduction<A> {
 
     /// Gives the clause of a rule.
     pub fn follow(&mut self, rule: Rule) -> Result<(), MaxSatError>
-        ensures { MatchResult result (λ _. KeepsReductions self.old self.new) IsLimit }
+        ensures { KeepsOrMeetsLimit result self.old self.new }
     {
         if rule.left == rule.right {
             self.imply(rule.left, rule.effect)?;
@@ -311,7 +312,7 @@ impl<A: Allocator + Copy> Reduction<A> {
 
     /// Forbids what costs no less than the ceiling by this counter.
     pub fn forbid(&mut self, index: usize) -> Result<(), MaxSatError>
-        ensures { MatchResult result (λ _. KeepsReductions self.old self.new) IsLimit }
+        ensures { KeepsOrMeetsLimit result self.old self.new }
     {
         if index >= self.counters.len() {
             return Ok(());

@@ -1,10 +1,10 @@
 //! Solving.
-ghost use Rattle.std.specs.Prelude.{◌≡◌, ◌≢◌, ◌<◌, ◌≤◌, ◌^◌, ◌↔◌, List, [], Some, OnOk, IfOk, IfErr, IfSome, IsSomeAnd, MatchOption, MatchResult, IsTrue, IsFalse, true, false};
+ghost use Rattle.std.specs.Prelude.{◌≡◌, ◌≢◌, ◌<◌, ◌≤◌, ◌^◌, List, OnOk, IfOk, IfErr, IfSome, IsSomeAnd, MatchOption, MatchResult, IsTrue, IsFalse, true, false};
 ghost use Rattle.varisat_theory.specs.promises.Literals.{IsSatisfiable};
-ghost use Rattle.varisat_maxsat.specs.promises.Problems.{Problem as Asked, IsSolution, IsOptimum, IsOptimumOrSolution, CostsAtLeast, IsTooCostly, starting, Found, Improve, last_found, IsStopped};
+ghost use Rattle.varisat_maxsat.specs.promises.Problems.{Problem as Asked, IsSolution, IsOptimum, IsOptimumOrSolution, CostsAtLeast, IsTooCostly, starting, Found, Improve, ReturnsFound};
 ghost use Rattle.varisat_maxsat.specs.declared.refusal.MaxSatError.TheVariants.{CostOverflow, Ended};
 ghost use Rattle.varisat_maxsat.specs.inside.Errors.{IsLimit};
-ghost use Rattle.varisat_maxsat.specs.inside.Reductions.{ReducesTo, ReducesToAfter, ReducesToBelow, FindsSolution, IsEnded, KeepsReductions, EndsBySink, HandsOn};
+ghost use Rattle.varisat_maxsat.specs.inside.Reductions.{ReducesTo, ReducesToAfter, ReducesToBelow, FindsSolution, IsEnded, KeepsReductions, KeepsOrMeetsLimit, EndsBySink, HandsOn, IfSomeSolution, IfSomeOptimum};
 
 use crate::charge::greatest_weight;
 use crate::problem::Problem;
@@ -27,7 +27,8 @@ pub struct Optimum<A: Allocator + Copy> {
     pub values: Vec<bool, A>,
 }
 
-/// Values of the variables that satisfy the hard clauses, what they cost, and whether this is known to be the least cost.
+/// Values of the variables that satisfy the hard clauses, what they cost, and whether this is known to be the least
+/// cost.
 #[derive(Drop)]
 pub struct Solution<A: Allocator + Copy> {
     pub cost: u64,
@@ -66,12 +67,10 @@ fn keep_better<A: Allocator + Copy, S: SolutionSink>(
     sink: &mut S,
 ) -> Result<(), MaxSatError>
     ensures least { OnOk result (IfSome best.new (λ s. s.cost ≤ solution.cost)) }
-    ensures best { (p : Asked) → IsSolution p solution.cost solution.values.items →
-        IfSome best.old (λ s. IsSolution p s.cost s.values.items) →
-        IfSome best.new (λ s. IsSolution p s.cost s.values.items) }
+    ensures best { (p : Asked) → IsSolution p solution.cost solution.values.items → IfSomeSolution p best.old →
+        IfSomeSolution p best.new }
     ensures taken { (p : Asked) → IsSolution p solution.cost solution.values.items →
-        HandsOn S.takes p sink.old best.old sink.new best.new
-        (λ b s. record { cost = s.cost; values = s.values.items; goes_on = b }) (EndsBySink result) }
+        HandsOn S.takes p sink.old best.old sink.new best.new (EndsBySink result) }
     ensures ended { IfErr result (λ e. e ≡ Ended) }
 {
     if !is_better(solution.cost, best) {
@@ -93,12 +92,10 @@ fn keep_model<A: Allocator + Copy, S: SolutionSink>(
     best: &mut Option<Solution<A>>,
     sink: &mut S,
 ) -> Result<(), MaxSatError>
-    ensures best { FindsSolution problem.now reduction.now →
-        IfSome best.old (λ s. IsSolution problem.now s.cost s.values.items) →
-        IfSome best.new (λ s. IsSolution problem.now s.cost s.values.items) }
+    ensures best { FindsSolution problem.now reduction.now → IfSomeSolution problem.now best.old →
+        IfSomeSolution problem.now best.new }
     ensures taken { FindsSolution problem.now reduction.now →
-        HandsOn S.takes problem.now sink.old best.old sink.new best.new
-        (λ b s. record { cost = s.cost; values = s.values.items; goes_on = b }) (EndsBySink result) }
+        HandsOn S.takes problem.now sink.old best.old sink.new best.new (EndsBySink result) }
     ensures reason { IfErr result (λ e. e ≢ CostOverflow) }
 {
     let values = reduction.values()?;
@@ -122,15 +119,12 @@ fn descend<A: Allocator + Copy, S: SolutionSink>(
     sink: &mut S,
 ) -> Result<bool, MaxSatError>
     ensures ends { IfOk result
-        (λ b. ReducesTo problem.now reduction.old →
-        IfSome best.old (λ s. IsSolution problem.now s.cost s.values.items) →
-        IsEnded b problem.now (IfSome best.new (λ s. IsOptimum problem.now s.cost s.values.items))) }
-    ensures best { ReducesTo problem.now reduction.old →
-        IfSome best.old (λ s. IsSolution problem.now s.cost s.values.items) →
-        IfSome best.new (λ s. IsSolution problem.now s.cost s.values.items) }
+        (λ b. ReducesTo problem.now reduction.old → IfSomeSolution problem.now best.old →
+        IsEnded b problem.now (IfSomeOptimum problem.now best.new)) }
+    ensures best { ReducesTo problem.now reduction.old → IfSomeSolution problem.now best.old →
+        IfSomeSolution problem.now best.new }
     ensures taken { ReducesTo problem.now reduction.old →
-        HandsOn S.takes problem.now sink.old best.old sink.new best.new
-        (λ b s. record { cost = s.cost; values = s.values.items; goes_on = b }) (EndsBySink result) }
+        HandsOn S.takes problem.now sink.old best.old sink.new best.new (EndsBySink result) }
     ensures reason { IfErr result
         (λ e. e ≡ CostOverflow → ReducesTo problem.now reduction.old → CostsAtLeast (2 ^ 64) problem.now) }
 {
@@ -165,7 +159,7 @@ fn follow<A: Allocator + Copy>(
     reduction: &mut Reduction<A>,
     plan: &Plan<A>,
 ) -> Result<(), MaxSatError>
-    ensures { MatchResult result (λ _. KeepsReductions reduction.old reduction.new) IsLimit }
+    ensures { KeepsOrMeetsLimit result reduction.old reduction.new }
 {
     let sums = plan.sums();
     'sums: for index in reduction.counter_count()..sums.len() {
@@ -182,7 +176,7 @@ fn forbid_ceiling<A: Allocator + Copy>(
     reduction: &mut Reduction<A>,
     plan: &mut Plan<A>,
 ) -> Result<(), MaxSatError>
-    ensures { MatchResult result (λ _. KeepsReductions reduction.old reduction.new) IsLimit }
+    ensures { KeepsOrMeetsLimit result reduction.old reduction.new }
 {
     let least = reduction.ceiling().saturating_sub(reduction.bound());
     let Some(index) = plan.reach(least)? else {
@@ -266,15 +260,12 @@ fn improve<A: Allocator + Copy, S: SolutionSink>(
     alloc: A,
 ) -> Result<(), MaxSatError>
     ensures ends { OnOk result
-        (ReducesTo problem.now reduction.old →
-        IfSome best.old (λ s. IsSolution problem.now s.cost s.values.items) →
-        IfSome best.new (λ s. IsOptimum problem.now s.cost s.values.items)) }
-    ensures best { ReducesTo problem.now reduction.old →
-        IfSome best.old (λ s. IsSolution problem.now s.cost s.values.items) →
-        IfSome best.new (λ s. IsSolution problem.now s.cost s.values.items) }
+        (ReducesTo problem.now reduction.old → IfSomeSolution problem.now best.old →
+        IfSomeOptimum problem.now best.new) }
+    ensures best { ReducesTo problem.now reduction.old → IfSomeSolution problem.now best.old →
+        IfSomeSolution problem.now best.new }
     ensures taken { ReducesTo problem.now reduction.old →
-        HandsOn S.takes problem.now sink.old best.old sink.new best.new
-        (λ b s. record { cost = s.cost; values = s.values.items; goes_on = b }) (EndsBySink result) }
+        HandsOn S.takes problem.now sink.old best.old sink.new best.new (EndsBySink result) }
     ensures reason { IfErr result (λ e. e ≢ CostOverflow) }
 {
     let mut plan = begin_counting(reduction, best_cost(best), alloc)?;
@@ -305,15 +296,12 @@ fn decide<A: Allocator + Copy, S: SolutionSink>(
     alloc: A,
 ) -> Result<bool, MaxSatError>
     ensures ends { IfOk result
-        (λ b. ReducesTo problem.now reduction.old →
-        IfSome best.old (λ s. IsSolution problem.now s.cost s.values.items) →
-        IsEnded b problem.now (IfSome best.new (λ s. IsOptimum problem.now s.cost s.values.items))) }
-    ensures best { ReducesTo problem.now reduction.old →
-        IfSome best.old (λ s. IsSolution problem.now s.cost s.values.items) →
-        IfSome best.new (λ s. IsSolution problem.now s.cost s.values.items) }
+        (λ b. ReducesTo problem.now reduction.old → IfSomeSolution problem.now best.old →
+        IsEnded b problem.now (IfSomeOptimum problem.now best.new)) }
+    ensures best { ReducesTo problem.now reduction.old → IfSomeSolution problem.now best.old →
+        IfSomeSolution problem.now best.new }
     ensures taken { ReducesTo problem.now reduction.old →
-        HandsOn S.takes problem.now sink.old best.old sink.new best.new
-        (λ b s. record { cost = s.cost; values = s.values.items; goes_on = b }) (EndsBySink result) }
+        HandsOn S.takes problem.now sink.old best.old sink.new best.new (EndsBySink result) }
     ensures reason { IfErr result
         (λ e. e ≡ CostOverflow → ReducesTo problem.now reduction.old → IsTooCostly problem.now) }
 {
@@ -352,8 +340,8 @@ fn answer<A: Allocator + Copy>(
     }
 }
 
-/// Joins equal charges. Where what is due in any case passes 2^64 none is joined, since only a search tells whether there
-/// is a solution.
+/// Joins equal charges. Where what is due in any case passes 2^64 none is joined, since only a search tells whether
+/// there is a solution.
 fn join_if_bounded<A: Allocator + Copy>(reduction: &mut Reduction<A>) -> Result<(), MaxSatError>
     ensures { MatchResult result (λ _. (p : Asked) → ReducesTo p reduction.old → ReducesTo p reduction.new) IsLimit }
 {
@@ -377,10 +365,7 @@ fn solve<A: Allocator + Copy, S: SolutionSink>(
         MatchOption o (IsSatisfiable problem.now.hard → ⊥)
         (λ s. IsOptimumOrSolution s.is_optimum problem.now s.cost s.values.items)) }
     ensures taken { ReducesTo (starting problem.now.variables) reduction.old → (found : List Found)
-        × Improve problem.now found × S.takes sink.old found sink.new
-        × MatchResult result (λ o. MatchOption o (found ≡ [])
-        (λ s. last_found found ≡ Some (record { cost = s.cost; values = s.values.items; goes_on = true })))
-        (λ e. e ≡ Ended ↔ IsStopped found) }
+        × Improve problem.now found × S.takes sink.old found sink.new × ReturnsFound found result }
     ensures reason { IfErr result
         (λ e. e ≡ CostOverflow → ReducesTo (starting problem.now.variables) reduction.old → IsTooCostly problem.now) }
 {
@@ -405,10 +390,10 @@ fn solve<A: Allocator + Copy, S: SolutionSink>(
     }
 }
 
-/// The optimum of the problem, or where the searches would make more than so many steps in all the best solution until then. None is
-/// for a problem whose hard clauses no assignment satisfies. Each solution that costs less than those before it is handed on to
-/// the sink, the one that is returned last. Where the sink says that the search is not to go on, no more is handed on, and
-/// the error is `Ended`, as nowhere else.
+/// The optimum of the problem, or where the searches would make more than so many steps in all the best solution until
+/// then. None is for a problem whose hard clauses no assignment satisfies. Each solution that costs less than those
+/// before it is handed on to the sink, the one that is returned last. Where the sink says that the search is not to go
+/// on, no more is handed on, and the error is `Ended`, as nowhere else.
 pub fn optimize_within<A: Allocator + Copy, S: SolutionSink>(
     problem: &Problem<A>,
     steps: Option<u64>,
@@ -419,9 +404,7 @@ pub fn optimize_within<A: Allocator + Copy, S: SolutionSink>(
         (λ o. MatchOption o (IsSatisfiable problem.now.hard → ⊥)
         (λ s. IsOptimumOrSolution s.is_optimum problem.now s.cost s.values.items)) }
     ensures taken { (found : List Found) × Improve problem.now found × S.takes sink.old found sink.new
-        × MatchResult result (λ o. MatchOption o (found ≡ [])
-        (λ s. last_found found ≡ Some (record { cost = s.cost; values = s.values.items; goes_on = true })))
-        (λ e. e ≡ Ended ↔ IsStopped found) }
+        × ReturnsFound found result }
     ensures reason { IfErr result (λ e. e ≡ CostOverflow → IsTooCostly problem.now) }
 {
     let mut reduction = Reduction::new_in(alloc, problem.var_count(), steps);

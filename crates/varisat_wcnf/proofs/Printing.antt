@@ -7,7 +7,7 @@ use Rattle.varisat_theory.specs.promises.Literals.{IsSatisfiable}
 use Rattle.varisat_formula.specs.promises.Streams.{Taken}
 use Rattle.varisat_formula.proofs.TargetParts.{begin_part}
 use Rattle.varisat_maxsat.specs.promises.Problems.{Problem, IsOptimumOrSolution, Found, Improve, last_found}
-use Rattle.varisat_wcnf.specs.promises.Printed.{value_digits, solution_status, solution_text, cost_line, cost_lines, PrintsText, PrintsAnswer, Solved, Unsatisfiable, Unknown, CostsAlone}
+use Rattle.varisat_wcnf.specs.promises.Printed.{value_digits, solution_status, solution_text, cost_line, cost_lines, PrintsBeginning, PrintsText, PrintsAnswer, Solved, Unsatisfiable, Unknown, CostsAlone}
 use Rattle.varisat_wcnf.specs.inside.Costs.{PrintsCosts}
 
 digits-more : (vs : List Bool) (i : ℕ) (d : Bool) → i < length vs →
@@ -25,22 +25,22 @@ digits-put text before after vs i b d h e p f =
     ∙ ap (λ ds. text ++ ds) (sym (digits-more vs i d h)) ∙ ap (λ n. text ++ value_digits (take n vs)) up
 
 -- a text in two parts: a beginning of the first one, or the first one and a beginning of the second one
-pub begun-first : (first second : List ℕ) (old new : Taken) → ((n : ℕ) × (new.bytes ≡ old.bytes ++ take n first)) →
-    (n : ℕ) × (new.bytes ≡ old.bytes ++ take n (first ++ second))
+pub begun-first : (first second : List ℕ) (old new : Taken) → PrintsBeginning first old new →
+    PrintsBeginning (first ++ second) old new
 begun-first first second old new (n, b) = let (m, e) = begin_part n first second in (m, b ∙ ap (λ x. old.bytes ++ x) e)
 
-pub begun-second : (first second : List ℕ) (old mid new : Taken) → mid.bytes ≡ old.bytes ++ first → ((n : ℕ) × (new.bytes ≡ mid.bytes ++ take n second)) →
-    (n : ℕ) × (new.bytes ≡ old.bytes ++ take n (first ++ second))
+pub begun-second : (first second : List ℕ) (old mid new : Taken) → mid.bytes ≡ old.bytes ++ first → PrintsBeginning second mid new →
+    PrintsBeginning (first ++ second) old new
 begun-second first second old mid new e (n, b) = (
   length first + n,
   b ∙ ap (λ x. x ++ take n second) e ∙ append_assoc old.bytes first (take n second) ∙ ap (λ x. old.bytes ++ x) (sym (take-append-add first second n)),
 )
 
-pub begun-whole : (text : List ℕ) (old new : Taken) → new.bytes ≡ old.bytes ++ text → (n : ℕ) × (new.bytes ≡ old.bytes ++ take n text)
+pub begun-whole : (text : List ℕ) (old new : Taken) → new.bytes ≡ old.bytes ++ text → PrintsBeginning text old new
 begun-whole text old new b = (length text, b ∙ ap (λ x. old.bytes ++ x) (sym (take_all (length text) text (omega arith))))
 
-pub begun-so : (given text : List ℕ) (old new : Taken) → given ≡ text → ((n : ℕ) × (new.bytes ≡ old.bytes ++ take n given)) →
-    (n : ℕ) × (new.bytes ≡ old.bytes ++ take n text)
+pub begun-so : (given text : List ℕ) (old new : Taken) → given ≡ text → PrintsBeginning given old new →
+    PrintsBeginning text old new
 begun-so given text old new e (n, b) = (n, b ∙ ap (λ x. old.bytes ++ take n x) e)
 
 pub on-err : {X E : Type 0} (r : Result X E) (P : Type 0) → P → OnErr r P
@@ -60,7 +60,7 @@ prints-line None k f fs old mid new none c b q (before, quiet) = (
 prints-line (Some e) k f fs old mid new none c b q h = absurd cc
 
 pub prints-part : {E : Type 0} (fault : Option E) (e : E) (k : ℕ) (f : Found) (fs : List Found) (old mid new : Taken) → is_some fault ≡ false → f.cost ≡ k →
-    ((n : ℕ) × (new.bytes ≡ mid.bytes ++ take n (cost_line k))) → (mid.faults < 2 ^ 64 - 1 → new.faults ≡ mid.faults + 1) → old.faults < 2 ^ 64 - 1 →
+    PrintsBeginning (cost_line k) mid new → (mid.faults < 2 ^ 64 - 1 → new.faults ≡ mid.faults + 1) → old.faults < 2 ^ 64 - 1 →
     PrintsCosts fault fs old mid → PrintsCosts (Some e) (f ∷ fs) old new
 prints-part None e k f fs old mid new none c (n, b) more h (before, quiet) = (
   (
@@ -82,9 +82,8 @@ prints-no-more (Some e) f fs old new some ((n, b), more) =
 pub prints-behind : (before text : List ℕ) (status : ℕ) (old mid new : Taken) (r : ℕ) → mid.bytes ≡ old.bytes ++ before → mid.faults ≡ old.faults →
     PrintsText text status mid new r → PrintsText (before ++ text) status old new r
 prints-behind before text status old mid new r e f (inl (b, g, q)) = inl (b ∙ ap (λ x. x ++ text) e ∙ append_assoc old.bytes before text, g ∙ f, q)
-prints-behind before text status old mid new r e f (inr (n, b, g, q)) = inr (
-  length before + n,
-  b ∙ ap (λ x. x ++ take n text) e ∙ append_assoc old.bytes before (take n text) ∙ ap (λ x. old.bytes ++ x) (sym (take-append-add before text n)),
+prints-behind before text status old mid new r e f (inr (b, g, q)) = inr (
+  begun-second before text old mid new e b,
   g ∙ ap (λ k. k + 1) f,
   q,
 )
@@ -118,9 +117,9 @@ unknown p found old mid new r i e g h = Unknown found i (prints-behind (cost_lin
 
 -- printing failed
 pub broken-off : (p : Problem) (found : List Found) (old new : Taken) (r : ℕ) → Improve p found →
-    ((n : ℕ) × (new.bytes ≡ old.bytes ++ take n (cost_lines found))) × (new.faults ≡ old.faults + 1) → r ≡ 2 → PrintsAnswer p old new r
-broken-off p found old new r i ((n, b), more) q =
-    let (m, l) = begin_part n (cost_lines found) (codes "s UNKNOWN\n") in Unknown found i (inr (m, b ∙ ap (λ x. old.bytes ++ x) l, more, q))
+    PrintsBeginning (cost_lines found) old new × (new.faults ≡ old.faults + 1) → r ≡ 2 → PrintsAnswer p old new r
+broken-off p found old new r i (b, more) q =
+    Unknown found i (inr (begun-first (cost_lines found) (codes "s UNKNOWN\n") old new b, more, q))
 
 -- two facts of an answer
 pub both-said : {X E : Type 0} (r : Result (Option X) E) (A B : Type 0) (P Q : X → Type 0) (Z : E → Type 0) → IfOk r (λ o. MatchOption o A P) →
@@ -135,7 +134,7 @@ pub all-printed : {E : Type 0} (fault : Option E) (found : List Found) (old new 
 all-printed fault found old new e h = subst (λ f. PrintsCosts f found old new) e h
 
 pub part-printed : {E : Type 0} (fault : Option E) (d : E) (found : List Found) (old new : Taken) → fault ≡ Some d → PrintsCosts fault found old new →
-    ((n : ℕ) × (new.bytes ≡ old.bytes ++ take n (cost_lines found))) × (new.faults ≡ old.faults + 1)
+    PrintsBeginning (cost_lines found) old new × (new.faults ≡ old.faults + 1)
 part-printed fault d found old new e h = subst (λ f. PrintsCosts f found old new) e h
 
 -- what is known by what was returned

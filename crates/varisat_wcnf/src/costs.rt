@@ -1,8 +1,8 @@
 //! Prints the cost of each solution as it is found.
-ghost use Rattle.std.specs.Prelude.{◌≡◌, ℕ, ◌+◌, ◌-◌, ◌<◌, ◌^◌, ◌++◌, List, Some, None, true, take, OnOk, OnErr, MatchResult};
+ghost use Rattle.std.specs.Prelude.{◌≡◌, ◌+◌, ◌-◌, ◌<◌, ◌^◌, ◌++◌, List, None, OnOk, OnErr, MatchResult};
 ghost use Rattle.varisat_maxsat.specs.promises.Problems.{Found, Improve};
-ghost use Rattle.varisat_wcnf.specs.promises.Printed.{cost_line, cost_lines};
-ghost use Rattle.varisat_wcnf.specs.inside.Costs.{PrintsCosts, ReturnsLast};
+ghost use Rattle.varisat_wcnf.specs.promises.Printed.{cost_line, cost_lines, PrintsBeginning};
+ghost use Rattle.varisat_wcnf.specs.inside.Costs.{ReturnsLast, PrintsFound};
 
 use itoa::Buffer;
 use std::alloc::Allocator;
@@ -18,8 +18,7 @@ fn print_line<T: ProofTarget>(cost: u64, out: &mut T) -> io::Result<()>
     requires { (T.taken out.old).faults < 2 ^ 64 - 1 }
     ensures whole { OnOk result ((T.taken out.new).bytes ≡ (T.taken out.old).bytes ++ cost_line cost) }
     ensures quiet { OnOk result ((T.taken out.new).faults ≡ (T.taken out.old).faults) }
-    ensures begun { OnErr result
-        ((n : ℕ) × ((T.taken out.new).bytes ≡ (T.taken out.old).bytes ++ take n (cost_line cost))) }
+    ensures begun { OnErr result (PrintsBeginning (cost_line cost) (T.taken out.old) (T.taken out.new)) }
     ensures fault { OnErr result ((T.taken out.new).faults ≡ (T.taken out.old).faults + 1) }
 {
     let mut buffer = Buffer::new();
@@ -35,8 +34,7 @@ fn print_line<T: ProofTarget>(cost: u64, out: &mut T) -> io::Result<()>
 fn print_cost<T: ProofTarget>(cost: u64, out: &mut T) -> io::Result<()>
     ensures whole { OnOk result ((T.taken out.new).bytes ≡ (T.taken out.old).bytes ++ cost_line cost) }
     ensures quiet { OnOk result ((T.taken out.new).faults ≡ (T.taken out.old).faults) }
-    ensures begun { OnErr result
-        ((n : ℕ) × ((T.taken out.new).bytes ≡ (T.taken out.old).bytes ++ take n (cost_line cost))) }
+    ensures begun { OnErr result (PrintsBeginning (cost_line cost) (T.taken out.old) (T.taken out.new)) }
     ensures fault { OnErr result
         ((T.taken out.old).faults < 2 ^ 64 - 1 → (T.taken out.new).faults ≡ (T.taken out.old).faults + 1) }
 {
@@ -90,10 +88,8 @@ fn optimize_to<A: Allocator + Copy, T: ProofTarget>(
     requires countable { (T.taken printer.old.out.now).faults < 2 ^ 64 - 1 }
     ensures same_reference { printer.new.out.ghost_name ≡ printer.old.out.ghost_name }
     ensures same_fault { printer.new.fault.ghost_name ≡ printer.old.fault.ghost_name }
-    ensures printed { (found : List Found) × Improve problem.now found
-        × PrintsCosts printer.new.fault.now found (T.taken printer.old.out.now) (T.taken printer.new.out.now)
-        × ReturnsLast problem.now found result (λ s. s.is_optimum)
-        (λ s. record { cost = s.cost; values = s.values.items; goes_on = true }) }
+    ensures printed { PrintsFound problem.now printer.new.fault.now (T.taken printer.old.out.now)
+        (T.taken printer.new.out.now) result }
 {
     optimize_within(problem, steps, printer, alloc)
 }
@@ -108,10 +104,7 @@ fn optimize_or_keep<A: Allocator + Copy, T: ProofTarget>(
 ) -> Result<Option<Solution<A>>, MaxSatError>
     requires none { fault.old ≡ None }
     requires countable { (T.taken out.old).faults < 2 ^ 64 - 1 }
-    ensures { (found : List Found) × Improve problem.now found
-        × PrintsCosts fault.new found (T.taken out.old) (T.taken out.new)
-        × ReturnsLast problem.now found result (λ s. s.is_optimum)
-        (λ s. record { cost = s.cost; values = s.values.items; goes_on = true }) }
+    ensures { PrintsFound problem.now fault.new (T.taken out.old) (T.taken out.new) result }
 {
     let mut printer = CostPrinter { out, fault };
     optimize_to(alloc, problem, steps, &mut printer)
@@ -128,9 +121,8 @@ pub(crate) fn optimize_printing<A: Allocator + Copy, T: ProofTarget>(
     ensures { (found : List Found) × Improve problem.now found × MatchResult result
         (λ r. ((T.taken out.new).bytes ≡ (T.taken out.old).bytes ++ cost_lines found)
         × ((T.taken out.new).faults ≡ (T.taken out.old).faults)
-        × ReturnsLast problem.now found r (λ s. s.is_optimum)
-        (λ s. record { cost = s.cost; values = s.values.items; goes_on = true }))
-        (λ _. ((n : ℕ) × ((T.taken out.new).bytes ≡ (T.taken out.old).bytes ++ take n (cost_lines found)))
+        × ReturnsLast problem.now found r)
+        (λ _. PrintsBeginning (cost_lines found) (T.taken out.old) (T.taken out.new)
         × ((T.taken out.new).faults ≡ (T.taken out.old).faults + 1)) }
 {
     let mut fault = None;

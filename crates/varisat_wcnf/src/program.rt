@@ -25,11 +25,12 @@ pub const STATUS_UNSATISFIABLE: u8 = 20;
 /// The status of an optimum.
 pub const STATUS_OPTIMUM: u8 = 30;
 
-/// Solves the problem of a WCNF text, and prints the answer as the MaxSAT Evaluations ask for it: a line `o` with the cost of each
-/// solution that costs less than those before it, at once; then `s OPTIMUM FOUND` and `v`, status 30; `s UNSATISFIABLE`, status
-/// 20; or `s UNKNOWN`, status 0, where the searches made the steps that they may, with `v` of the best solution until then, if
-/// there is one, or where they met another limit, as of memory, which is reported on `err`. A fault of the text or the target,
-/// and memory that runs out as the text is read or values are written, are reported on `err`, and the status is 2.
+/// Solves the problem of a WCNF text, and prints the answer as the MaxSAT Evaluations ask for it: a line `o` with the
+/// cost of each solution that costs less than those before it, at once; then `s OPTIMUM FOUND` and `v`, status 30; `s
+/// UNSATISFIABLE`, status 20; or `s UNKNOWN`, status 0, where the searches made the steps that they may, with `v` of
+/// the best solution until then, if there is one, or where they met another limit, as of memory, which is reported on
+/// `err`. A fault of the text or the target, and memory that runs out as the text is read or values are written, are
+/// reported on `err`, and the status is 2.
 pub fn solve_lines<A: Allocator + Copy, T: ProofTarget, E: Write>(
     alloc: A,
     text: &[u8],

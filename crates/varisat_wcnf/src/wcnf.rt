@@ -2,10 +2,10 @@
 ghost use Rattle.std.specs.Prelude.{◌≡◌, ◌≤◌, ◌<◌, ◌^◌, ◌∷◌, [], ◌⊎◌, Ok, Err, List, ℕ, length, slice_index, false, OnOk, IfOk, IfErr, IfSome, IfNone};
 ghost use Rattle.std.specs.List.{slice_split};
 ghost use Rattle.varisat_formula.specs.promises.Dimacs.{is_line_feed, is_blank, meaning, number};
-ghost use Rattle.varisat_maxsat.specs.promises.Problems.{Problem as Asked, with_hard, with_soft};
+ghost use Rattle.varisat_maxsat.specs.promises.Problems.{with_hard, with_soft};
 ghost use Rattle.varisat_wcnf.specs.promises.Texts.{WcnfReading, line_words, below_limit, clause_of, heading_by, top_of, heading_of, after_heading, after_clause, after_weight, after_line, is_hard, wcnf};
 ghost use Rattle.varisat_wcnf.specs.declared.wcnf.WcnfFault.TheVariants.{OutOfMemory, End};
-ghost use Rattle.varisat_wcnf.specs.inside.Faults.{fault_of_formula};
+ghost use Rattle.varisat_wcnf.specs.inside.Faults.{fault_of_formula, ReadsAs};
 
 use std::alloc::{AllocFailed, Allocator};
 use std::marker::Model;
@@ -72,7 +72,8 @@ pub struct WcnfHeading {
     pub top: Option<u64>,
 }
 
-/// The problem as far as it was read, whether a header or a clause came, and the weight from which on a clause must be satisfied.
+/// The problem as far as it was read, whether a header or a clause came, and the weight from which on a clause must be
+/// satisfied.
 #[derive(Drop)]
 struct Reader<A: Allocator + Copy> {
     problem: Problem<A>,
@@ -170,8 +171,7 @@ fn ensure_end(line: &[u8]) -> Result<(), WcnfFault>
 
 /// Reads the literals of a clause, up to the 0 that ends it and the line.
 fn parse_clause<A: Allocator + Copy>(line: &[u8], clause: &mut Vec<Lit, A>) -> Result<(), WcnfFault>
-    ensures ok { OnOk result (clause_of (line_words line.now) ≡ Ok clause.new.items) }
-    ensures err { IfErr result (λ e. (e ≡ OutOfMemory) ⊎ (clause_of (line_words line.now) ≡ Err e)) }
+    ensures { ReadsAs (clause_of (line_words line.now)) result clause.new.items }
 {
     clause.clear();
     let mut rest = line;
@@ -254,9 +254,7 @@ impl<A: Allocator + Copy> Reader<A> {
 
     /// Takes a hard clause.
     fn take_hard(&mut self, line: &[u8], clause: &mut Vec<Lit, A>) -> Result<(), WcnfFault>
-        ensures ok { OnOk result (after_clause with_hard self.old (clause_of (line_words line.now)) ≡ Ok self.new) }
-        ensures err { IfErr result
-            (λ e. (e ≡ OutOfMemory) ⊎ (after_clause with_hard self.old (clause_of (line_words line.now)) ≡ Err e)) }
+        ensures { ReadsAs (after_clause with_hard self.old (clause_of (line_words line.now))) result self.new }
     {
         parse_clause(line, clause)?;
         self.problem.add_hard(clause)?;
@@ -271,10 +269,7 @@ impl<A: Allocator + Copy> Reader<A> {
         line: &[u8],
         clause: &mut Vec<Lit, A>,
     ) -> Result<(), WcnfFault>
-        ensures ok { OnOk result
-            (after_clause (with_soft weight) self.old (clause_of (line_words line.now)) ≡ Ok self.new) }
-        ensures err { IfErr result
-            (λ e. (e ≡ OutOfMemory) ⊎ (after_clause (with_soft weight) self.old (clause_of (line_words line.now)) ≡ Err e)) }
+        ensures { ReadsAs (after_clause (with_soft weight) self.old (clause_of (line_words line.now))) result self.new }
     {
         parse_clause(line, clause)?;
         self.problem.add_soft(weight, clause)?;
@@ -289,9 +284,7 @@ impl<A: Allocator + Copy> Reader<A> {
         line: &[u8],
         clause: &mut Vec<Lit, A>,
     ) -> Result<(), WcnfFault>
-        ensures ok { OnOk result (after_weight weight self.old (clause_of (line_words line.now)) ≡ Ok self.new) }
-        ensures err { IfErr result
-            (λ e. (e ≡ OutOfMemory) ⊎ (after_weight weight self.old (clause_of (line_words line.now)) ≡ Err e)) }
+        ensures { ReadsAs (after_weight weight self.old (clause_of (line_words line.now))) result self.new }
     {
         let Some(weight) = weight else {
             return Err(WcnfFault::Start);
@@ -306,8 +299,7 @@ impl<A: Allocator + Copy> Reader<A> {
 
     /// Takes a line.
     fn take_line(&mut self, line: &[u8], clause: &mut Vec<Lit, A>) -> Result<(), WcnfFault>
-        ensures ok { OnOk result (after_line self.old (line_words line.now) ≡ Ok self.new) }
-        ensures err { IfErr result (λ e. (e ≡ OutOfMemory) ⊎ (after_line self.old (line_words line.now) ≡ Err e)) }
+        ensures { ReadsAs (after_line self.old (line_words line.now)) result self.new }
     {
         let Some((word, rest)) = split_word(line) else {
             return Ok(());

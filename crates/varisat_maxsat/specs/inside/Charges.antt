@@ -38,7 +38,8 @@ ClausesAreBelow n P = (c : Clause) → c ∈ P → LiteralsAreBelow n c
 abbrev pub SoftAreBelow : ℕ → List Soft → Type 0
 SoftAreBelow n S = (s : Soft) → s ∈ S → LiteralsAreBelow n s.clause
 
--- The weight was taken from the charges. What is left of them stands behind those that are kept, and their literals are pending.
+-- The weight was taken from the charges. What is left of them stands behind those that are kept, and their literals are
+-- pending.
 pub record TakesWeight (w : ℕ) (charges kept after : List Charge) (pending : List Literal) : Type 0 where
   pub same : (a : Assignment) → charged a kept + charged a charges ≡ charged a after + weighed a w pending
   pub below : (n : ℕ) → ChargesAreBelow n charges → ChargesAreBelow n kept → ChargesAreBelow n after
@@ -74,9 +75,9 @@ pub record IsSplit (core : List Literal) (charges kept failed : List Charge) : T
   pub failed_below : (n : ℕ) → ChargesAreBelow n charges → ChargesAreBelow n failed
   pub all : (c : Charge) → c ∈ charges → opposite c.literal ∈ core → c ∈ failed
 
--- The problem was brought down to clauses, charges, and literals with a weight each. Its variables are those below n, and new ones
--- are those from there to m. What satisfies the hard clauses goes on to the new variables at no more than its cost; and what
--- satisfies the new clauses satisfies the hard ones, and costs no more than it is charged.
+-- The problem was brought down to clauses, charges, and literals with a weight each. Its variables are those below n,
+-- and new ones are those from there to m. What satisfies the hard clauses goes on to the new variables at no more than
+-- its cost; and what satisfies the new clauses satisfies the hard ones, and costs no more than it is charged.
 pub record Reduces (H : List Clause) (S : List Soft) (n m : ℕ) (P : List Clause) (charges : List Charge)
     (pending : List Literal) (w bound : ℕ) : Type 0 where
   pub named : n ≤ m

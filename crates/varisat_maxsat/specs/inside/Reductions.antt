@@ -1,14 +1,16 @@
 -- A client that holds a problem as it was brought down.
-use Rattle.std.specs.Prelude.{◌≡◌, ◌≤◌, ℕ, Bool, true, false, Option, Some, None, option_map, Result, MatchResult, List, []}
+use Rattle.std.specs.Prelude.{◌≡◌, ◌≤◌, ℕ, Bool, true, false, Option, Some, None, option_map, IfSome, Result, MatchResult, List, []}
 use Rattle.varisat_theory.specs.promises.Literals.{Literal, Clause, Assignment, SatisfiesAll, IsFailedCore, IsSatisfiable}
 use Rattle.varisat_client.specs.promises.Pasts.{ClientPast, IsFoundModel, count}
 use Rattle.varisat_client.specs.inside.Clients.{Client, RepresentsPast}
-use Rattle.varisat_maxsat.specs.promises.Problems.{Problem, CostsAtLeast, Found, Improve, last_found, IsStopped}
+use Rattle.varisat_maxsat.specs.promises.Problems.{Problem, IsSolution, IsOptimum, CostsAtLeast, Found, found_of, Improve, last_found, IsStopped}
 use Rattle.varisat_maxsat.specs.inside.Charges.{ClausesAreBelow, Exchanges, AreParted, Reduces, ReducesBelow, AreAssumed, IsPending}
+use Rattle.varisat_maxsat.specs.inside.Errors.{IsLimit}
 use Rattle.varisat_maxsat.specs.declared.charge.Charge.{Charge}
 use Rattle.varisat_maxsat.specs.declared.refusal.MaxSatError.{MaxSatError}
 use Rattle.varisat_maxsat.specs.declared.refusal.MaxSatError.TheVariants.{Ended}
 use Rattle.varisat_maxsat.specs.declared.counter.Counter.{Counter}
+use Rattle.varisat_maxsat.specs.declared.solving.Solution.{Solution}
 
 -- No call was refused, and neither a clause nor an assumption is begun.
 pub record IsReady (g : Client) (p : ClientPast) : Type 0 where
@@ -59,11 +61,6 @@ pub record FindsLightly (charges after : List Charge) (P : List Clause) (h : Cli
   pub left : List Charge
   pub finds : FindsModel 0 left P h
   pub exchanges : Exchanges charges 0 after
-
--- A search goes on for such a model.
-pub record SearchesOn (charges left given_up : List Charge) (P : List Clause) (h : Client) : Type 0 where
-  pub ready : IsReadyWith P h
-  pub parted : AreParted charges left given_up
 
 -- more charges were given up
 abbrev pub KeepsParted : List Charge → List Charge → List Charge → List Charge → Type 0
@@ -124,6 +121,10 @@ pub record ReducesToBelow (p : Problem) (r : Reduction) : Type 0 where
 abbrev pub KeepsReductions : Reduction → Reduction → Type 0
 KeepsReductions r s = (p : Problem) → ReducesToBelow p r → ReducesToBelow p s
 
+-- so it does, or a limit was met
+abbrev pub KeepsOrMeetsLimit : Result (Unit {0}) MaxSatError → Reduction → Reduction → Type 0
+KeepsOrMeetsLimit result r s = MatchResult result (λ _. KeepsReductions r s) IsLimit
+
 -- A model was found of clauses to which the hard ones were brought down.
 pub record FindsSolution (p : Problem) (r : Reduction) : Type 0 where
   pub past : ClientPast
@@ -156,23 +157,12 @@ abbrev pub IsEnded : Bool → Problem → Type 0 → Type 0
 IsEnded true p holds = holds
 IsEnded false p holds = IsSatisfiable p.hard → ⊥
 
--- A clause was given as far as these literals.
-pub record GivesSoFar (g : Client) (ls : List Literal) (h : Client) : Type 0 where
-  pub far : (p : ClientPast) → IsReady g p →
-      (q : ClientPast) × RepresentsPast h q × (q.refusal ≡ None → q ≡ record p { clause = ls })
-
--- Assumptions were given for these charges.
-pub record AssumesSoFar (g : Client) (threshold : ℕ) (charges : List Charge) (h : Client) : Type 0 where
-  pub far : (p : ClientPast) → IsReady g p →
-      (q : ClientPast) × (ls : List Literal) × AreAssumed threshold charges ls × RepresentsPast h q
-      × (q.refusal ≡ None → q ≡ record p { assumptions = ls })
-
 -- the error is that the sink ended the search
 abbrev pub EndsBySink : {X : Type 0} → Result X MaxSatError → Type 0
 EndsBySink r = MatchResult r (λ _. ⊥) (λ e. e ≡ Ended)
 
--- What a sink took since x: solutions, of which the best one is the last. Where it did not let the search go on behind that one,
--- and only there, the search ended so.
+-- What a sink took since x: solutions, of which the best one is the last. Where it did not let the search go on behind
+-- that one, and only there, the search ended so.
 pub record Took {S : Type 0} (takes : S → List Found → S → Type 0) (x : S) (p : Problem) (best : Bool → Option Found)
     (ended : Type 0) (s : S) : Type 0 where
   pub found : List Found
@@ -184,7 +174,16 @@ pub record Took {S : Type 0} (takes : S → List Found → S → Type 0) (x : S)
   pub ends : ended → IsStopped found
 
 -- The best solution was handed on, each time that it changed.
-abbrev pub HandsOn : {S X : Type 0} → (S → List Found → S → Type 0) → Problem → S → Option X → S → Option X →
-    (Bool → X → Found) → Type 0 → Type 0
-HandsOn {S} takes p s o t u found_of ended =
-    (x : S) → Took takes x p (λ b. option_map (found_of b) o) ⊥ s → Took takes x p (λ b. option_map (found_of b) u) ended t
+abbrev pub HandsOn : {S A : Type 0} → (S → List Found → S → Type 0) → Problem → S → Option (Solution A) → S →
+    Option (Solution A) → Type 0 → Type 0
+HandsOn {S} takes p s o t u ended =
+    (x : S) → Took takes x p (λ b. option_map (found_of b) o) ⊥ s →
+    Took takes x p (λ b. option_map (found_of b) u) ended t
+
+-- the best solution is one of the problem, if there is one
+abbrev pub IfSomeSolution : {A : Type 0} → Problem → Option (Solution A) → Type 0
+IfSomeSolution p best = IfSome best (λ s. IsSolution p s.cost s.values.items)
+
+-- and it is an optimum
+abbrev pub IfSomeOptimum : {A : Type 0} → Problem → Option (Solution A) → Type 0
+IfSomeOptimum p best = IfSome best (λ s. IsOptimum p s.cost s.values.items)

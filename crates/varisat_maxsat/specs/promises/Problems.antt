@@ -1,7 +1,10 @@
 -- What is asked of a solver, and what its answer says.
-use Rattle.std.specs.Prelude.{◌≡◌, ℕ, ◌+◌, ◌^◌, ◌≤◌, ◌<◌, Option, Some, None, IsSomeAnd, Bool, true, false, if◌then◌else◌, List, [], ◌∷◌, ◌++◌, length}
+use Rattle.std.specs.Prelude.{◌≡◌, ℕ, ◌+◌, ◌^◌, ◌≤◌, ◌<◌, ◌↔◌, max, Option, Some, None, IsSomeAnd, MatchOption, Result, MatchResult, Bool, true, false, if◌then◌else◌, List, [], ◌∷◌, ◌++◌, length}
 use Rattle.varisat_theory.specs.promises.Literals.{Clause, Assignment, SatisfiesAll, IsSatisfiable}
 use Rattle.varisat_formula.specs.promises.Values.{assignment_of, is_satisfied}
+use Rattle.varisat_maxsat.specs.declared.refusal.MaxSatError.{MaxSatError}
+use Rattle.varisat_maxsat.specs.declared.refusal.MaxSatError.TheVariants.{Ended}
+use Rattle.varisat_maxsat.specs.declared.solving.Solution.{Solution}
 
 -- A soft clause, and what an assignment costs that does not satisfy it.
 pub record Soft : Type 0 where
@@ -21,6 +24,10 @@ problem_of n H S = record { variables = n; hard = H; soft = S }
 -- no clauses yet
 abbrev pub starting : ℕ → Problem
 starting n = problem_of n [] []
+
+-- the count of variables is raised to this one, unless it is higher
+abbrev pub with_var_count : ℕ → Problem → Problem
+with_var_count n p = record p { variables = max p.variables n }
 
 -- each clause with its weight
 abbrev pub paired : List ℕ → List Clause → List Soft
@@ -70,7 +77,12 @@ pub record Found : Type 0 where
   pub values : List Bool
   pub goes_on : Bool
 
--- Solutions, the last one first: each costs less than the one that was found before it, after which the search was to go on.
+-- a solution that is returned, as one that was handed on
+abbrev pub found_of : {A : Type 0} → Bool → Solution A → Found
+found_of goes_on s = record { cost = s.cost; values = s.values.items; goes_on = goes_on }
+
+-- Solutions, the last one first: each costs less than the one that was found before it, after which the search was to
+-- go on.
 abbrev pub Improve : Problem → List Found → Type 0
 Improve p [] = Unit {0}
 Improve p (f ∷ []) = IsSolution p f.cost f.values
@@ -84,3 +96,10 @@ last_found (f ∷ fs) = Some f
 -- who took them ended the search at the last one
 abbrev pub IsStopped : List Found → Type 0
 IsStopped fs = IsSomeAnd (last_found fs) (λ f. f.goes_on ≡ false)
+
+-- What a search returned that handed these solutions on: the last one, or none where there is none; or an error, which
+-- is that it was ended where, and only where, who took them ended it.
+abbrev pub ReturnsFound : {A : Type 0} → List Found → Result (Option (Solution A)) MaxSatError → Type 0
+ReturnsFound found result =
+    MatchResult result (λ o. MatchOption o (found ≡ []) (λ s. last_found found ≡ Some (found_of true s)))
+    (λ e. e ≡ Ended ↔ IsStopped found)

@@ -35,27 +35,34 @@ abbrev pub cost_lines : List Found → List ℕ
 cost_lines [] = []
 cost_lines (f ∷ fs) = cost_lines fs ++ cost_line f.cost
 
--- The text was printed, with this status, and no call of the target failed; or a call failed, a beginning of the text was printed,
--- and the status is that of a fault.
+-- a beginning of the text was printed
+abbrev pub PrintsBeginning : List ℕ → Taken → Taken → Type 0
+PrintsBeginning text old new = (n : ℕ) × (new.bytes ≡ old.bytes ++ take n text)
+
+-- The text was printed, with this status, and no call of the target failed; or a call failed, a beginning of the text
+-- was printed, and the status is that of a fault.
 abbrev pub PrintsText : List ℕ → ℕ → Taken → Taken → ℕ → Type 0
 PrintsText text status old new result =
     ((new.bytes ≡ old.bytes ++ text) × (new.faults ≡ old.faults) × (result ≡ status))
-    ⊎ ((n : ℕ) × (new.bytes ≡ old.bytes ++ take n text) × (new.faults ≡ old.faults + 1) × (result ≡ 2))
+    ⊎ (PrintsBeginning text old new × (new.faults ≡ old.faults + 1) × (result ≡ 2))
 
--- What is printed of a problem: the costs of solutions, each less than the one before it, and the last one as an optimum, or as
--- one that is not known to be; or that no assignment satisfies its hard clauses; or such costs and no solution, as a limit was met;
--- or such costs alone, with the status of a fault, where memory ran out for the text of the last solution.
+-- What is printed of a problem: the costs of solutions, each less than the one before it, and the last one as an
+-- optimum, or as one that is not known to be; or that no assignment satisfies its hard clauses; or such costs and no
+-- solution, as a limit was met; or such costs alone, with the status of a fault, where memory ran out for the text of
+-- the last solution.
 pub data PrintsAnswer (p : Problem) (old new : Taken) (result : ℕ) : Type 0 where
-  Solved : (is_optimum : Bool) (f : Found) (fs : List Found) → Improve p (f ∷ fs) → IsOptimumOrSolution is_optimum p f.cost f.values →
-      PrintsText (cost_lines (f ∷ fs) ++ solution_text is_optimum f.values) (solution_status is_optimum) old new result →
+  Solved : (is_optimum : Bool) (f : Found) (fs : List Found) → Improve p (f ∷ fs) →
+      IsOptimumOrSolution is_optimum p f.cost f.values →
+      PrintsText (cost_lines (f ∷ fs) ++ solution_text is_optimum f.values) (solution_status is_optimum)
+      old new result → PrintsAnswer p old new result
+  Unsatisfiable : (IsSatisfiable p.hard → ⊥) → PrintsText (codes "s UNSATISFIABLE\n") 20 old new result →
       PrintsAnswer p old new result
-  Unsatisfiable : (IsSatisfiable p.hard → ⊥) → PrintsText (codes "s UNSATISFIABLE\n") 20 old new result → PrintsAnswer p old new result
   Unknown : (fs : List Found) → Improve p fs → PrintsText (cost_lines fs ++ codes "s UNKNOWN\n") 0 old new result →
       PrintsAnswer p old new result
   CostsAlone : (f : Found) (fs : List Found) → Improve p (f ∷ fs) → new.bytes ≡ old.bytes ++ cost_lines (f ∷ fs) →
       new.faults ≡ old.faults → result ≡ 2 → PrintsAnswer p old new result
 
--- What is printed of a text: what it is of its problem; or nothing, where the text has a fault, or memory ran out for it.
+-- What is printed of a text: that of its problem; or nothing, where the text has a fault, or memory ran out for it.
 pub data AnswersText (text : List ℕ) (old new : Taken) (result : ℕ) : Type 0 where
   Read : (r : WcnfReading) → wcnf text ≡ Ok r → PrintsAnswer r.problem old new result → AnswersText text old new result
   Refused : (e : WcnfError) → (e.fault ≡ OutOfMemory) ⊎ (wcnf text ≡ Err e) → new ≡ old → result ≡ 2 →

@@ -1,5 +1,5 @@
 -- What a WCNF text means, in the new format and in the old one.
-use Rattle.std.specs.Prelude.{ℕ, ◌+◌, ◌^◌, max, Bool, true, false, if◌then◌else◌, nat_lt, nat_le, ◌==◌, List, [], ◌∷◌, ◌++◌, map, Option, Some, None, option_map, Result, Ok, Err, codes, bytes_eq}
+use Rattle.std.specs.Prelude.{ℕ, ◌+◌, ◌^◌, Bool, true, false, if◌then◌else◌, nat_lt, nat_le, ◌==◌, List, [], ◌∷◌, ◌++◌, map, Option, Some, None, option_map, Result, Ok, Err, codes, bytes_eq}
 use Rattle.std.specs.List.{slice_split}
 use Rattle.varisat_theory.specs.promises.Literals.{Clause}
 use Rattle.varisat_literals.specs.promises.Numbers.{variable_limit}
@@ -7,7 +7,7 @@ use Rattle.varisat_formula.specs.declared.dimacs.token.Meaning.{Meaning}
 use Rattle.varisat_formula.specs.declared.dimacs.token.Meaning.TheVariants as token
 use Rattle.varisat_formula.specs.promises.Dimacs.{is_line_feed, is_blank, nonempty, number, meaning}
 use Rattle.varisat_formula.specs.promises.Formulas.{variables_of}
-use Rattle.varisat_maxsat.specs.promises.Problems.{Problem, starting, with_hard, with_soft}
+use Rattle.varisat_maxsat.specs.promises.Problems.{Problem, starting, with_var_count, with_hard, with_soft}
 use Rattle.varisat_wcnf.specs.declared.wcnf.WcnfFault.{WcnfFault}
 use Rattle.varisat_wcnf.specs.declared.wcnf.WcnfFault.TheVariants as fault
 use Rattle.varisat_wcnf.specs.declared.wcnf.WcnfError.{WcnfError}
@@ -34,7 +34,8 @@ clause_from c _ = Err fault.End
 abbrev pub clause_of : List (List ℕ) → Result Clause WcnfFault
 clause_of ws = clause_from [] (map meaning ws)
 
--- What was read so far: a problem, whether a header or a clause came, and in the old format the weight from which on a clause is hard.
+-- What was read so far: a problem, whether a header or a clause came, and in the old format the weight from which on a
+-- clause is hard.
 pub record WcnfReading : Type 0 where
   pub problem : Problem
   pub begun : Bool
@@ -44,8 +45,7 @@ pub record WcnfReading : Type 0 where
 abbrev pub after_clause : (Clause → Problem → Problem) → WcnfReading → Result Clause WcnfFault →
     Result WcnfReading WcnfFault
 after_clause add r (Err f) = Err f
-after_clause add r (Ok c) =
-    Ok (record r { problem = record (add c r.problem) { variables = max r.problem.variables (variables_of c) }; begun = true })
+after_clause add r (Ok c) = Ok (record r { problem = add c (with_var_count (variables_of c) r.problem); begun = true })
 
 -- whether a clause of the weight is hard
 abbrev pub is_hard : Option ℕ → ℕ → Bool
@@ -57,8 +57,8 @@ abbrev pub after_weight : Option ℕ → WcnfReading → Result Clause WcnfFault
 after_weight None r c = Err fault.Start
 after_weight (Some w) r c = if is_hard r.top w then after_clause with_hard r c else after_clause (with_soft w) r c
 
--- A header: how many variables there are at least; how many clauses, which is not checked; and the weight from which on a clause is
--- hard, if it names one.
+-- A header: how many variables there are at least; how many clauses, which is not checked; and the weight from which on
+-- a clause is hard, if it names one.
 abbrev pub heading_by : Option ℕ → Option ℕ → Option (Option ℕ) → Result WcnfHeading WcnfFault
 heading_by (Some v) (Some count) (Some top) =
     if nat_lt variable_limit v then Err fault.VariableLimit else Ok (record { variables = v; top = top })
@@ -82,7 +82,7 @@ abbrev pub after_heading : WcnfReading → Result WcnfHeading WcnfFault → Resu
 after_heading r (Err f) = Err f
 after_heading r (Ok h) =
     if r.begun then Err fault.Header
-    else Ok (record { problem = record r.problem { variables = max r.problem.variables h.variables }; begun = true; top = h.top })
+    else Ok (record { problem = with_var_count h.variables r.problem; begun = true; top = h.top })
 
 -- a word that begins with `c`
 abbrev pub is_comment : List ℕ → Bool
@@ -94,7 +94,8 @@ abbrev pub after_line : WcnfReading → List (List ℕ) → Result WcnfReading W
 after_line r [] = Ok r
 after_line r (w ∷ ws) =
     if is_comment w then Ok r else (if bytes_eq w (codes "p") then after_heading r (heading_of ws) else (
-    if bytes_eq w (codes "h") then after_clause with_hard r (clause_of ws) else after_weight (below_limit (number w)) r (clause_of ws)))
+    if bytes_eq w (codes "h") then after_clause with_hard r (clause_of ws)
+    else after_weight (below_limit (number w)) r (clause_of ws)))
 
 -- a fault in the line
 abbrev pub at_line : ℕ → Result WcnfReading WcnfFault → Result WcnfReading WcnfError
@@ -109,4 +110,5 @@ after_lines (Ok r) n (line ∷ lines) = after_lines (at_line n (after_line r (li
 
 -- what a text means
 abbrev pub wcnf : List ℕ → Result WcnfReading WcnfError
-wcnf text = after_lines (Ok (record { problem = starting 0; begun = false; top = None })) 1 (slice_split is_line_feed text)
+wcnf text =
+    after_lines (Ok (record { problem = starting 0; begun = false; top = None })) 1 (slice_split is_line_feed text)

@@ -4,8 +4,7 @@ use Rattle.std.proofs.lemmas.List.{take_all}
 use mir.Val.{SFits}
 use Rattle.varisat_client.specs.promises.Pasts.{ClientPast, AssumesNumber}
 use Rattle.varisat_client.specs.inside.Clients.{RepresentsPast}
-use Rattle.varisat_maxsat.specs.inside.Reductions.{AssumesSoFar}
-use Rattle.varisat_maxsat.proofs.Given.{assumes-start, assumes-next, assumes-skip, assumed-all}
+use Rattle.varisat_maxsat.proofs.Given.{AssumesSoFar, assumes-start, assumes-next, assumes-skip, assumed-all}
 use Rattle.varisat_maxsat.proofs.feeding.assume.Goals as goal
 use Rattle.varisat_maxsat.proofs.feeding.assume.Goals.{then-charge-threshold+in_ok-number_of, else-charge-threshold}
 

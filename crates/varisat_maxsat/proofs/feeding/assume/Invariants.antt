@@ -1,5 +1,5 @@
 use Rattle.std.proofs.Common.{take}
-use Rattle.varisat_maxsat.specs.inside.Reductions.{AssumesSoFar}
+use Rattle.varisat_maxsat.proofs.Given.{AssumesSoFar}
 use Rattle.varisat_maxsat.proofs.feeding.assume.Given as goal
 
 abbrev pub invariant-loop-charge : goal.invariant-loop-charge

@@ -1,5 +1,5 @@
 use Rattle.std.proofs.Common.{take}
-use Rattle.varisat_maxsat.specs.inside.Reductions.{GivesSoFar}
+use Rattle.varisat_maxsat.proofs.Given.{GivesSoFar}
 use Rattle.varisat_maxsat.proofs.feeding.give.Given as goal
 
 abbrev pub invariant-loop-literal : goal.invariant-loop-literal

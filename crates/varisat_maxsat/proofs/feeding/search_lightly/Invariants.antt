@@ -1,5 +1,6 @@
 use Rattle.varisat_client.specs.promises.Pasts.{ClientPast}
-use Rattle.varisat_maxsat.specs.inside.Reductions.{IsReady, SearchesOn}
+use Rattle.varisat_maxsat.specs.inside.Reductions.{IsReady}
+use Rattle.varisat_maxsat.proofs.Lightening.{SearchesOn}
 use Rattle.varisat_maxsat.proofs.feeding.search_lightly.Given as goal
 
 abbrev pub invariant-turns : goal.invariant-turns

@@ -30,7 +30,7 @@ returns-then-threshold-eq0 g c = record {
       let o = c.in_ok-optimum.ensures c.args.problem.now (subst (λ t. ReducesToAfter true t c.args.problem.now c.search.new.self) c.if-threshold-eq0.true
       (subst (λ b. ReducesToAfter b c.turns.threshold c.args.problem.now c.search.new.self) c.if-branch.true
       (c.in_ok-search.ensures c.args.problem.now (c.turns.invariant.ready st)))) in
-      also-optimal (λ s. s.cost) (λ s. s.values.items) c.args.problem.now _ _ _ c.in_ok-keep_better.ensures.least o
+      also-optimal c.args.problem.now _ _ _ c.in_ok-keep_better.ensures.least o
       (c.keep_better.ensures.best c.args.problem.now o.solution (c.turns.invariant.best st h));
   best = λ st h.
       c.keep_better.ensures.best c.args.problem.now
@@ -64,7 +64,7 @@ turns-preserved g c =
         best = λ st h. best-moves _ _ _ w.best-is (w.keep_model.ensures.best (after-solution _ _ c.turns.threshold
             (subst (λ b. ReducesToAfter b c.turns.threshold c.args.problem.now c.search.new.self) w.if-branch.true
             (c.in_ok-search.ensures c.args.problem.now (c.turns.invariant.ready st)))) (c.turns.invariant.best st h));
-        taken = λ st x b. took-moves g.S.SolutionSink.takes _ _ _ _ _ _ x w.best-is w.sink-is (w.in_ok-keep_model.ensures.taken (after-solution _ _ c.turns.threshold
+        taken = λ st x b. took-moves g.S.SolutionSink.takes _ _ _ _ _ x w.best-is w.sink-is (w.in_ok-keep_model.ensures.taken (after-solution _ _ c.turns.threshold
             (subst (λ b. ReducesToAfter b c.turns.threshold c.args.problem.now c.search.new.self) w.if-branch.true
             (c.in_ok-search.ensures c.args.problem.now (c.turns.invariant.ready st)))) x (c.turns.invariant.taken st x b));
       }
@@ -76,6 +76,6 @@ turns-preserved g c =
             (subst (λ b. ReducesToAfter b c.turns.threshold c.args.problem.now c.search.new.self) w.if-branch.false
             (c.in_ok-search.ensures c.args.problem.now (c.turns.invariant.ready st)))));
         best = λ st h. best-moves _ _ _ w.best-is (c.turns.invariant.best st h);
-        taken = λ st x b. took-moves g.S.SolutionSink.takes _ _ _ _ _ _ x w.best-is w.sink-is (c.turns.invariant.taken st x b);
+        taken = λ st x b. took-moves g.S.SolutionSink.takes _ _ _ _ _ x w.best-is w.sink-is (c.turns.invariant.taken st x b);
       }
     ]

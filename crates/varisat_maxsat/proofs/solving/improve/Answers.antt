@@ -10,7 +10,7 @@ turns-init g c = record { ready = λ st. c.in_ok-plan.ensures c.args.problem.now
 pub returns-then-not-found-clause-ends : goal.returns-then-not-found-clause-ends
 returns-then-not-found-clause-ends g c = λ st h.
     let e : c.in_ok-found.found ≡ false = first_of (assumption c.if-not-found.true, search (not-true, c.if-not-found.true)) in
-    best-met (λ s. s.cost) (λ s. s.values.items) c.args.problem.now c.search_below.new.self _
+    best-met c.args.problem.now c.search_below.new.self _
     (not-improved c.args.problem.now c.search_below.new.self c.in_ok-found.found e
     (c.in_ok-found.ensures c.args.problem.now (c.in_ok-forbid_ceiling.ensures c.args.problem.now (c.turns.invariant.ready st))))
     c.in_ok-ensure_met.ensures (c.turns.invariant.best st h)

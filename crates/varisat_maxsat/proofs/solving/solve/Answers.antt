@@ -1,9 +1,9 @@
 use Rattle.std.proofs.Common.{◌≡◌, true, false, subst, rules}
-use Rattle.std.specs.Prelude.{IfSome, MatchResult, MatchOption, Some, [], ◌↔◌}
+use Rattle.std.specs.Prelude.{[], ◌↔◌}
 use Rattle.std.proofs.lemmas.Bool.{not-true, not-false}
-use Rattle.varisat_maxsat.specs.promises.Problems.{IsOptimum, last_found, IsStopped}
+use Rattle.varisat_maxsat.specs.promises.Problems.{IsStopped, ReturnsFound}
 use Rattle.varisat_maxsat.specs.declared.refusal.MaxSatError.TheVariants.{StepsSpent, Ended}
-use Rattle.varisat_maxsat.specs.inside.Reductions.{IsEnded}
+use Rattle.varisat_maxsat.specs.inside.Reductions.{IsEnded, IfSomeOptimum}
 use Rattle.varisat_maxsat.proofs.Handing.{took-nothing, took-ends, handed-none, handed-best, handed-so-far, other-error, other-end}
 use Rattle.varisat_maxsat.proofs.solving.solve.Goals as goal
 
@@ -11,7 +11,7 @@ pub returns-in_ok-optimum-in-Ok-clause-answer : goal.returns-in_ok-optimum-in-Ok
 returns-in_ok-optimum-in-Ok-clause-answer g c = λ st.
     let e : c.in-Ok.found ≡ true = first_of (assumption c.if-not-found.false, search (not-false, c.if-not-found.false)) in
     c.in_ok-optimum-in-Ok.ensures.answer c.args.problem.now
-    (subst (λ b. IsEnded b c.args.problem.now (IfSome c.decide.new.best (λ s. IsOptimum c.args.problem.now s.cost s.values.items))) e
+    (subst (λ b. IsEnded b c.args.problem.now (IfSomeOptimum c.args.problem.now c.decide.new.best)) e
     (c.in-Ok.ensures.ends (c.in_ok-join_if_bounded.ensures c.args.problem.now (c.in_ok-reduce.ensures st)) tt))
 
 pub returns-in_err-reduce-clause-taken : goal.returns-in_err-reduce-clause-taken
@@ -39,24 +39,22 @@ pub returns-then-not-found-clause-taken : goal.returns-then-not-found-clause-tak
 returns-then-not-found-clause-taken g c = λ st.
     let e : c.in-Ok.found ≡ false = first_of (assumption c.if-not-found.true, search (not-true, c.if-not-found.true)) in
     handed-none g.S.SolutionSink.takes c.args.problem.now _ _ c.args.sink.now c.decide.new.sink
-    (subst (λ b. IsEnded b c.args.problem.now (IfSome c.decide.new.best (λ s. IsOptimum c.args.problem.now s.cost s.values.items))) e
+    (subst (λ b. IsEnded b c.args.problem.now (IfSomeOptimum c.args.problem.now c.decide.new.best)) e
     (c.in-Ok.ensures.ends (c.in_ok-join_if_bounded.ensures c.args.problem.now (c.in_ok-reduce.ensures st)) tt))
     (c.decide.ensures.taken (c.in_ok-join_if_bounded.ensures c.args.problem.now (c.in_ok-reduce.ensures st)) c.args.sink.now
     (took-nothing g.S.SolutionSink.takes c.args.problem.now c.args.sink.now (g.met.S.SolutionSink.takes_none c.args.sink.now)))
 
 pub returns-in_err-optimum-in-Ok-clause-taken : goal.returns-in_err-optimum-in-Ok-clause-taken
 returns-in_err-optimum-in-Ok-clause-taken g c = λ st.
-    handed-so-far g.S.SolutionSink.takes c.args.problem.now (λ s. s.cost) (λ s. s.values.items) c.decide.new.best ⊥ c.args.sink.now c.decide.new.sink
-    (λ x. MatchResult c.from_residual-in_err-optimum-in-Ok.result
-    (λ o. MatchOption o (x ≡ []) (λ s. last_found x ≡ Some (record { cost = s.cost; values = s.values.items; goes_on = true })))
-    (λ e. e ≡ Ended ↔ IsStopped x))
+    handed-so-far g.S.SolutionSink.takes c.args.problem.now c.decide.new.best ⊥ c.args.sink.now c.decide.new.sink
+    (λ x. ReturnsFound x c.from_residual-in_err-optimum-in-Ok.result)
     (λ x. other-error c.from_residual-in_err-optimum-in-Ok.result c.in_err-optimum-in-Ok.field-0.0 x _ c.from_residual-in_err-optimum-in-Ok.ensures c.in_err-optimum-in-Ok.ensures.limit.1)
     (c.in-Ok.ensures.taken (c.in_ok-join_if_bounded.ensures c.args.problem.now (c.in_ok-reduce.ensures st)) c.args.sink.now
     (took-nothing g.S.SolutionSink.takes c.args.problem.now c.args.sink.now (g.met.S.SolutionSink.takes_none c.args.sink.now)))
 
 pub returns-then-ne-clause-taken : goal.returns-then-ne-clause-taken
 returns-then-ne-clause-taken g c = λ st.
-    handed-so-far g.S.SolutionSink.takes c.args.problem.now (λ s. s.cost) (λ s. s.values.items) c.decide.new.best (c.in-Err.error ≡ Ended) c.args.sink.now
+    handed-so-far g.S.SolutionSink.takes c.args.problem.now c.decide.new.best (c.in-Err.error ≡ Ended) c.args.sink.now
     c.decide.new.sink (λ x. c.in-Err.error ≡ Ended ↔ IsStopped x) (λ x h. h)
     (c.in-Err.ensures.taken (c.in_ok-join_if_bounded.ensures c.args.problem.now (c.in_ok-reduce.ensures st)) c.args.sink.now
     (took-nothing g.S.SolutionSink.takes c.args.problem.now c.args.sink.now (g.met.S.SolutionSink.takes_none c.args.sink.now)))
@@ -64,10 +62,8 @@ returns-then-ne-clause-taken g c = λ st.
 pub returns-in_err-solution-in-Err-clause-taken : goal.returns-in_err-solution-in-Err-clause-taken
 returns-in_err-solution-in-Err-clause-taken g c = λ st.
     let spent : c.in-Err.error ≡ StepsSpent = search rules in
-    handed-so-far g.S.SolutionSink.takes c.args.problem.now (λ s. s.cost) (λ s. s.values.items) c.decide.new.best ⊥ c.args.sink.now c.decide.new.sink
-    (λ x. MatchResult c.from_residual-in_err-solution-in-Err.result
-    (λ o. MatchOption o (x ≡ []) (λ s. last_found x ≡ Some (record { cost = s.cost; values = s.values.items; goes_on = true })))
-    (λ e. e ≡ Ended ↔ IsStopped x))
+    handed-so-far g.S.SolutionSink.takes c.args.problem.now c.decide.new.best ⊥ c.args.sink.now c.decide.new.sink
+    (λ x. ReturnsFound x c.from_residual-in_err-solution-in-Err.result)
     (λ x. other-error c.from_residual-in_err-solution-in-Err.result c.in_err-solution-in-Err.field-0.0 x _ c.from_residual-in_err-solution-in-Err.ensures c.in_err-solution-in-Err.ensures.limit.1)
     (took-ends ⊥ (other-end c.in-Err.error spent) (λ e. absurd e)
     (c.in-Err.ensures.taken (c.in_ok-join_if_bounded.ensures c.args.problem.now (c.in_ok-reduce.ensures st)) c.args.sink.now
@@ -75,7 +71,7 @@ returns-in_err-solution-in-Err-clause-taken g c = λ st.
 
 pub returns-in_ok-optimum-in-Ok-clause-taken : goal.returns-in_ok-optimum-in-Ok-clause-taken
 returns-in_ok-optimum-in-Ok-clause-taken g c = λ st.
-    handed-best g.S.SolutionSink.takes c.args.problem.now (λ s. s.cost) (λ s. s.values.items) c.decide.new.best _ _ ⊥ c.args.sink.now
+    handed-best g.S.SolutionSink.takes c.args.problem.now c.decide.new.best _ _ ⊥ c.args.sink.now
     c.decide.new.sink c.in_ok-optimum-in-Ok.ensures.same (λ h. h)
     (c.in-Ok.ensures.taken (c.in_ok-join_if_bounded.ensures c.args.problem.now (c.in_ok-reduce.ensures st)) c.args.sink.now
     (took-nothing g.S.SolutionSink.takes c.args.problem.now c.args.sink.now (g.met.S.SolutionSink.takes_none c.args.sink.now)))
@@ -83,7 +79,7 @@ returns-in_ok-optimum-in-Ok-clause-taken g c = λ st.
 pub returns-in_ok-solution-in-Err-clause-taken : goal.returns-in_ok-solution-in-Err-clause-taken
 returns-in_ok-solution-in-Err-clause-taken g c = λ st.
     let spent : c.in-Err.error ≡ StepsSpent = search rules in
-    handed-best g.S.SolutionSink.takes c.args.problem.now (λ s. s.cost) (λ s. s.values.items) c.decide.new.best _ _ (c.in-Err.error ≡ Ended) c.args.sink.now
+    handed-best g.S.SolutionSink.takes c.args.problem.now c.decide.new.best _ _ (c.in-Err.error ≡ Ended) c.args.sink.now
     c.decide.new.sink c.in_ok-solution-in-Err.ensures.same (other-end c.in-Err.error spent)
     (c.in-Err.ensures.taken (c.in_ok-join_if_bounded.ensures c.args.problem.now (c.in_ok-reduce.ensures st)) c.args.sink.now
     (took-nothing g.S.SolutionSink.takes c.args.problem.now c.args.sink.now (g.met.S.SolutionSink.takes_none c.args.sink.now)))

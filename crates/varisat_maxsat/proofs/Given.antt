@@ -12,7 +12,7 @@ use Rattle.varisat_client.specs.inside.Clients.{Client, RepresentsPast, Moves}
 use Rattle.varisat_client.specs.declared.client.SearchEnd.{SearchEnd}
 use Rattle.varisat_client.specs.declared.client.SearchEnd.TheVariants as end
 use Rattle.varisat_maxsat.specs.inside.Charges.{AreAssumed, IsSplit, AreValues}
-use Rattle.varisat_maxsat.specs.inside.Reductions.{IsReady, HasBegun, FindsModel, FindsCore, IsReadyWith}
+use Rattle.varisat_maxsat.specs.inside.Reductions.{IsReady, with_limit, HasBegun, FindsModel, FindsCore, IsReadyWith}
 use Rattle.varisat_maxsat.specs.declared.charge.Charge.{Charge}
 use Rattle.varisat_maxsat.proofs.Taking.{take-item, assumes-none, assumes-one, assumes-not, splits-failed, splits-kept}
 
@@ -202,12 +202,17 @@ begun-fails t cs p g h r e b moves =
     search-fails r (record (count b.assumed p) { assumed = b.assumed }) q t cs h b.assumed e m st b.from refl b.ready.clause b.ready.assumptions
 
 -- a limit of steps
-pub limited : (n : ℕ) (g h : Client) → Moves (LimitsSteps n) g h → (p : ClientPast) → IsReady g p → (m : ℕ) × IsReady h (record p { limit = m; since = 0 })
-limited n g h moves p r = let (q, m, s) = moves p r.stands in go q m s
+pub limited : (n m : ℕ) (g h : Client) (p : ClientPast) → IsReady g p → n ≡ m → Moves (LimitsSteps n) g h → IsReady h (with_limit m p)
+limited n m g h p r same moves = let (q, k, s) = moves p r.stands in go q k s
   where
-    go : (q : ClientPast) → LimitsSteps n p q → RepresentsPast h q → (m : ℕ) × IsReady h (record p { limit = m; since = 0 })
+    go : (q : ClientPast) → LimitsSteps n p q → RepresentsPast h q → IsReady h (with_limit m p)
     go q (past.Refused z e) s = absurd (z r.refusal)
-    go q (past.Limited z e) s = (n, record { stands = subst (RepresentsPast h) e s; refusal = r.refusal; clause = r.clause; assumptions = r.assumptions })
+    go q (past.Limited z e) s = record {
+      stands = subst (RepresentsPast h) (e ∙ ap (λ k. with_limit k p) same) s;
+      refusal = r.refusal;
+      clause = r.clause;
+      assumptions = r.assumptions;
+    }
 
 -- what a core does not have
 has-not-failed : (n : ℤ) (b : Bool) (p : ClientPast) → ReturnsFailed n b p → b ≡ false → n ≢ pos 0 → p.refusal ≡ None → literal_numbered n ∈ p.core → ⊥

@@ -1,12 +1,12 @@
 //! What is given to a client, and what it is asked.
-ghost use Rattle.std.specs.Prelude.{◌≡◌, ◌≢◌, ℕ, ◌++◌, ◌∷◌, [], List, pos, None, IfOk, IfErr, MatchOption, MatchResult};
+ghost use Rattle.std.specs.Prelude.{◌≡◌, ◌≢◌, ◌++◌, ◌∷◌, [], List, pos, None, IfOk, IfErr, MatchOption, MatchResult};
 ghost use Rattle.varisat_theory.specs.promises.Literals.{Clause, Assignment, SatisfiesAll, MakesTrue};
 ghost use Rattle.varisat_literals.specs.promises.Numbers.{literal_numbered};
 ghost use Rattle.varisat_client.specs.promises.Pasts.{ClientPast, count};
 ghost use Rattle.varisat_client.specs.inside.Clients.{RepresentsPast};
 ghost use Rattle.varisat_maxsat.specs.inside.Charges.{LiteralsAreBelow, IsSplit, AreValues};
 ghost use Rattle.varisat_maxsat.specs.inside.Errors.{IsLimit};
-ghost use Rattle.varisat_maxsat.specs.inside.Reductions.{IsReady, HasBegun, FindsCore, FindsWithin, GivesUp, KeepsParted, FindsLightly};
+ghost use Rattle.varisat_maxsat.specs.inside.Reductions.{IsReady, left_steps, with_limit, HasBegun, FindsCore, FindsWithin, GivesUp, KeepsParted, FindsLightly};
 
 use crate::charge::Charge;
 use crate::refusal::MaxSatError;
@@ -95,7 +95,9 @@ fn assume<A: Allocator + Copy>(
 }
 
 /// What is left of so many steps in all.
-fn left_of<A: Allocator + Copy>(client: &Client<A>, steps: Option<u64>) -> u64 {
+fn left_of<A: Allocator + Copy>(client: &Client<A>, steps: Option<u64>) -> u64
+    ensures { (p : ClientPast) → IsReady client.now p → result ≡ left_steps steps p.steps }
+{
     match steps {
         Some(steps) => steps.saturating_sub(client.steps()),
         None => u64::MAX,
@@ -104,7 +106,7 @@ fn left_of<A: Allocator + Copy>(client: &Client<A>, steps: Option<u64>) -> u64 {
 
 /// Lets a search make what is left of so many steps in all.
 fn limit_search<A: Allocator + Copy>(client: &mut Client<A>, steps: Option<u64>)
-    ensures { (p : ClientPast) → IsReady client.old p → (n : ℕ) × IsReady client.new (record p { limit = n; since = 0 }) }
+    ensures { (p : ClientPast) → IsReady client.old p → IsReady client.new (with_limit (left_steps steps p.steps) p) }
 {
     let left = left_of(client, steps);
     client.limit_steps(left);

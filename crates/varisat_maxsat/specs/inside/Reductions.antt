@@ -1,5 +1,5 @@
 -- A client that holds a problem as it was brought down.
-use Rattle.std.specs.Prelude.{◌≡◌, ◌≤◌, ℕ, Bool, true, false, Option, Some, None, option_map, IfSome, Result, MatchResult, List, []}
+use Rattle.std.specs.Prelude.{◌≡◌, ◌≤◌, ℕ, ◌-◌, ◌^◌, Bool, true, false, Option, Some, None, option_map, IfSome, Result, MatchResult, List, []}
 use Rattle.varisat_theory.specs.promises.Literals.{Literal, Clause, Assignment, SatisfiesAll, IsFailedCore, IsSatisfiable}
 use Rattle.varisat_client.specs.promises.Pasts.{ClientPast, IsFoundModel, count}
 use Rattle.varisat_client.specs.inside.Clients.{Client, RepresentsPast}
@@ -18,6 +18,16 @@ pub record IsReady (g : Client) (p : ClientPast) : Type 0 where
   pub refusal : p.refusal ≡ None
   pub clause : p.clause ≡ []
   pub assumptions : p.assumptions ≡ []
+
+-- How many steps are left, once so many were made, of a limit for all searches together. Without one each may make all
+-- that can be counted.
+abbrev pub left_steps : Option ℕ → ℕ → ℕ
+left_steps None made = 2 ^ 64 - 1
+left_steps (Some limit) made = limit - made
+
+-- the next search may make so many steps
+abbrev pub with_limit : ℕ → ClientPast → ClientPast
+with_limit steps p = record p { limit = steps; since = 0 }
 
 -- A search was begun under the assumptions.
 pub record HasBegun (threshold : ℕ) (charges : List Charge) (p : ClientPast) (h : Client) : Type 0 where

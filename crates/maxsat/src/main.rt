@@ -39,20 +39,15 @@ enum Asked<'a> {
 
 /// Reads the words of the command line. None is for words that ask for nothing.
 fn asked_by(words: &[String]) -> Option<Asked<'_>> {
-    let (path, options) = words.split_first()?;
-    let path = path.as_str();
-    let Some((option, values)) = options.split_first() else {
-        return match path {
-            "--help" | "-h" => Some(Asked::Help),
-            _ => Some(Asked::Solve(path, None)),
-        };
-    };
-    let (value, others) = values.split_first()?;
-    if option.as_str() != "--max-steps" || !others.is_empty() {
-        return None;
+    match words {
+        [word] if word.as_str() == "--help" || word.as_str() == "-h" => Some(Asked::Help),
+        [path] => Some(Asked::Solve(path.as_str(), None)),
+        [path, option, steps] if option.as_str() == "--max-steps" => {
+            let steps = parse_number(steps.as_str().as_bytes())?;
+            Some(Asked::Solve(path.as_str(), Some(steps)))
+        }
+        _ => None,
     }
-    let steps = parse_number(value.as_str().as_bytes())?;
-    Some(Asked::Solve(path, Some(steps)))
 }
 
 /// Does what the command line asks for.

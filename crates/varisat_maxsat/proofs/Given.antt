@@ -6,7 +6,7 @@ use Rattle.varisat_theory.specs.promises.Membership.{◌∈◌}
 use Rattle.varisat_theory.specs.promises.Literals.{Literal, Assignment, opposite, MakesTrue, IsFailedCore}
 use Rattle.varisat_theory.proofs.clauses.Values.{not_both}
 use Rattle.varisat_literals.specs.promises.Numbers.{literal_numbered}
-use Rattle.varisat_client.specs.promises.Pasts.{ClientPast, refuse, Refuses, count, AddsNumber, AssumesNumber, Begins, LimitsSteps, IsSearchEnd, IsFoundModel, ReturnsFailed, ReturnsValue}
+use Rattle.varisat_client.specs.promises.Pasts.{ClientPast, Refuses, count, AddsNumber, AssumesNumber, Begins, LimitsSteps, IsSearchEnd, IsFoundModel, ReturnsFailed, ReturnsValue}
 use Rattle.varisat_client.specs.promises.Pasts as past
 use Rattle.varisat_client.specs.inside.Clients.{Client, RepresentsPast, Moves}
 use Rattle.varisat_client.specs.declared.client.SearchEnd.{SearchEnd}

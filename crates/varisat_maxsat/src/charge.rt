@@ -21,11 +21,11 @@ pub(crate) struct Charge {
 
 /// The greatest weight, or 0.
 pub(crate) fn greatest_weight(charges: &[Charge]) -> u64 {
-    let mut greatest = 0;
-    for charge in charges {
-        greatest = greatest.max(charge.weight);
-    }
-    greatest
+    charges
+        .iter()
+        .map(|charge| charge.weight)
+        .max()
+        .unwrap_or(0)
 }
 
 /// The least weight, or the greatest number.

@@ -117,10 +117,10 @@ impl<A: Allocator + Copy> Reduction<A> {
         ensures { MatchResult result
             (λ b. (p : Problem) → ReducesTo p self.old → ReducesToAfter b threshold p self.new) IsLimit }
     {
-        match search(&mut self.client, &self.charges, threshold, self.steps)? {
-            Some(found) => Ok(found),
-            None => Err(MaxSatError::StepsSpent),
-        }
+        let Some(found) = search(&mut self.client, &self.charges, threshold, self.steps)? else {
+            return Err(MaxSatError::StepsSpent);
+        };
+        Ok(found)
     }
 
     /// Searches for a model in which few charges are true, and puts those first that were given up.

@@ -225,15 +225,12 @@ fn ensure_met<A: Allocator + Copy>(
 ) -> Result<(), MaxSatError>
     ensures { MatchResult result (λ _. IfSome best.now (λ s. s.cost ≤ reduction.now.ceiling)) IsLimit }
 {
-    match best {
-        Some(solution) => {
-            if solution.cost > reduction.ceiling() {
-                return Err(MaxSatError::StepsSpent);
-            }
-            Ok(())
+    if let Some(solution) = best {
+        if solution.cost > reduction.ceiling() {
+            return Err(MaxSatError::StepsSpent);
         }
-        None => Ok(()),
     }
+    Ok(())
 }
 
 /// Lowers the ceiling to the cost. Refuses one that is no less, so that there is an end whatever the plan counts.

@@ -1,6 +1,5 @@
 //! What the program prints, and its status.
-ghost use Rattle.std.specs.Prelude.{◌≡◌, ◌⊎◌, ◌-◌, ◌^◌, ◌<◌, ◌++◌, OnOk, IfOk, codes, if◌then◌else◌};
-ghost use Rattle.varisat_maxsat.specs.promises.Problems.{IsOptimumOrSolution};
+ghost use Rattle.std.specs.Prelude.{◌≡◌, ◌⊎◌, ◌-◌, ◌^◌, ◌<◌, ◌++◌, OnOk, IfOk, if◌then◌else◌};
 ghost use Rattle.varisat_wcnf.specs.promises.Printed.{value_digits, solution_text, verdict_line, solution_status, PrintsText, PrintsAnswer, AnswersText};
 
 use crate::costs::optimize_printing;

@@ -110,10 +110,8 @@ fn behind_blanks(line: &[u8]) -> Option<&[u8]>
     ensures within { IfSome result (λ rest. length rest.now ≤ length line.now) }
     ensures begun { IfSome result (λ rest. is_blank (slice_index rest.now 0) ≡ false) }
 {
-    match line.iter().position(|byte| !is_blank_byte(*byte)) {
-        Some(start) => Some(&line[start..]),
-        None => None,
-    }
+    let start = line.iter().position(|byte| !is_blank_byte(*byte))?;
+    Some(&line[start..])
 }
 
 /// The first word of a line, and what stands behind it.
@@ -151,9 +149,7 @@ fn number_of(word: &[u8]) -> Option<u64>
     }
     match digits {
         Digits::Number(number) => Some(number),
-        Digits::Empty => None,
-        Digits::Large => None,
-        Digits::NoNumber => None,
+        Digits::Empty | Digits::Large | Digits::NoNumber => None,
     }
 }
 

@@ -5,14 +5,14 @@ use Rattle.varisat_formula.specs.promises.Dimacs.{is_blank}
 use Rattle.varisat_wcnf.proofs.Reading.{words-blank, words-none}
 use Rattle.varisat_wcnf.proofs.wcnf.behind_blanks.Goals as goal
 
-pub returns-in-Some-clause-same : goal.returns-in-Some-clause-same
-returns-in-Some-clause-same c =
-    let first = IsFirst-from_position _ _ (Some c.in-Some.start) (λ b. is_blank b ≡ false) (λ b. is_blank b ≡ true) c.in-Some.ensures.ran
+pub returns-clause-same : goal.returns-clause-same
+returns-clause-same c =
+    let first = IsFirst-from_position _ _ (Some c.in_ok-start.start) (λ b. is_blank b ≡ false) (λ b. is_blank b ≡ true) c.in_ok-start.ensures.ran
     (YieldsList-from_slice c.args.line.now cc) (λ x q k. search (rules, tests)) (λ x q k. search (rules, tests)) in
-    rw take_rest (words-blank c.args.line.now c.in-Some.start (let h = first.0 in omega arith) first.2)
+    rw take_rest (words-blank c.args.line.now c.in_ok-start.start (let h = first.0 in omega arith) first.2)
 
-pub returns-in-None-clause-none : goal.returns-in-None-clause-none
-returns-in-None-clause-none c =
-    let first = IsFirst-from_position _ _ None (λ b. is_blank b ≡ false) (λ b. is_blank b ≡ true) c.in-None.ensures.ran
+pub returns-in_err-start-clause-none : goal.returns-in_err-start-clause-none
+returns-in_err-start-clause-none c =
+    let first = IsFirst-from_position _ _ None (λ b. is_blank b ≡ false) (λ b. is_blank b ≡ true) c.in_err-start.ensures.ran
     (YieldsList-from_slice c.args.line.now cc) (λ x q k. search (rules, tests)) (λ x q k. search (rules, tests)) in
-    words-none c.args.line.now first
+    rw c.from_residual.ensures (words-none c.args.line.now first)

@@ -1,4 +1,4 @@
-use Rattle.std.proofs.Common.{arith}
+use Rattle.std.proofs.Common.{◌≤◌, ⊎_elim, length, arith}
 use Rattle.varisat_wcnf.proofs.Reading.{digits-next, number-whole, number-large, number-empty, number-wrong}
 use Rattle.varisat_wcnf.proofs.wcnf.number_of.Goals as goal
 
@@ -10,10 +10,7 @@ pub returns-in-Number : goal.returns-in-Number
 returns-in-Number c = number-whole c.args.word.now c.loop-byte.byte-index _ _ (let h = c.loop-byte-test.false in omega arith) c.loop-byte.invariant c.in-Number.is (omega arith)
 
 pub returns-in-Empty : goal.returns-in-Empty
-returns-in-Empty c = number-empty c.args.word.now c.loop-byte.byte-index _ (let h = c.loop-byte-test.false in omega arith) c.loop-byte.invariant c.in-Empty.is
-
-pub returns-in-Large : goal.returns-in-Large
-returns-in-Large c = number-large c.args.word.now c.loop-byte.byte-index _ (let h = c.loop-byte-test.false in omega arith) c.loop-byte.invariant c.in-Large.is
-
-pub returns-in-NoNumber : goal.returns-in-NoNumber
-returns-in-NoNumber c = number-wrong c.args.word.now c.loop-byte.byte-index _ (let h = c.loop-byte-test.false in omega arith) c.loop-byte.invariant c.in-NoNumber.is
+returns-in-Empty c =
+    let far : length c.args.word.now ≤ c.loop-byte.byte-index = let h = c.loop-byte-test.false in omega arith in
+    ⊎_elim (number-empty _ _ _ far c.loop-byte.invariant)
+    (⊎_elim (number-large _ _ _ far c.loop-byte.invariant) (number-wrong _ _ _ far c.loop-byte.invariant)) c.in-Empty.is

@@ -11,7 +11,7 @@ use Rattle.varisat.specs.inside.Counts.{count_with}
 use Rattle.varisat_literals.specs.promises.Numbers.{variable_limit}
 use Rattle.varisat_solver.specs.promises.Models.{AreNamesInUse}
 use Rattle.varisat_solver.specs.promises.Calls.{IsPastLimit}
-use Rattle.varisat.specs.inside.Laws.{NamesStayInOrder, NamesAreIdentities, GivenIsAccepted, CrowdedIsPastLimit}
+use Rattle.varisat.specs.inside.Laws.{NamesStayInOrder, NamesAreIdentities, GivenIsAccepted, TooManyIsPastLimit}
 
 -- Names that come into use, where those in use are the ones below a count, in order.
 
@@ -118,13 +118,13 @@ pub given-is-accepted : GivenIsAccepted
 given-is-accepted n p v c o = let (order, own) = stay-in-order n p.naming c o in (ap (λ x. p.clauses ++ x ∷ []) own, own)
 
 -- where names would be too many, one of them is past the limit
-crowded-limit : (d : List Literal) (n : ℕ) → n ≤ variable_limit → variable_limit < count_with n d → IsPastLimit d
-crowded-limit [] n h k = absurd (omega (arith, h, k))
-crowded-limit (l ∷ d) n h k =
+too-many-limit : (d : List Literal) (n : ℕ) → n ≤ variable_limit → variable_limit < count_with n d → IsPastLimit d
+too-many-limit [] n h k = absurd (omega (arith, h, k))
+too-many-limit (l ∷ d) n h k =
     ⊎_elim
-    (λ m. let (x, i, y) = crowded-limit d (max n (variable_of l + 1)) (omega (arith, h, m)) k in (x, inr i, y))
+    (λ m. let (x, i, y) = too-many-limit d (max n (variable_of l + 1)) (omega (arith, h, m)) k in (x, inr i, y))
     (λ m. (l, inl refl, m))
     (cases_lt (variable_of l) variable_limit)
 
-pub crowded-is-past-limit : CrowdedIsPastLimit
-crowded-is-past-limit n m ls o h k = let f = fit-all ls n m o in crowded-limit ls n h (subst (λ x. variable_limit < x) f.made k)
+pub too-many-is-past-limit : TooManyIsPastLimit
+too-many-is-past-limit n m ls o h k = let f = fit-all ls n m o in too-many-limit ls n h (subst (λ x. variable_limit < x) f.made k)

@@ -1,6 +1,6 @@
 //! What holds of names as long as none is freed, and so for a user who hides nothing; of a core that is found; and of a
 //! check of a proof's bytes; and that `answers` of `answers_of` rules wrong answers out.
-ghost use Rattle.varisat.specs.inside.Laws.{NamesStayInOrder, NamesAreIdentities, GivenIsAccepted, CrowdedIsPastLimit};
+ghost use Rattle.varisat.specs.inside.Laws.{NamesStayInOrder, NamesAreIdentities, GivenIsAccepted, TooManyIsPastLimit};
 ghost use Rattle.varisat.specs.inside.WrongAnswers.{WrongAnswersFitNoStory};
 ghost use Rattle.varisat.specs.inside.Laws.{AgainIsNoStep, CoresAreLogged, CoresAreWritten, BytesAreAccepted, MarkedProofsPass};
 
@@ -20,8 +20,8 @@ pub fn given_is_accepted()
 {}
 
 /// It is refused for its names only where one of these is past the limit.
-pub fn crowded_is_past_limit()
-    ensures { CrowdedIsPastLimit }
+pub fn too_many_is_past_limit()
+    ensures { TooManyIsPastLimit }
 {}
 
 /// No step deletes a clause and adds it again, unless it is one that may delete learned clauses.

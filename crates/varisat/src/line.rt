@@ -147,7 +147,8 @@ fn parse_word<S: ByteSource, A: Allocator + Copy>(
 // The update of a command that begins with `config` and a space, from what follows: a setting's name and a number.
 fn parse_setting(setting: &[u8]) -> Option<SolverConfigUpdate>
     ensures command { IfSome result (MeansUpdate (codes "config " ++ setting.now)) }
-    ensures no_command { IfNone result ((command : Command) → MeansCommand (codes "config " ++ setting.now) command → ⊥) }
+    ensures no_command { IfNone result
+        ((command : Command) → MeansCommand (codes "config " ++ setting.now) command → ⊥) }
 {
     let (name, number) = split_word(setting);
     let field = ConfigField::from_name(name)?;
@@ -160,10 +161,14 @@ fn parse_literals<A: Allocator + Copy>(
     alloc: A,
     numbers: &[u8],
 ) -> Result<Option<Vec<Lit, A>>, AllocError>
-    ensures clause { IfOk result (λ found. IfSome found (λ literals. MeansCommand (codes "add " ++ numbers.now) (Add literals.items))) }
-    ensures list { IfOk result (λ found. IfSome found (λ literals. MeansCommand (codes "assume " ++ numbers.now) (Assume literals.items))) }
-    ensures no_clause { IfOk result (λ found. IfNone found ((command : Command) → MeansCommand (codes "add " ++ numbers.now) command → ⊥)) }
-    ensures no_list { IfOk result (λ found. IfNone found ((command : Command) → MeansCommand (codes "assume " ++ numbers.now) command → ⊥)) }
+    ensures clause { IfOk result
+        (λ found. IfSome found (λ literals. MeansCommand (codes "add " ++ numbers.now) (Add literals.items))) }
+    ensures list { IfOk result
+        (λ found. IfSome found (λ literals. MeansCommand (codes "assume " ++ numbers.now) (Assume literals.items))) }
+    ensures no_clause { IfOk result
+        (λ found. IfNone found ((command : Command) → MeansCommand (codes "add " ++ numbers.now) command → ⊥)) }
+    ensures no_list { IfOk result
+        (λ found. IfNone found ((command : Command) → MeansCommand (codes "assume " ++ numbers.now) command → ⊥)) }
 {
     let mut literals = Vec::new(alloc);
     let mut rest = Some(numbers);

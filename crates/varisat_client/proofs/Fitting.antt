@@ -17,12 +17,12 @@ use Rattle.varisat_solver.specs.promises.Names.{Naming, name_all, through_names,
 use Rattle.varisat_solver.specs.promises.OpenProofs.{OpenProof, GoesOnWriting, searched_under}
 use Rattle.varisat_solver.specs.promises.Models.{IsCompletable, AreNamesInUse}
 use Rattle.varisat.specs.inside.Counts.{count_with}
-use Rattle.varisat_solver.specs.promises.Calls.{IsPastLimit, IsCrowded, AddsClause, Ignored, Accepted, VerdictAfter, Refuted, Reopened, Assumes, Solves, Configures, CountsIf, CountsCall, Decided, Searched, once_searched, by_state}
+use Rattle.varisat_solver.specs.promises.Calls.{IsPastLimit, HasTooManyVariables, AddsClause, Ignored, Accepted, VerdictAfter, Refuted, Reopened, Assumes, Solves, Configures, CountsIf, CountsCall, Decided, Searched, once_searched, by_state}
 use Rattle.varisat_names.specs.declared.config.SolverConfigUpdate.{SolverConfigUpdate}
 use Rattle.varisat_solver.specs.declared.solver.SolverError.TheVariants.{Interrupted}
 use Rattle.varisat_solver.specs.declared.solver.SolverError.{SolverError}
 use Rattle.varisat_solver.proofs.calls.CallStates.{same-assumptions, same-clauses, same-counted, same-ledger, same-naming, same-verdict}
-use Rattle.varisat.proofs.NameLaws.{stay-in-order, count-above, count-within, in-use-below, names-are-identities, crowded-is-past-limit}
+use Rattle.varisat.proofs.NameLaws.{stay-in-order, count-above, count-within, in-use-below, names-are-identities, too-many-is-past-limit}
 use Rattle.varisat_solver.proofs.calls.Counted.{join-more, join-has, join-only, join-once}
 use Rattle.varisat_solver.proofs.steps.SearchVerdicts.{reopened-not-unsat, assumed-unsat}
 use Rattle.varisat_client.specs.promises.Pasts.{ClientPast, IsUpToCounted, IsFoundModel, MakesFew}
@@ -31,15 +31,15 @@ use Rattle.varisat_client.specs.inside.Clients.{WasGiven, CountsAmong, MadeFewSi
 -- 1. Names are in range.
 
 -- a list that is refused for its names has one past the limit
-pub past-limit : (d : List Literal) (n : ℕ) (m : Naming) → AreInOrder n m → n ≤ variable_limit → IsPastLimit d ⊎ IsCrowded (name_all d m) → IsPastLimit d
-past-limit d n m o h r = ⊎_elim (λ l. l) (λ c. crowded-is-past-limit n m d o h c) r
+pub past-limit : (d : List Literal) (n : ℕ) (m : Naming) → AreInOrder n m → n ≤ variable_limit → IsPastLimit d ⊎ HasTooManyVariables (name_all d m) → IsPastLimit d
+past-limit d n m o h r = ⊎_elim (λ l. l) (λ c. too-many-is-past-limit n m d o h c) r
 
 -- and one that is not brings no more names than there may be
 stays-in-range : (d : List Literal) (n : ℕ) (m : Naming) → AreInOrder n m → n ≤ variable_limit → (IsPastLimit d → ⊥) → count_with n d ≤ variable_limit
 stays-in-range d n m o h none =
     let (order, own) = stay-in-order n m d o in
     ⊎_elim
-    (λ more. absurd (none (crowded-is-past-limit n m d o h (subst (λ k. variable_limit < k) (sym order.made) more))))
+    (λ more. absurd (none (too-many-is-past-limit n m d o h (subst (λ k. variable_limit < k) (sym order.made) more))))
     (λ few. few)
     (cases_lt variable_limit (count_with n d))
 

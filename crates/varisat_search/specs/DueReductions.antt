@@ -20,7 +20,7 @@ use Rattle.varisat_search.specs.Seen.{search_of}
 use Rattle.varisat_search.specs.declared.state.SatState.TheVariants as verdict
 use Rattle.varisat_prop.specs.View.{kinds}
 use Rattle.varisat_schedule.specs.CallSteps.{IsPlannedStep}
-use Rattle.varisat_search.specs.RootSimplified.{HasRootNews, KeepsFixed, GoesOnByLines, SimplifiesRootFirst}
+use Rattle.varisat_search.specs.RootSimplified.{IsRootUnpropagated, KeepsFixed, GoesOnByLines, SimplifiesRootFirst}
 use Rattle.varisat_search.specs.Deletions.{unmarked_deletions}
 
 -- the store holds the context's clauses, and those that are reasons are marked
@@ -87,7 +87,7 @@ pub record Inprocesses {A : Type 0} (does : List Line → Context A → Context 
       × (x.schedule.steps % x.solver_config.reduce_locals_interval ≢ 0 → KeepsPartsBy lines) × are lines) x y
   -- a new literal of level 0 is still to be propagated
   pub fixes : KeepsFixed (view x) (view y)
-  pub news : HasRootNews (view x) → HasRootNews (view y)
+  pub unpropagated : IsRootUnpropagated (view x) → IsRootUnpropagated (view y)
 
 -- The one and then the other, each by its lines.
 pub record InTurn {A : Type 0} (first next : List Line → Context A → Context A → Type 0) (lines : List Line)

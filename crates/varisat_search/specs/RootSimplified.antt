@@ -20,8 +20,8 @@ use Rattle.varisat_search.specs.Simplifications.{IsSimplified, pair_lines, claus
 use Rattle.varisat_search.specs.Steps.{IsPropagatedToEnd, ExtendsTrail}
 
 -- at level 0 literals are still to be propagated
-abbrev pub HasRootNews : View → Type 0
-HasRootNews s = (s.decisions ≡ []) × (s.queue_head < length s.trail)
+abbrev pub IsRootUnpropagated : View → Type 0
+IsRootUnpropagated s = (s.decisions ≡ []) × (s.queue_head < length s.trail)
 
 -- the literals that stand before the first of the decisions
 abbrev pub before_decisions : List ℕ → List Literal → List Literal
@@ -34,16 +34,16 @@ fixed_literals s = before_decisions s.decisions s.trail
 
 -- The literals of level 0 stay, and all of them are propagated.
 abbrev pub FixesNone : View → View → Type 0
-FixesNone s t = (fixed_literals t ≡ fixed_literals s) × (HasRootNews t → ⊥)
+FixesNone s t = (fixed_literals t ≡ fixed_literals s) × (IsRootUnpropagated t → ⊥)
 
 -- They stay, or at level 0 some are still to be propagated.
 abbrev pub KeepsFixed : View → View → Type 0
-KeepsFixed s t = (fixed_literals t ≡ fixed_literals s) ⊎ HasRootNews t
+KeepsFixed s t = (fixed_literals t ≡ fixed_literals s) ⊎ IsRootUnpropagated t
 
 -- What a step makes of the literals of level 0. Where all of them are propagated as it begins they stay, or it ends at level 0
 -- with one that is still to be propagated. Where a clause is false at level 0 it comes to Unsat.
 pub record FixesByLearning {A : Type 0} (x y : Context A) : Type 0 where
-  pub keeps : (HasRootNews (view x) → ⊥) → y.solver_state.sat_state ≢ verdict.Unsat → KeepsFixed (view x) (view y)
+  pub keeps : (IsRootUnpropagated (view x) → ⊥) → y.solver_state.sat_state ≢ verdict.Unsat → KeepsFixed (view x) (view y)
   pub refutes : x.trail.decisions ≡ [] → (conflict : Conflict) → IsConflicting (view x) conflict →
       y.solver_state.sat_state ≡ verdict.Unsat
 
@@ -75,12 +75,13 @@ abbrev pub SimplifiesRootByLines : {A : Type 0} → (List Line → Type 0) → C
     Result (Unit {0}) Conflict → Type 0
 SimplifiesRootByLines are x y end = GoesOnByLines (λ lines. SimplifiesRoot lines (view x) (view y) end × are lines) x y
 
--- Where there are root news the root level is simplified, and else there is no line. In any case the search goes on by lines for which `are` holds.
-abbrev pub SimplifiesRootIfNews : {A : Type 0} → (List Line → Type 0) → Context A → Context A →
+-- Where literals of the root level are still to be propagated, the root level is simplified; else there is no line. In any case the
+-- search goes on by lines for which `are` holds.
+abbrev pub SimplifiesRootIfUnpropagated : {A : Type 0} → (List Line → Type 0) → Context A → Context A →
     Result (Unit {0}) Conflict → Type 0
-SimplifiesRootIfNews are x y end = GoesOnByLines
-    (λ lines. (HasRootNews (view x) → SimplifiesRoot lines (view x) (view y) end)
-    × ((HasRootNews (view x) → ⊥) → lines ≡ []) × are lines) x y
+SimplifiesRootIfUnpropagated are x y end = GoesOnByLines
+    (λ lines. (IsRootUnpropagated (view x) → SimplifiesRoot lines (view x) (view y) end)
+    × ((IsRootUnpropagated (view x) → ⊥) → lines ≡ []) × are lines) x y
 
 -- The root level is simplified, and the step goes on from there: the lines are those of both, in turn.
 pub record SimplifiesThenSteps {A : Type 0} (lines : List Line) (x z : Context A) : Type 0 where
@@ -92,13 +93,14 @@ pub record SimplifiesThenSteps {A : Type 0} (lines : List Line) (x z : Context A
   pub simplifies_root : SimplifiesRoot first (view x) (view settled) end
   pub steps : StepsTo (λ ls. ls ≡ rest) settled z
 
--- a step that begins with root news simplifies the root level first
+-- a step that begins while literals of the root level are still to be propagated simplifies the root level first
 abbrev pub SimplifiesRootFirst : {A : Type 0} → List Line → Context A → Context A → Type 0
-SimplifiesRootFirst lines x z = HasRootNews (view x) → SimplifiesThenSteps lines x z
+SimplifiesRootFirst lines x z = IsRootUnpropagated (view x) → SimplifiesThenSteps lines x z
 
--- a step without root news, and after which the search goes on, deletes nothing: it adds what was learned
+-- a step that begins with no literal of the root level left to be propagated, and after which the search goes on, deletes nothing: it
+-- adds what was learned
 abbrev pub LearnsAlone : {A : Type 0} → List Line → Context A → Context A → Type 0
-LearnsAlone lines x z = (HasRootNews (view x) → ⊥) → AddOneIfUnknown lines z
+LearnsAlone lines x z = (IsRootUnpropagated (view x) → ⊥) → AddOneIfUnknown lines z
 
 -- such a step was made, by lines for which `are` holds
 abbrev pub SimplifiesAndSteps : {A : Type 0} → (List Line → Type 0) → Context A → Context A → Type 0

@@ -21,7 +21,7 @@ ghost use Rattle.varisat_steps.specs.Traces.{TakesLines, TakesStep, LogsLines, B
 ghost use Rattle.varisat_search.specs.AssumptionParts.{TakesOutImplied};
 ghost use Rattle.varisat_search.specs.Conflicts.{ComesToDecision, EndsOrStops, keeping_of, IsKeptAsReason, IsStoredAsReason, IsWatchedAsReason};
 ghost use Rattle.varisat_search.specs.Learning.{HasMet, LearnsFrom};
-ghost use Rattle.varisat_search.specs.RootSimplified.{HasRootNews, FixesNone, KeepsFixed, FixesByLearning, SimplifiesRootByLines, SimplifiesRootIfNews, IsRootSimplified, SimplifiesAndSteps};
+ghost use Rattle.varisat_search.specs.RootSimplified.{IsRootUnpropagated, FixesNone, KeepsFixed, FixesByLearning, SimplifiesRootByLines, SimplifiesRootIfUnpropagated, IsRootSimplified, SimplifiesAndSteps};
 ghost use Rattle.varisat_search.specs.StepErrors.{EndsStep, step_faults};
 ghost use Rattle.varisat_search.specs.Progress.{outcome_at, AddOne, AddOneIfUnknown, MakesStep};
 ghost use Rattle.varisat_search.specs.FoundCores.{HasCoreIfFailed};
@@ -123,7 +123,7 @@ fn find_conflict<A: Allocator + Copy>(
     requires { IsReady ctx.old }
     ensures ready { OnOk result (IsReady ctx.new) }
     ensures grows { OnOk result (GrowsTrail (view ctx.old) (view ctx.new)) }
-    ensures fixed { OnOk result ((HasRootNews (view ctx.old) → ⊥) → FixesNone (view ctx.old) (view ctx.new)) }
+    ensures fixed { OnOk result ((IsRootUnpropagated (view ctx.old) → ⊥) → FixesNone (view ctx.old) (view ctx.new)) }
     ensures taken { OnOk result (TakesOutImplied (view ctx.old) ctx.old.assumptions ctx.new.assumptions) }
     ensures found { IfOk result (λ end. EndsOrStops (view ctx.new) ctx.new.assumptions end) }
     ensures goes { SearchesOn result ctx.old ctx.new }
@@ -298,24 +298,24 @@ pub fn simplify_root<A: Allocator + Copy, P: ProofTracer>(
 }
 
 /// Whether at level 0 literals are still to be propagated.
-pub fn has_root_news<A: Allocator + Copy>(ctx: &Context<A>) -> bool
+pub fn is_root_unpropagated<A: Allocator + Copy>(ctx: &Context<A>) -> bool
     requires { IsReady ctx.now }
-    ensures { IsTrue result ↔ HasRootNews (view ctx.now) }
+    ensures { IsTrue result ↔ IsRootUnpropagated (view ctx.now) }
 {
     ctx.trail.current_level() == 0 && !ctx.trail.fully_propagated()
 }
 
 /// Settles the units of level 0, as `simplify_root`. Nothing happens at another level, nor where nothing is left to be
 /// propagated.
-fn simplify_root_if_news<A: Allocator + Copy, P: ProofTracer>(
+fn simplify_root_if_unpropagated<A: Allocator + Copy, P: ProofTracer>(
     ctx: &mut Context<A>,
     proof: &mut P,
 ) -> Result<Result<(), Conflict>, TraceError>
     requires ready { IsReady ctx.old }
     requires holds { AdmitsFor (P.holds proof.old) (search_of (view ctx.old)) }
     ensures goes_on { IfOk result
-        (λ end. SimplifiesRootIfNews (λ lines. TakesLines P.takes proof.old lines proof.new) ctx.old ctx.new end) }
-    ensures stays { IfOk result (λ end. (HasRootNews (view ctx.old) → ⊥) → (ctx.new ≡ ctx.old) × (end ≡ Ok tt)) }
+        (λ end. SimplifiesRootIfUnpropagated (λ lines. TakesLines P.takes proof.old lines proof.new) ctx.old ctx.new end) }
+    ensures stays { IfOk result (λ end. (IsRootUnpropagated (view ctx.old) → ⊥) → (ctx.new ≡ ctx.old) × (end ≡ Ok tt)) }
     ensures finds { IfOk result
         (λ end. ctx.old.trail.decisions ≡ [] → (c : Conflict) → IsConflicting (view ctx.old) c → end ≢ Ok tt) }
     ensures at_zero { IfOk result (λ end. end ≢ Ok tt → ctx.new.trail.decisions ≡ []) }
@@ -324,7 +324,7 @@ fn simplify_root_if_news<A: Allocator + Copy, P: ProofTracer>(
     ensures frame { ChangesRootSimplified ctx.old ctx.new }
     ensures broken { IfErr result (λ error. BreaksOff P.breaks_off proof.old (faults_of error) proof.new) }
 {
-    if !has_root_news(ctx) {
+    if !is_root_unpropagated(ctx) {
         return Ok(Ok(()));
     }
     let end = simplify_root(ctx, proof)?;
@@ -354,10 +354,11 @@ fn find_and_learn<A: Allocator + Copy, P: ProofTracer>(
     requires unknown { ctx.old.solver_state.sat_state ≡ SatState.Unknown }
     requires holds { AdmitsFor (P.holds proof.old) (search_of (view ctx.old)) }
     ensures made { OnOk result (MakesStep
-        (λ lines. AddOneIfUnknown lines ctx.new × TakesStep P.takes proof.old lines (outcome_at ctx.new) proof.new) ctx.old ctx.new) }
+        (λ lines. AddOneIfUnknown lines ctx.new × TakesStep P.takes proof.old lines (outcome_at ctx.new) proof.new)
+        ctx.old ctx.new) }
     ensures core { OnOk result (HasCoreIfFailed ctx.new) }
     ensures fixed { OnOk result
-        ((HasRootNews (view ctx.old) → ⊥) → IsNotUnsat ctx.new → KeepsFixed (view ctx.old) (view ctx.new)) }
+        ((IsRootUnpropagated (view ctx.old) → ⊥) → IsNotUnsat ctx.new → KeepsFixed (view ctx.old) (view ctx.new)) }
     ensures ends { EndsStep result ctx.old ctx.new }
     ensures broken { IfErr result (λ error. BreaksOff P.breaks_off proof.old (step_faults error) proof.new) }
 {
@@ -392,7 +393,7 @@ pub fn conflict_step<A: Allocator + Copy, P: ProofTracer>(
     ensures ends { EndsStep result ctx.old ctx.new }
     ensures broken { IfErr result (λ error. BreaksOff P.breaks_off proof.old (step_faults error) proof.new) }
 {
-    match simplify_root_if_news(ctx, proof)? {
+    match simplify_root_if_unpropagated(ctx, proof)? {
         Ok(()) => find_and_learn(ctx, proof)?,
         Err(conflict) => learn_from_conflict(ctx, proof, conflict)?,
     }

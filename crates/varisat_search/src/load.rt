@@ -165,7 +165,8 @@ pub fn load_clause<A: Allocator + Copy, P: ProofTracer>(
     ensures unsat { ctx.old.solver_state.sat_state ≡ SatState.Unsat →
         (result ≡ Ok tt) × (ctx.new ≡ ctx.old) × (proof.new ≡ proof.old) }
     ensures loads { OnOk result (IsNotUnsat ctx.old →
-        LoadsAccepted (P.in_order proof.old) (λ ls. TakesLines P.takes proof.old ls proof.new) lits.now ctx.old ctx.new) }
+        LoadsAccepted (P.in_order proof.old) (λ ls. TakesLines P.takes proof.old ls proof.new) lits.now
+        ctx.old ctx.new) }
     // Under assumptions the verdict stays, unless it becomes Unsat.
     ensures verdict { OnOk result (IsVerdictAfter ctx.old.solver_state.sat_state ctx.new.solver_state.sat_state) }
     ensures keeps { OnOk result (KeepsVariables ctx.old ctx.new) }

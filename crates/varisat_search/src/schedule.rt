@@ -161,7 +161,8 @@ pub fn schedule_step<A: Allocator + Copy, P: ProofTracer>(
     ensures ready { OnOk result (IsReady ctx.new) }
     // The tracer took the lines of the step, in the order of its parts, and then the core, where assumptions failed.
     ensures made { OnOk result
-        (MakesScheduledStep (λ lines. TakesStep P.takes proof.old lines (outcome_at ctx.new) proof.new) ctx.old ctx.new) }
+        (MakesScheduledStep (λ lines. TakesStep P.takes proof.old lines (outcome_at ctx.new) proof.new)
+        ctx.old ctx.new) }
     ensures core { OnOk result (HasCoreIfFailed ctx.new) }
     ensures state { OnOk result
         (ctx.new.solver_state ≡ record ctx.old.solver_state { sat_state = ctx.new.solver_state.sat_state }) }

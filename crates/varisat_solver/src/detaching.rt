@@ -20,7 +20,7 @@ use std::alloc::{AllocError, Allocator};
 use varisat_formula::io::ProofTarget;
 use varisat_literals::{Lit, Var};
 use varisat_names::variables::LinkedVariables;
-use varisat_search::cdcl::{has_root_news, simplify_root};
+use varisat_search::cdcl::{is_root_unpropagated, simplify_root};
 use varisat_search::context::Context;
 use varisat_search::error::StepError;
 use varisat_search::forgetting::{detach_variables, flag_mentioned};
@@ -234,9 +234,9 @@ fn detach_unneeded<W: ProofTarget, A: Allocator + Copy>(
 
 /// At level 0, where literals are still to be propagated, simplifies the root level and lets the variables leave the
 /// search that have a value and are not assumed, and the hidden ones that no kept clause names. The tracer takes the
-/// lines of simplifying, and the proof logs which variables are gone for good. Does nothing at another level or where
-/// there is no such news, so that a step passes over all clauses no more often than its conflict step would. Lets none
-/// leave where a clause is false. `literals` is overwritten.
+/// lines of simplifying, and the proof logs which variables are gone for good. Does nothing at another level, nor if
+/// nothing is left to be propagated, so that a step passes over all clauses no more often than its conflict step would.
+/// Lets none leave where a clause is false. `literals` is overwritten.
 pub fn detach_fixed<W: ProofTarget, A: Allocator + Copy>(
     tracer: &mut SolverTracer<W, A>,
     ctx: &mut Context<A>,
@@ -251,7 +251,7 @@ pub fn detach_fixed<W: ProofTarget, A: Allocator + Copy>(
     ensures broken { IfErr result (λ error. BreaksProof tracer.old.proof (step_faults error) tracer.new.proof) }
     ensures full { IfErr result (λ error. error ≢ StepError.Full) }
 {
-    if !has_root_news(ctx) {
+    if !is_root_unpropagated(ctx) {
         return Ok(());
     }
     let settled = match simplify_root(ctx, tracer) {

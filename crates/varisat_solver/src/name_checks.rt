@@ -3,7 +3,7 @@ ghost use Rattle.std.specs.Prelude.{◌≡◌, ◌≢◌, ◌+◌, ◌-◌, Matc
 ghost use Rattle.varisat_theory.specs.promises.Membership.{◌∈◌};
 ghost use Rattle.varisat_theory.specs.promises.Literals.{Literal, variable_of};
 ghost use Rattle.varisat_solver.specs.promises.Names.{name_all, IsWitness, NameNoWitness, IsFirstWitness, IsNextWitness};
-ghost use Rattle.varisat_solver.specs.promises.Calls.{IsPastLimit, IsCrowded};
+ghost use Rattle.varisat_solver.specs.promises.Calls.{IsPastLimit, HasTooManyVariables};
 ghost use Rattle.varisat_solver.specs.inside.Accepting.{AreBounded, naming_of, ComesAlone, CountsAlone, CanBeNamed, ChecksNames};
 
 use crate::solver::SolverError;
@@ -106,8 +106,8 @@ fn lacks_room<A: Allocator + Copy>(
     requires bounded { AreBounded variables.now }
     requires in_range { IsPastLimit clause.now → ⊥ }
     requires watermark { watermark ≡ (name_all clause.now (naming_of variables.now)).watermark }
-    ensures { MatchBool result (IsCrowded (name_all clause.now (naming_of variables.now)))
-        (IsCrowded (name_all clause.now (naming_of variables.now)) → ⊥) }
+    ensures { MatchBool result (HasTooManyVariables (name_all clause.now (naming_of variables.now)))
+        (HasTooManyVariables (name_all clause.now (naming_of variables.now)) → ⊥) }
 {
     let rising = watermark - variables.user_watermark();
     let made = variables.global_watermark() + rising;
@@ -122,11 +122,14 @@ fn lacks_room<A: Allocator + Copy>(
 }
 
 /// Whether there is no room for the variables of the names of the clause that are free.
-pub fn is_crowded<A: Allocator + Copy>(variables: &LinkedVariables<A>, clause: &[Lit]) -> bool
+pub fn has_too_many_variables<A: Allocator + Copy>(
+    variables: &LinkedVariables<A>,
+    clause: &[Lit],
+) -> bool
     requires bounded { AreBounded variables.now }
     requires in_range { IsPastLimit clause.now → ⊥ }
-    ensures { MatchBool result (IsCrowded (name_all clause.now (naming_of variables.now)))
-        (IsCrowded (name_all clause.now (naming_of variables.now)) → ⊥) }
+    ensures { MatchBool result (HasTooManyVariables (name_all clause.now (naming_of variables.now)))
+        (HasTooManyVariables (name_all clause.now (naming_of variables.now)) → ⊥) }
 {
     lacks_room(variables, clause, watermark_with(variables, clause))
 }

@@ -7,7 +7,7 @@ ghost use Rattle.varisat_solver.specs.inside.Accepting.{AreBounded};
 ghost use Rattle.varisat_names.specs.declared.variables.data.SamplingMode.TheVariants as sampling;
 ghost use Rattle.varisat_solver.specs.inside.VariableChanges.{CanBeChanged, ChecksChange, IsMarkedName, SetsNamedMode, RetiresIfUnused, HidesNamed, ChangesNamed};
 
-use crate::name_checks::{is_crowded, is_past_limit};
+use crate::name_checks::{has_too_many_variables, is_past_limit};
 use crate::solver::SolverError;
 use std::alloc::{AllocError, Allocator};
 use varisat_formula::io::ProofTarget;
@@ -39,7 +39,7 @@ pub fn check_change<A: Allocator + Copy>(
     ensures { ChecksChange variables.now var result }
 {
     let list = [var.positive()];
-    if is_past_limit(&list) || is_crowded(variables, &list) {
+    if is_past_limit(&list) || has_too_many_variables(variables, &list) {
         return Err(SolverError::VariableLimit);
     }
     if is_assumed(variables, var) {

@@ -68,7 +68,10 @@ pub trait ProofTracer {
     ghost takes_none: { (x : Self) → takes x [] x };
 
     /// Entries are taken in turn.
-    ghost takes_more: { (x y z : Self) (first second : List Entry) → takes x first y → takes y second z → takes x (first ++ second) z };
+    ghost takes_more: { (x y z : Self) (first second : List Entry) →
+        takes x first y →
+        takes y second z →
+        takes x (first ++ second) z };
 
     /// One that is not active lets any entries pass.
     ghost takes_idle: { (x : Self) (entries : List Entry) → active x ≡ false → takes x entries x };
@@ -83,7 +86,10 @@ pub trait ProofTracer {
         breaks_off x (first ++ second) faults z };
 
     /// At one that is not active no fault comes.
-    ghost breaks_idle: { (x y : Self) (entries : List Entry) (faults : ℕ) → active x ≡ false → breaks_off x entries faults y → faults ≡ 0 };
+    ghost breaks_idle: { (x y : Self) (entries : List Entry) (faults : ℕ) →
+        active x ≡ false →
+        breaks_off x entries faults y →
+        faults ≡ 0 };
 
     /// It may hold what is present after the entries.
     ghost holds_after: { (x y : Self) (entries : List Entry) (held after : List Clause) →

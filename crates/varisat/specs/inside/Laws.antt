@@ -30,7 +30,7 @@ use Rattle.varisat_solver.specs.promises.StepEntries.{LeadsInSteps}
 use Rattle.varisat_solver.specs.promises.Names.{Naming, no_names, name_one, name_all, through_names, IsLeastFree, AreInOrder}
 use Rattle.varisat_solver.specs.promises.Models.{AreNamesInUse}
 use Rattle.varisat_solver.specs.promises.ProofCalls.{IsProof}
-use Rattle.varisat_solver.specs.promises.Calls.{IsPastLimit, IsCrowded, ReturnsVerdict, IsRefuted, accept, assume, by_state}
+use Rattle.varisat_solver.specs.promises.Calls.{IsPastLimit, HasTooManyVariables, ReturnsVerdict, IsRefuted, accept, assume, by_state}
 use Rattle.varisat.specs.inside.Counts.{count_with}
 use Rattle.varisat_solver.specs.promises.States.{State, Unknown, UnsatUnderAssumptions}
 use Rattle.varisat.specs.promises.Pasts.{Findings, Past, IsPastJournal, by_answers}
@@ -61,9 +61,9 @@ GivenIsAccepted =
     ((accept c v p).clauses ≡ p.clauses ++ c ∷ []) × ((assume c v p).assumptions ≡ c)
 
 -- and it is refused for its names only where one of these is past the limit
-abbrev pub CrowdedIsPastLimit : Type 0
-CrowdedIsPastLimit = (n : ℕ) (m : Naming) (ls : List Literal) → AreInOrder n m → n ≤ variable_limit →
-    IsCrowded (name_all ls m) → IsPastLimit ls
+abbrev pub TooManyIsPastLimit : Type 0
+TooManyIsPastLimit = (n : ℕ) (m : Naming) (ls : List Literal) → AreInOrder n m → n ≤ variable_limit →
+    HasTooManyVariables (name_all ls m) → IsPastLimit ls
 
 -- Where a call of `solve` finds a core, propagation over what is held then conflicts with it: the core was logged last.
 abbrev pub CoresAreLogged : Type 0

@@ -249,8 +249,8 @@ impl<A: Allocator + Copy> Checker<A> {
         builder: &mut ReportBuilder<A>,
         core: &[Lit],
     ) -> Result<LineStatus, AllocError>
-        ensures status { ReturnsStatus strict_rules (state_of self.old.clauses builder.old) (line_of_kind Fails core.now) result
-            (state_of self.new.clauses builder.new) }
+        ensures status { ReturnsStatus strict_rules (state_of self.old.clauses builder.old) (line_of_kind Fails core.now)
+            result (state_of self.new.clauses builder.new) }
         ensures spent { self.new.spent ≡ self.old.spent }
     {
         if !builder.assumes(core) {
@@ -271,8 +271,8 @@ impl<A: Allocator + Copy> Checker<A> {
         kind: LineKind,
         clause: &[Lit],
     ) -> Result<LineStatus, AllocError>
-        ensures status { ReturnsStatus strict_rules (state_of self.old.clauses builder.old) (line_of_kind kind clause.now) result
-            (state_of self.new.clauses builder.new) }
+        ensures status { ReturnsStatus strict_rules (state_of self.old.clauses builder.old) (line_of_kind kind clause.now)
+            result (state_of self.new.clauses builder.new) }
         ensures spent { self.new.spent ≡ self.old.spent }
     {
         match kind {
@@ -356,8 +356,8 @@ impl<A: Allocator + Copy> Checker<A> {
         kind: LineKind,
         clause: &[Lit],
     ) -> Result<(), CheckerError>
-        ensures takes { TakesNext (rules_of rules) (state_of self.old.clauses builder.old) count.old kind clause.now result
-            (state_of self.new.clauses builder.new) count.new }
+        ensures takes { TakesNext (rules_of rules) (state_of self.old.clauses builder.old) count.old kind clause.now
+            result (state_of self.new.clauses builder.new) count.new }
         ensures spent { self.new.spent ≡ self.old.spent }
     {
         if count.refuted {
@@ -395,8 +395,8 @@ impl<A: Allocator + Copy> Checker<A> {
         count: &mut Count,
         piece: &[u8],
     ) -> Result<(), CheckerError>
-        ensures reads { ReadsNext (rules_of rules) piece.now (position_of self.old builder.old count.old reader.old) result
-            (position_of self.new builder.new count.new reader.new) }
+        ensures reads { ReadsNext (rules_of rules) piece.now (position_of self.old builder.old count.old reader.old)
+            result (position_of self.new builder.new count.new reader.new) }
         ensures spent { self.new.spent ≡ self.old.spent }
     {
         for b in piece {
@@ -470,8 +470,8 @@ impl<A: Allocator + Copy> Checker<A> {
         encoding: Encoding,
     ) -> Result<CheckVerdict, CheckerError>
         requires few { (S.input source.old).faults < 2 ^ 64 - 1 }
-        ensures checks { ChecksFrom (rules_of rules) encoding (at_input self.old (S.input source.old)) builder.old result
-            (at_input self.new (S.input source.new)) builder.new }
+        ensures checks { ChecksFrom (rules_of rules) encoding (at_input self.old (S.input source.old)) builder.old
+            result (at_input self.new (S.input source.new)) builder.new }
         ensures spent { self.new.spent ≡ self.old.spent }
     {
         let refuted = match self.is_refuted() {

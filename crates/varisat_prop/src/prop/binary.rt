@@ -26,9 +26,11 @@ pub fn propagate_binary<A: Allocator + Copy>(
     requires is_true { IsMadeTrue assignment.old.current lit }
     requires listed { lit < length binary.now }
     ensures propagates { OnOk result
-        (PartsPropagate alloc.now alloc.now binary.now assignment.old assignment.new trail.old trail.new graph.old graph.new) }
+        (PartsPropagate alloc.now alloc.now binary.now assignment.old assignment.new trail.old trail.new
+        graph.old graph.new) }
     ensures keeps { OnOk result
-        (PartsKeep alloc.now alloc.now binary.now assignment.old assignment.new trail.old trail.new graph.old graph.new) }
+        (PartsKeep alloc.now alloc.now binary.now assignment.old assignment.new trail.old trail.new
+        graph.old graph.new) }
     ensures ends { IfOk result
         (EndsPropagation (HasImplied lit) (view_of alloc.now binary.now assignment.new trail.new graph.new)) }
 {

@@ -143,7 +143,8 @@ fn visit_watch<A: Allocator + Copy>(
     watch: Watch,
 ) -> Result<Visit, AllocError>
     requires { IsWatchOf lists.old (view_of alloc.old binary.now assignment.old trail.old graph.old) lit watch }
-    ensures { PartsVisit alloc.old alloc.new binary.now assignment.old assignment.new trail.old trail.new graph.old graph.new
+    ensures { PartsVisit alloc.old alloc.new binary.now assignment.old assignment.new trail.old trail.new
+        graph.old graph.new
         lists.old lists.new lit watch result }
 {
     let cref = watch.cref;
@@ -208,9 +209,11 @@ fn visit_watches<A: Allocator + Copy>(
     requires next { IsNext (with_watches watchlists.old lit watches.old)
         (view_of alloc.old binary.now assignment.old trail.old graph.old) lit }
     ensures propagates { OnOk result
-        (PartsPropagate alloc.old alloc.new binary.now assignment.old assignment.new trail.old trail.new graph.old graph.new) }
+        (PartsPropagate alloc.old alloc.new binary.now assignment.old assignment.new trail.old trail.new
+        graph.old graph.new) }
     ensures keeps { OnOk result
-        (PartsKeep alloc.old alloc.new binary.now assignment.old assignment.new trail.old trail.new graph.old graph.new) }
+        (PartsKeep alloc.old alloc.new binary.now assignment.old assignment.new trail.old trail.new
+        graph.old graph.new) }
     ensures next { IfOk result (λ v. IsNext (with_watches watchlists.new lit (take v.kept watches.new))
         (view_of alloc.new binary.now assignment.new trail.new graph.new) lit) }
     ensures ends { IfOk result
@@ -264,7 +267,8 @@ pub fn propagate_long<A: Allocator + Copy>(
 ) -> Result<Result<(), Conflict>, AllocError>
     requires { IsNext watchlists.old (view_of alloc.old binary.now assignment.old trail.old graph.old) lit }
     ensures goes { OnOk result
-        (PartsGoOn alloc.old alloc.new binary.now assignment.old assignment.new trail.old trail.new graph.old graph.new watchlists.new) }
+        (PartsGoOn alloc.old alloc.new binary.now assignment.old assignment.new trail.old trail.new
+        graph.old graph.new watchlists.new) }
     ensures ends { IfOk result
         (EndsPropagation WatchesHoldNext (view_of alloc.new binary.now assignment.new trail.new graph.new)) }
 {

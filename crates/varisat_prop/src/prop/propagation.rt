@@ -63,7 +63,8 @@ fn propagate_lit<A: Allocator + Copy>(
 ) -> Result<Result<(), Conflict>, AllocError>
     requires { IsNext watchlists.old (view_of alloc.old binary.now assignment.old trail.old graph.old) lit }
     ensures goes { OnOk result
-        (PartsGoOn alloc.old alloc.new binary.now assignment.old assignment.new trail.old trail.new graph.old graph.new watchlists.new) }
+        (PartsGoOn alloc.old alloc.new binary.now assignment.old assignment.new trail.old trail.new
+        graph.old graph.new watchlists.new) }
     ensures ends { IfOk result
         (EndsPropagation IsNextPropagated (view_of alloc.new binary.now assignment.new trail.new graph.new)) }
 {
@@ -105,7 +106,8 @@ pub fn propagate<A: Allocator + Copy>(
         (view_of alloc.old binary.now assignment.old trail.old graph.old) }
     // Each literal that was added has a clause as its reason, whose other literals are false and stand before it.
     ensures propagates { OnOk result
-        (PartsPropagate alloc.old alloc.new binary.now assignment.old assignment.new trail.old trail.new graph.old graph.new) }
+        (PartsPropagate alloc.old alloc.new binary.now assignment.old assignment.new trail.old trail.new
+        graph.old graph.new) }
     ensures propagated { OnOk result
         (IsPropagated watchlists.new (view_of alloc.new binary.now assignment.new trail.new graph.new)) }
     // At a conflict all literals of the named clause are false. Else no clause is false, none leaves a literal that

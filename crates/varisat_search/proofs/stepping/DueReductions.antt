@@ -16,7 +16,7 @@ use Rattle.varisat_analysis.specs.HeaderChanges.{ChangesHeaders}
 use Rattle.varisat_analysis.specs.Reductions.{Discards}
 use Rattle.varisat_analysis.specs.Collections.{Repacks}
 use Rattle.varisat_search.specs.Restarts.{KeepsAssignment}
-use Rattle.varisat_search.specs.RootSimplified.{HasRootNews, fixed_literals, KeepsFixed}
+use Rattle.varisat_search.specs.RootSimplified.{IsRootUnpropagated, fixed_literals, KeepsFixed}
 use Rattle.varisat_search.specs.DueReductions.{CollectsIfDue, KeepsSearch, NoLines, KeepsPartsBy, Inprocesses, InTurn}
 use Rattle.varisat_steps.specs.Traces.{TakesLines, AdmitsFor}
 use Rattle.varisat_steps.proofs.Traced.{lines-more, holds_on}
@@ -112,8 +112,8 @@ parts-through first more k l held after d c h =
     let (b, j, t) = l mid after f a i in
     (b, j, λ m o. s m (t m o))
 
-fixed-through : (s t u : View) → KeepsFixed s t → KeepsFixed t u → (HasRootNews t → HasRootNews u) → KeepsFixed s u
-fixed-through s t u a b news = ⊎_elim (λ e. ⊎_elim (λ f. inl (f ∙ e)) inr b) (λ n. inr (news n)) a
+fixed-through : (s t u : View) → KeepsFixed s t → KeepsFixed t u → (IsRootUnpropagated t → IsRootUnpropagated u) → KeepsFixed s u
+fixed-through s t u a b unpropagated = ⊎_elim (λ e. ⊎_elim (λ f. inl (f ∙ e)) inr b) (λ n. inr (unpropagated n)) a
 
 -- the search can go on as it was
 pub kept-inprocesses : {A : Type 0} (does : List Line → Context A → Context A → Type 0) (are : List Line → Type 0) (x y : Context A) →
@@ -131,7 +131,7 @@ kept-inprocesses does are x y last k =
         last = last;
       };
       fixes = inl (ap fixed_literals rest);
-      news = λ u. subst HasRootNews (sym rest) u;
+      unpropagated = λ u. subst IsRootUnpropagated (sym rest) u;
     }
 
 -- it wrote nothing
@@ -146,7 +146,7 @@ pub inprocesses-are : {A : Type 0} (R S : List Line → Context A → Context A 
 inprocesses-are R S P Q x y are k = record {
   goes_on = goes-are x y (as-inprocessed R P x y) (as-inprocessed S Q x y) are k.goes_on;
   fixes = k.fixes;
-  news = k.news;
+  unpropagated = k.unpropagated;
 }
 
 -- Where a tracer has the laws of a trait.
@@ -173,8 +173,8 @@ module _ {Q : Type 0} (takes : Q → List Entry → Q → Type 0) where
           (λ due. parts-through first more (k due) (l (λ e. due (sym same ∙ e)))),
           lines-more takes takes_more p q r first more t u,
         )) a.goes_on b.goes_on;
-    fixes = fixed-through (view x) (view y) (view z) a.fixes b.fixes b.news;
-    news = λ u. b.news (a.news u);
+    fixes = fixed-through (view x) (view y) (view z) a.fixes b.fixes b.unpropagated;
+    unpropagated = λ u. b.unpropagated (a.unpropagated u);
   }
 
   -- what the tracer may hold fits the search after it

@@ -24,7 +24,7 @@ use Rattle.varisat_analysis.proofs.WellFormedViews.{named-kept, kept-reordered, 
 use Rattle.varisat_search.specs.declared.context.Context.{Context}
 use Rattle.varisat_search.specs.Contexts.{view, IsReady}
 use Rattle.varisat_search.specs.DueReductions.{BeginsStep}
-use Rattle.varisat_search.specs.RootSimplified.{HasRootNews, before_decisions, fixed_literals, FixesNone, KeepsFixed}
+use Rattle.varisat_search.specs.RootSimplified.{IsRootUnpropagated, before_decisions, fixed_literals, FixesNone, KeepsFixed}
 use Rattle.varisat_search.specs.Steps.{IsCut}
 use Rattle.varisat_search.proofs.stepping.PropagatedBeforeDecisions.{take-whole}
 use Rattle.varisat_search.proofs.stepping.RestartSteps.{restart-elim, restart-undecided}
@@ -92,7 +92,7 @@ fixed-undone s t level w h c = ap fixed_literals c.rest ∙ before-undone s.deci
 
 -- so a step begins, whose inprocessing may make more literals true
 pub begun-fixed : {A : Type 0} {are : List Line → Type 0} (x z : Context A) → IsReady x → BeginsStep are x z →
-    KeepsFixed (view x) (view z) × (HasRootNews (view x) → HasRootNews (view z))
+    KeepsFixed (view x) (view z) × (IsRootUnpropagated (view x) → IsRootUnpropagated (view z))
 begun-fixed x z r b =
     let s = view x in
     let t = view b.begun in
@@ -102,7 +102,7 @@ begun-fixed x z r b =
       ⊎_elim (λ e. inl (e ∙ restarted)) inr b.inprocesses.fixes,
       λ u.
           let n = ap (λ (ds : List ℕ). length ds) u.0 in
-          b.inprocesses.news (subst HasRootNews (sym (restart-undecided x.schedule level s t b.restarts (omega (arith, n)))) u),
+          b.inprocesses.unpropagated (subst IsRootUnpropagated (sym (restart-undecided x.schedule level s t b.restarts (omega (arith, n)))) u),
     )
 
 -- at level 0 all literals are of that level
@@ -197,7 +197,7 @@ module _ (s t : View) (w : WellFormed s) (p : Propagates s t) (none : s.decision
           absurd (no-longer (omega (arith, n, k)))
 
 -- Propagation makes nothing true at level 0 that it had not made true before.
-pub fixed-propagated : {A : Type 0} (x : Context A) (t : View) → IsReady x → Propagates (view x) t → (HasRootNews (view x) → ⊥) → FixesNone (view x) t
+pub fixed-propagated : {A : Type 0} (x : Context A) (t : View) → IsReady x → Propagates (view x) t → (IsRootUnpropagated (view x) → ⊥) → FixesNone (view x) t
 fixed-propagated x t r p calm = by x.trail.decisions refl
   where
     s : View

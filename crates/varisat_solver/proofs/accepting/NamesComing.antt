@@ -10,7 +10,7 @@ use Rattle.varisat_names.specs.promises.Variables.{Tables, IsGiven, AreNextGiven
 use Rattle.varisat_names.proofs.Maps.{updated-at, updated-other, is-some}
 use Rattle.varisat_names.proofs.VarMap.{at-inside}
 use Rattle.varisat_solver.specs.promises.Names.{Naming, bring, bring_next, bring_if_free, name_one, name_all, IsWitness, NameNoWitness, IsFirstWitness, IsNextWitness}
-use Rattle.varisat_solver.specs.promises.Calls.{IsCrowded, IsPastLimit}
+use Rattle.varisat_solver.specs.promises.Calls.{HasTooManyVariables, IsPastLimit}
 use Rattle.varisat_solver.specs.inside.Accepting.{naming_of}
 use Rattle.varisat_solver.proofs.modes.VariableMoves.{given-most}
 use Rattle.varisat_theory.specs.promises.Membership.{◌∈◌}
@@ -109,8 +109,8 @@ pub all-alike : (d : List Literal) (m n : Naming) → AreAlike m n → AreAlike 
 all-alike [] m n h = h
 all-alike (l ∷ d) m n h = all-alike d (name_one (variable_of l) m) (name_one (variable_of l) n) (one-alike (variable_of l) m n h)
 
-pub alike-crowded : (m n : Naming) → AreAlike m n → IsCrowded m → IsCrowded n
-alike-crowded m n h c = let a = h.made in omega (arith, a, c)
+pub alike-too-many : (m n : Naming) → AreAlike m n → HasTooManyVariables m → HasTooManyVariables n
+alike-too-many m n h c = let a = h.made in omega (arith, a, c)
 
 -- 3. The tables after a name was named are like their naming with it.
 

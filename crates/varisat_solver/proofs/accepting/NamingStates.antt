@@ -7,12 +7,12 @@ use Rattle.varisat_names.specs.declared.variables.data.SamplingMode.{SamplingMod
 use Rattle.varisat_names.proofs.Maps.{chain-none, chain-some, is-some}
 use Rattle.varisat_solver.specs.promises.States.{State}
 use Rattle.varisat_solver.specs.promises.Names.{Mode, Sample, Witness, name_all, IsWitness, NameNoWitness, IsFirstWitness}
-use Rattle.varisat_solver.specs.promises.Calls.{IsCrowded, IsPastLimit, MayConstrain, MayAccept, AddsClause, Assumes, by_state}
+use Rattle.varisat_solver.specs.promises.Calls.{HasTooManyVariables, IsPastLimit, MayConstrain, MayAccept, AddsClause, Assumes, by_state}
 use Rattle.varisat_solver.specs.inside.Spaces.{Carrying, ModeFits, Links}
 use Rattle.varisat_solver.specs.promises.Summaries.{Summary}
 use Rattle.varisat_solver.specs.inside.Representations.{spaces, Represents}
 use Rattle.varisat_solver.specs.inside.Accepting.{mode_of, naming_of, CanBeNamed, ChecksNames}
-use Rattle.varisat_solver.proofs.accepting.NamesComing.{AreAlike, all-alike, alike-crowded}
+use Rattle.varisat_solver.proofs.accepting.NamesComing.{AreAlike, all-alike, alike-too-many}
 use Rattle.varisat_solver.specs.declared.solver.SolverError.{SolverError}
 use Rattle.varisat_solver.specs.declared.solver.SolverError.TheVariants.{WitnessVar, VariableLimit}
 use Rattle.varisat_solver.specs.promises.OpenProofs.{BarsAssumptions}
@@ -66,8 +66,8 @@ module _ (w : Carrying) (g : Summary) (s : State) (k : Links w (spaces g) s) whe
       (λ (x, f). let (i, a, b) = named-mode u x f in let z : Some i ≡ Some j = sym a ∙ e in let same : i ≡ j = cc in (x, f, b ∙ ap s.naming.modes same ∙ m))
       (is-some (at g.tables.users.forward u))
 
-  pub crowded-state : (d : List Literal) → IsCrowded (name_all d (naming_of g.tables)) → IsCrowded (name_all d s.naming)
-  crowded-state d c = alike-crowded (name_all d (naming_of g.tables)) (name_all d s.naming) (all-alike d (naming_of g.tables) s.naming alike-state) c
+  pub too-many-state : (d : List Literal) → HasTooManyVariables (name_all d (naming_of g.tables)) → HasTooManyVariables (name_all d s.naming)
+  too-many-state d c = alike-too-many (name_all d (naming_of g.tables)) (name_all d s.naming) (all-alike d (naming_of g.tables) s.naming alike-state) c
 
   pub no-witness-state : (d : List Literal) → NameNoWitness (naming_of g.tables) d → NameNoWitness s.naming d
   no-witness-state d n l h a = n l h (was-witness (variable_of l) a)
@@ -80,8 +80,8 @@ module _ (g : Summary) (s : State) (st : Represents g s) (valid : g.ledger.valid
   pub may-constrain : CanBeNamed d g.tables → NameNoWitness (naming_of g.tables) d → MayConstrain s.naming d
   may-constrain c n = let (w, k) = st.fits valid in record { in_range = c.in_range; sampled = no-witness-state w g s k d n }
 
-  limit-passed : IsPastLimit d ⊎ IsCrowded (name_all d (naming_of g.tables)) → IsPastLimit d ⊎ IsCrowded (name_all d s.naming)
-  limit-passed c = let (w, k) = st.fits valid in ⊎_elim (λ a. inl a) (λ b. inr (crowded-state w g s k d b)) c
+  limit-passed : IsPastLimit d ⊎ HasTooManyVariables (name_all d (naming_of g.tables)) → IsPastLimit d ⊎ HasTooManyVariables (name_all d s.naming)
+  limit-passed c = let (w, k) = st.fits valid in ⊎_elim (λ a. inl a) (λ b. inr (too-many-state w g s k d b)) c
 
   pub clause-refused : MayAccept by_state s → (e : SolverError) → ChecksNames g.tables d (Err e) → AddsClause s d (Err e) s
   clause-refused n VariableLimit c = (represents-valid g s st valid, n, limit-passed c, refl)

@@ -7,7 +7,7 @@ use Rattle.varisat_names.specs.promises.VarMap.{at}
 use Rattle.varisat_names.specs.promises.VarData.{data_at}
 use Rattle.varisat_solver.specs.promises.States.{State, with_variables}
 use Rattle.varisat_solver.specs.promises.Names.{Naming, AreShown, Mode, name_one, give_name}
-use Rattle.varisat_solver.specs.promises.Calls.{with_naming, IsCrowded}
+use Rattle.varisat_solver.specs.promises.Calls.{with_naming, HasTooManyVariables}
 use Rattle.varisat_solver.specs.promises.Usage.{AreAllShown, ChangesVar, SetsMode, name_var, IsAssumed, with_mode, hide_name}
 use Rattle.varisat_solver.specs.inside.Spaces.{SpacesFit, Carrying, ModeFits, Links, KeepVariables, FitWithNew}
 use Rattle.varisat_solver.specs.promises.Summaries.{Summary}
@@ -34,7 +34,7 @@ use Rattle.varisat_solver.specs.declared.solver.SolverError.{SolverError}
 use Rattle.varisat_solver.specs.declared.solver.SolverError.TheVariants.{OutOfMemory, VariableLimit, AssumedVar}
 use Rattle.varisat_solver.proofs.accepting.AcceptClause.{with_tables, named-one}
 use Rattle.varisat_solver.proofs.calls.CallStates.{Begins}
-use Rattle.varisat_solver.proofs.accepting.NamingStates.{crowded-state}
+use Rattle.varisat_solver.proofs.accepting.NamingStates.{too-many-state}
 use Rattle.varisat_solver.proofs.modes.HiddenTables.{marked-assumed, assumed-marked, mode-spaces, hidden-spaces, with_checker, left-spaces, shown-spaces}
 use Rattle.varisat_solver.proofs.modes.VariableChanges.{hidden-unnamed, hidden-keeps, unsat-or-not, turns-stay}
 use Rattle.varisat_solver.proofs.modes.VariableMoves.{tables-in-use}
@@ -71,17 +71,17 @@ unassumed-state {g} {s} u b n (l, h, e) =
 pub free-state : {g : Summary} {s : State} (u : ℕ) → Begins g s → at g.tables.users.forward u ≡ None → s.naming.names u ≡ None
 free-state {g} {s} u b f = let (w, k) = b.fits in k.names.agree u ∙ chain-none (at g.tables.users.forward) w.identity u f
 
-crowded-one : (w : Carrying) (g : Summary) (s : State) (u : ℕ) → Links w (spaces g) s → IsCrowded (name_one u (naming_of g.tables)) →
-    IsCrowded (name_one u s.naming)
-crowded-one w g s u k c =
+too-many-one : (w : Carrying) (g : Summary) (s : State) (u : ℕ) → Links w (spaces g) s → HasTooManyVariables (name_one u (naming_of g.tables)) →
+    HasTooManyVariables (name_one u s.naming)
+too-many-one w g s u k c =
     let e = variable-literal u true in
-    subst (λ v. IsCrowded (name_one v s.naming)) e
-    (crowded-state w g s k (literal_of u true ∷ []) (subst (λ v. IsCrowded (name_one v (naming_of g.tables))) (sym e) c))
+    subst (λ v. HasTooManyVariables (name_one v s.naming)) e
+    (too-many-state w g s k (literal_of u true ∷ []) (subst (λ v. HasTooManyVariables (name_one v (naming_of g.tables))) (sym e) c))
 
 -- a change that is refused changes nothing
 pub change-refused : (may_leave : Bool) (change : State → State) {g : Summary} {s : State} (u : ℕ) (e : SolverError) → Begins g s →
     ChecksChange g.tables u (Err e) → ChangesVar may_leave change s u (Err e) s
-change-refused may_leave change {g} {s} u VariableLimit b c = let (w, k) = b.fits in (b.valid, ⊎_elim inl (λ m. inr (crowded-one w g s u k m)) c, refl)
+change-refused may_leave change {g} {s} u VariableLimit b c = let (w, k) = b.fits in (b.valid, ⊎_elim inl (λ m. inr (too-many-one w g s u k m)) c, refl)
 change-refused may_leave change {g} {s} u (AssumedVar x) b (h, q, m) = let (w, k) = b.fits in (b.valid, h, q, assumed-state w g s u k m, refl)
 change-refused may_leave change {g} {s} u e b c = absurd c
 

@@ -51,9 +51,9 @@ use Rattle.varisat_solver.specs.inside.SinceChange.{call_from, HasComeSince, Has
 pub leaves-begun : {A : Type 0} {are : List Line → Type 0} (t u : Tables) (x z : Context A) → IsReady x → BeginsStep are x z → u ≡ t →
     DetachesInTime t (view x) → DetachesInTime u (view z)
 leaves-begun t u x z r b e h =
-    let (fixed, news) = begun-fixed x z r b in
+    let (fixed, unpropagated) = begun-fixed x z r b in
     subst (λ (m : Tables). DetachesInTime m (view z)) (sym e)
-    (⊎_elim (λ n. ⊎_elim (λ same. inl (subst (AreOverAssumed t) (sym same) n)) inr fixed) (λ k. inr (news k)) h)
+    (⊎_elim (λ n. ⊎_elim (λ same. inl (subst (AreOverAssumed t) (sym same) n)) inr fixed) (λ k. inr (unpropagated k)) h)
 
 -- and makes its conflict step
 pub leaves-stepped : {A : Type 0} (t u : Tables) (x y : Context A) → u ≡ t → FixesByLearning x y → HasDetached t (view x) →

@@ -13,7 +13,7 @@ use Rattle.varisat_prop.specs.View.{View}
 use Rattle.varisat_vsids.specs.Activities.{Activities}
 use Rattle.varisat_search.specs.Decisions.{IsDecidable}
 use Rattle.varisat_solver.specs.promises.Names.{Mode, Sample, Witness, Naming, name_all, NameNoWitness, IsFirstWitness}
-use Rattle.varisat_solver.specs.promises.Calls.{IsPastLimit, IsCrowded}
+use Rattle.varisat_solver.specs.promises.Calls.{IsPastLimit, HasTooManyVariables}
 use Rattle.varisat_solver.specs.declared.solver.SolverError.{SolverError}
 use Rattle.varisat_solver.specs.declared.solver.SolverError.TheVariants.{WitnessVar, VariableLimit}
 
@@ -55,12 +55,12 @@ CountsAlone t d count =
 pub record CanBeNamed (clause : List Literal) (t : Tables) : Type 0 where
   pub bounded : AreBounded t
   pub in_range : IsPastLimit clause → ⊥
-  pub room : IsCrowded (name_all clause (naming_of t)) → ⊥
+  pub room : HasTooManyVariables (name_all clause (naming_of t)) → ⊥
 
 -- What is found out of the names of a clause or of a list of assumptions before they come into use.
 abbrev pub ChecksNames : Tables → List Literal → Result (Unit {0}) SolverError → Type 0
 ChecksNames t d (Ok _) = CanBeNamed d t × NameNoWitness (naming_of t) d
-ChecksNames t d (Err VariableLimit) = IsPastLimit d ⊎ IsCrowded (name_all d (naming_of t))
+ChecksNames t d (Err VariableLimit) = IsPastLimit d ⊎ HasTooManyVariables (name_all d (naming_of t))
 ChecksNames t d (Err (WitnessVar u)) = CanBeNamed d t × IsFirstWitness (naming_of t) d u
 ChecksNames t d (Err _) = ⊥
 

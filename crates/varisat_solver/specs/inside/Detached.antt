@@ -10,7 +10,7 @@ use Rattle.varisat_prop.specs.Changes.{IsConflicting}
 use Rattle.varisat_prop.specs.Leaving.{leaves}
 use Rattle.varisat_prop.specs.View.{View, kept}
 use Rattle.varisat_search.specs.Forgotten.{IsMentioned}
-use Rattle.varisat_search.specs.RootSimplified.{HasRootNews}
+use Rattle.varisat_search.specs.RootSimplified.{IsRootUnpropagated}
 use Rattle.varisat_names.specs.promises.VarMap.{at}
 use Rattle.varisat_names.specs.promises.VarData.{data_at}
 use Rattle.varisat_names.specs.promises.Variables.{Tables, IsChangedTo, IsDetached}
@@ -33,12 +33,12 @@ unassumed_among t ls = filter (λ l. leads_to_unassumed t (at t.solvers.backward
 
 -- At level 0 no literal is left to be propagated, or a clause is false there.
 abbrev pub IsCalm : View → Type 0
-IsCalm s = (HasRootNews s → ⊥) ⊎ ((s.decisions ≡ []) × ((conflict : Conflict) × IsConflicting s conflict))
+IsCalm s = (IsRootUnpropagated s → ⊥) ⊎ ((s.decisions ≡ []) × ((conflict : Conflict) × IsConflicting s conflict))
 
 -- As a step has begun: none is to leave, and at level 0 all is propagated, or a clause is false there.
 abbrev pub HasDetached : Tables → View → Type 0
 HasDetached t s =
-    (NoneIsToDetach t s × (HasRootNews s → ⊥))
+    (NoneIsToDetach t s × (IsRootUnpropagated s → ⊥))
     ⊎ ((s.decisions ≡ []) × ((conflict : Conflict) × IsConflicting s conflict))
 
 -- For each of so many variables it says whether a literal is over it.
@@ -89,8 +89,8 @@ pub record HasOnlyNeeded (t : Tables) (s : View) : Type 0 where
   pub needed : (v : ℕ) → IsSome (at t.solvers.backward v) → HasUser t v ⊎ IsMentioned (kept s) v
 
 -- Where the search x has literals still to be propagated at level 0, those variables leave that may, or a clause is false.
-abbrev pub DetachesWhereNews : {A : Type 0} → Context A → Tables → View → Type 0
-DetachesWhereNews x t s = x.trail.decisions ≡ [] → x.trail.queue_head ≢ length x.trail.literals →
+abbrev pub DetachesWhereUnpropagated : {A : Type 0} → Context A → Tables → View → Type 0
+DetachesWhereUnpropagated x t s = x.trail.decisions ≡ [] → x.trail.queue_head ≢ length x.trail.literals →
     ((conflict : Conflict) × IsConflicting s conflict) ⊎ HasOnlyNeeded t s
 
 -- What is left of the tables where the solver variables of the literals were dropped: names stay, and so do other solver

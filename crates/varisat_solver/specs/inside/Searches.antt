@@ -24,7 +24,7 @@ use Rattle.varisat_search.specs.StepErrors.{step_faults, HasNoRoom}
 use Rattle.varisat_solver.specs.promises.Calls.{with_verdict}
 use Rattle.varisat_solver.specs.inside.Carried.{named_literals}
 use Rattle.varisat_solver.specs.promises.Detaching.{DetachesInTime}
-use Rattle.varisat_solver.specs.inside.Detached.{DetachesWhereNews, HasDetached, IsCalm}
+use Rattle.varisat_solver.specs.inside.Detached.{DetachesWhereUnpropagated, HasDetached, IsCalm}
 use Rattle.varisat_solver.specs.promises.Journals.{with_entries, LogsMore, BeginsInSteps, EndBy, LogsToProof}
 use Rattle.varisat_solver.specs.promises.StepEntries.{LogsInSteps, SpeakOfAdded, HasStayed}
 use Rattle.varisat_solver.specs.inside.SinceChange.{GoesOnSince, BeginsWithin, GoesOnWithin}
@@ -97,19 +97,20 @@ pub record DetachesFixed {A : Type 0} (p q : TracerState) (x y : Context A) : Ty
   pub logged : LogsSome p.proof q.proof
   pub within : GoesOnWithin x y
   pub count : length y.assignment.current ≡ length x.assignment.current
-  pub left : DetachesWhereNews x q.tables (view y)
+  pub left : DetachesWhereUnpropagated x q.tables (view y)
   -- at level 0 all is propagated, or a clause is false
   pub calm : IsCalm (view y)
-  -- where no variable was to leave but with such news, none is now, unless a clause is false
+  -- if a variable was to leave only while literals of the root level are still to be propagated, none is to leave now, unless a
+  -- clause is false
   pub leaves : DetachesInTime p.tables (view x) → HasDetached q.tables (view y)
   pub represents : (at : Turn) → ComesOnUndecided at 0 p x q y
 
 -- Where the step begins at level 0 with literals still to be propagated, variables leave that may: those that have a value then
 -- and are not assumed, and hidden ones that no kept clause names; unless a clause is false.
-pub record DetachesIfNews {A : Type 0} (q : TracerState) (x y : Context A) : Type 0 where
+pub record DetachesIfUnpropagated {A : Type 0} (q : TracerState) (x y : Context A) : Type 0 where
   pub reduced : Context A
   pub begins : BeginsStep (λ lines. Unit {0}) x reduced
-  pub left : DetachesWhereNews reduced q.tables (view y)
+  pub left : DetachesWhereUnpropagated reduced q.tables (view y)
 
 -- A step has begun, and variables left. The solver keeps what it did, and represents the same states, to which more was logged.
 pub record BeginsSolverStep {A : Type 0} (p q : TracerState) (x y : Context A) : Type 0 where
@@ -119,7 +120,7 @@ pub record BeginsSolverStep {A : Type 0} (p q : TracerState) (x y : Context A) :
   pub within : BeginsWithin x y
   pub state : y.solver_state ≡ x.solver_state
   pub count : length y.assignment.current ≡ length x.assignment.current
-  pub left : DetachesIfNews q x y
+  pub left : DetachesIfUnpropagated q x y
   -- at level 0 all is propagated, or a clause is false
   pub calm : IsCalm (view y)
   pub leaves : DetachesInTime p.tables (view x) → HasDetached q.tables (view y)
@@ -138,7 +139,8 @@ pub record MakesNamedStep {A : Type 0} (p q : TracerState) (x y : Context A) : T
   pub tables : q.tables ≡ p.tables
   -- the assumptions that are left, and the core over solver variables
   pub parts : AssumptionParts
-  -- one without root news, and after which the search goes on, adds what was learned by its only line
+  -- one that begins with no literal of the root level left to be propagated, and after which the search goes on, adds what was
+  -- learned by its only line
   pub steps : (lines : List Line)
       × Steps (search_of (view x)) (search_of (view y))
       (outcome_of (view y) parts.failed_core y.solver_state.sat_state) lines

@@ -11,7 +11,7 @@ use Rattle.varisat_tracer.specs.inside.Tracing.{TracerState, retires_if_deleted}
 use Rattle.varisat_names.specs.declared.variables.data.SamplingMode.{SamplingMode}
 use Rattle.varisat_names.specs.declared.variables.data.SamplingMode.TheVariants as sampling
 use Rattle.varisat_solver.specs.promises.Names.{name_one}
-use Rattle.varisat_solver.specs.promises.Calls.{IsCrowded}
+use Rattle.varisat_solver.specs.promises.Calls.{HasTooManyVariables}
 use Rattle.varisat_solver.specs.inside.Accepting.{AreBounded, naming_of}
 use Rattle.varisat_solver.specs.declared.solver.SolverError.{SolverError}
 use Rattle.varisat_solver.specs.declared.solver.SolverError.TheVariants.{VariableLimit, AssumedVar}
@@ -28,13 +28,13 @@ IsMarkedName t u = (x : ℕ) × (at t.users.forward u ≡ Some x) × IsMarkedAss
 pub record CanBeChanged (u : ℕ) (t : Tables) : Type 0 where
   pub bounded : AreBounded t
   pub in_range : u < variable_limit
-  pub room : IsCrowded (name_one u (naming_of t)) → ⊥
+  pub room : HasTooManyVariables (name_one u (naming_of t)) → ⊥
   pub unassumed : IsMarkedName t u → ⊥
 
 -- What is found out of a name before its variable is changed.
 abbrev pub ChecksChange : Tables → ℕ → Result (Unit {0}) SolverError → Type 0
 ChecksChange t u (Ok _) = CanBeChanged u t
-ChecksChange t u (Err VariableLimit) = (variable_limit ≤ u) ⊎ IsCrowded (name_one u (naming_of t))
+ChecksChange t u (Err VariableLimit) = (variable_limit ≤ u) ⊎ HasTooManyVariables (name_one u (naming_of t))
 ChecksChange t u (Err (AssumedVar v)) = (u < variable_limit) × (v ≡ u) × IsMarkedName t u
 ChecksChange t u (Err _) = ⊥
 

@@ -86,8 +86,8 @@ pub record MayConstrain (m : Naming) (d : List Literal) : Type 0 where
   pub sampled : NameNoWitness m d
 
 -- more identities than there may be variables
-abbrev pub IsCrowded : Naming → Type 0
-IsCrowded m = variable_limit < m.made
+abbrev pub HasTooManyVariables : Naming → Type 0
+HasTooManyVariables m = variable_limit < m.made
 
 -- the same with other names in use
 abbrev pub with_naming : {V : Type 0} → Naming → Known V → Known V
@@ -125,7 +125,7 @@ assume list w s =
 abbrev pub RefusesNames : {V : Type 0} → Type 0 → Known V → List Literal → SolverError → Known V → Type 0
 RefusesNames unbarred s d Invalid t = IsRefusedInvalid s t
 RefusesNames unbarred s d VariableLimit t =
-    IsValid s × unbarred × (IsPastLimit d ⊎ IsCrowded (name_all d s.naming)) × (t ≡ s)
+    IsValid s × unbarred × (IsPastLimit d ⊎ HasTooManyVariables (name_all d s.naming)) × (t ≡ s)
 RefusesNames unbarred s d (WitnessVar u) t =
     IsValid s × unbarred × (IsPastLimit d → ⊥) × IsFirstWitness s.naming d u × (t ≡ s)
 RefusesNames unbarred s d OutOfMemory t = unbarred × MayConstrain s.naming d × Invalidates 0 s t
@@ -199,7 +199,7 @@ MakesVar s (Ok u) t =
     IsValid s × IsLeastFree s.naming u × (u < variable_limit) × IsLike (start (with_naming (name_one u s.naming) s)) t
 MakesVar s (Err Invalid) t = IsRefusedInvalid s t
 MakesVar s (Err VariableLimit) t =
-    IsValid s × ((u : ℕ) × IsLeastFree s.naming u × ((variable_limit ≤ u) ⊎ IsCrowded (name_one u s.naming))) × (t ≡ s)
+    IsValid s × ((u : ℕ) × IsLeastFree s.naming u × ((variable_limit ≤ u) ⊎ HasTooManyVariables (name_one u s.naming))) × (t ≡ s)
 MakesVar s (Err OutOfMemory) t = ((u : ℕ) × IsLeastFree s.naming u × (u < variable_limit)) × Invalidates 0 s t
 MakesVar s (Err _) t = ⊥
 

@@ -4,7 +4,7 @@ use Rattle.std.specs.Prelude.{◌≡◌, ◌≢◌, ◌⊎◌, ℕ, Bool, true, 
 use Rattle.varisat_theory.specs.promises.Membership.{◌∈◌}
 use Rattle.varisat_theory.specs.promises.Literals.{Literal, variable_of}
 use Rattle.varisat_prop.specs.View.{View, kept}
-use Rattle.varisat_search.specs.RootSimplified.{HasRootNews, fixed_literals}
+use Rattle.varisat_search.specs.RootSimplified.{IsRootUnpropagated, fixed_literals}
 use Rattle.varisat_names.specs.promises.VarMap.{at}
 use Rattle.varisat_names.specs.promises.VarData.{data_at}
 use Rattle.varisat_names.specs.promises.Variables.{Tables}
@@ -26,7 +26,7 @@ NoneIsToDetach t s = AreOverAssumed t (fixed_literals s)
 
 -- None is to leave, unless at level 0 literals are still to be propagated, with which the next step lets variables leave.
 abbrev pub DetachesInTime : Tables → View → Type 0
-DetachesInTime t s = NoneIsToDetach t s ⊎ HasRootNews s
+DetachesInTime t s = NoneIsToDetach t s ⊎ IsRootUnpropagated s
 
 -- Variables go on to leave in time in a valid solver, unless the clauses are refuted.
 abbrev pub GoesOnDetaching : Summary → Summary → Type 0

@@ -10,7 +10,7 @@ use Rattle.varisat_names.specs.declared.variables.data.SamplingMode.{SamplingMod
 use Rattle.varisat_names.specs.declared.variables.data.SamplingMode.TheVariants as sampling
 use Rattle.varisat_solver.specs.promises.Names.{Mode, Sample, Witness, Naming, name_one, free_name, set_mode, IsUnnamed, AreShown}
 use Rattle.varisat_solver.specs.promises.States.{Known}
-use Rattle.varisat_solver.specs.promises.Calls.{IsCrowded, IsValid, IsRefusedInvalid, IsLikeButLeft, Invalidates, with_naming, count_anew}
+use Rattle.varisat_solver.specs.promises.Calls.{HasTooManyVariables, IsValid, IsRefusedInvalid, IsLikeButLeft, Invalidates, with_naming, count_anew}
 use Rattle.varisat_solver.specs.declared.solver.SolverError.{SolverError}
 use Rattle.varisat_solver.specs.declared.solver.SolverError.TheVariants.{OutOfMemory, Invalid, VariableLimit, AssumedVar}
 
@@ -49,7 +49,7 @@ ChangesVar may_leave change s u (Ok _) t =
     IsValid s × (u < variable_limit) × (IsAssumed s u → ⊥) × IsLikeButLeft may_leave (change (name_var u s)) t
 ChangesVar may_leave change s u (Err Invalid) t = IsRefusedInvalid s t
 ChangesVar may_leave change s u (Err VariableLimit) t =
-    IsValid s × ((variable_limit ≤ u) ⊎ IsCrowded (name_one u s.naming)) × (t ≡ s)
+    IsValid s × ((variable_limit ≤ u) ⊎ HasTooManyVariables (name_one u s.naming)) × (t ≡ s)
 ChangesVar may_leave change s u (Err (AssumedVar v)) t =
     IsValid s × (u < variable_limit) × (v ≡ u) × IsAssumed s u × (t ≡ s)
 ChangesVar may_leave change s u (Err OutOfMemory) t = (u < variable_limit) × (IsAssumed s u → ⊥) × Invalidates 0 s t

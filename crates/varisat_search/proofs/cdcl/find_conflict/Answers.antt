@@ -7,7 +7,7 @@ use Rattle.varisat_search.specs.Contexts.{view, KeepsSchedule}
 use Rattle.varisat_search.specs.AssumptionParts.{AssumptionParts, TakesOutImplied}
 use Rattle.varisat_search.specs.Frames.{GoesForward}
 use Rattle.varisat_search.proofs.learning.AssumedTruths.{takes-refl, takes-trans}
-use Rattle.varisat_search.specs.RootSimplified.{HasRootNews, FixesNone}
+use Rattle.varisat_search.specs.RootSimplified.{IsRootUnpropagated, FixesNone}
 use Rattle.varisat_search.proofs.stepping.Frames.{schedule-nothing, schedule-through, forward-nothing, forward-through, searches-fails}
 use Rattle.varisat_search.proofs.stepping.FixedLiterals.{fixed-propagated, fixes-through}
 use Rattle.varisat_search.proofs.stepping.PropagatedContext.{propagated-forward, propagated-schedule}
@@ -28,7 +28,7 @@ grown : (g : Over) (c : In_ok-propagated g) → GrowsTrail (view c.args.ctx.now)
 grown g c = grows-trans (view c.args.ctx.now) (view c.levels.ctx) (view (mid g c)) c.levels.invariant.grows (propagated g c).grows
 
 -- and makes nothing true at level 0 where all of it was propagated
-fixed : (g : Over) (c : In_ok-propagated g) → (HasRootNews (view c.args.ctx.now) → ⊥) → FixesNone (view c.args.ctx.now) (view (mid g c))
+fixed : (g : Over) (c : In_ok-propagated g) → (IsRootUnpropagated (view c.args.ctx.now) → ⊥) → FixesNone (view c.args.ctx.now) (view (mid g c))
 fixed g c calm =
     let (same, quiet) = c.levels.invariant.fixed calm in
     fixes-through (view c.args.ctx.now) (view c.levels.ctx) (view (mid g c)) (same, quiet)

@@ -6,7 +6,7 @@ use Rattle.varisat_steps.specs.Traces.{faults_of}
 use Rattle.std.proofs.Common.{◌≡◌, ◌≢◌, ◌<◌, inl, inr, ⊎_elim, length, ap, ◌∙◌, sym, subst, refl, arith}
 use Rattle.std.proofs.Math.Arith.{lt_of_le-ne}
 use Rattle.varisat_prop.specs.Changes.{IsConflicting}
-use Rattle.varisat_search.specs.RootSimplified.{HasRootNews}
+use Rattle.varisat_search.specs.RootSimplified.{IsRootUnpropagated}
 use Rattle.varisat_search.proofs.stepping.FixedLiterals.{fixed-undecided}
 use Rattle.varisat_solver.specs.promises.Detaching.{AreOverAssumed}
 use Rattle.varisat_solver.proofs.steps.SinceSteps.{failed-there, come-settled}
@@ -75,11 +75,11 @@ within g c =
     (ap (λ (z : Context g.row.A.Denot). z.solver_config) c.simplify_root.ensures.frame)
 
 -- nothing was to be done
-pub returns-then-not-has_root_news-clause-detached : goal.returns-then-not-has_root_news-clause-detached
-returns-then-not-has_root_news-clause-detached g c =
+pub returns-then-not-is_root_unpropagated-clause-detached : goal.returns-then-not-is_root_unpropagated-clause-detached
+returns-then-not-is_root_unpropagated-clause-detached g c =
     let p = c.args.tracer.now in
     let x = c.args.ctx.now in
-    let quiet : HasRootNews (view x) → ⊥ = λ u. let b = c.has_root_news.ensures.1 u in let n = c.if-not-has_root_news.true in absurd cc in
+    let quiet : IsRootUnpropagated (view x) → ⊥ = λ u. let b = c.is_root_unpropagated.ensures.1 u in let n = c.if-not-is_root_unpropagated.true in absurd cc in
     record {
       kept = c.requires.valid;
       logs = c.requires.logs;
@@ -129,7 +129,7 @@ returns-clause-detached g c =
     let first = (c.in_ok-detach_listed.ensures {u = tt}).leave in
     let e = c.in_ok-detach_unneeded.ensures {u = tt} in
     let d = e.settled in
-    let quiet : HasRootNews (view z) → ⊥ = λ n. let head = d.propagated in let low = n.1 in omega (arith, head, low) in
+    let quiet : IsRootUnpropagated (view z) → ⊥ = λ n. let head = d.propagated in let low = n.1 in omega (arith, head, low) in
     let (given, logged) = some-through p.proof q.proof last.proof (settled-logged g here)
     (left-logged g (goal.at.returns-clause-detached g c).In_ok-detach_unneeded) in
     record {

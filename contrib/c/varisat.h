@@ -182,7 +182,8 @@ int varisat_write_proof_fd(varisat *solver, enum varisat_format format, int fd);
 /* Ends the proof. VARISAT_NOTHING where none is open. */
 int varisat_close_proof(varisat *solver);
 
-/* Has a checker run inside, from before anything is accepted: a step that it finds wrong leaves the solver invalid. */
+/* Has a checker run inside, from before anything is accepted. It finds no step wrong: this is proved. If memory runs out in it, the
+ * solver is invalid. */
 int varisat_self_check(varisat *solver);
 
 /* Checks a proof against a DIMACS CNF text: VARISAT_UNSATISFIABLE where it refutes the text's clauses, VARISAT_UNKNOWN where all its

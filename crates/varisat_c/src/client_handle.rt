@@ -8,7 +8,7 @@ use std::marker::Model;
 use std::mem::replace;
 use varisat_client::client::Client;
 
-/// One word: null where it is empty.
+/// One word: the address of what it holds, if it holds anything.
 #[repr(C)]
 pub struct ClientHandle {
     at: *mut u8,

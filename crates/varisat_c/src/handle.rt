@@ -8,7 +8,7 @@ use std::marker::Model;
 use std::mem::replace;
 use varisat_calls::caller::Caller;
 
-/// One word: null where it is empty.
+/// One word: the address of what it holds, if it holds anything.
 #[repr(C)]
 pub struct Handle {
     at: *mut u8,

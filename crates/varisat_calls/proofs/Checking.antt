@@ -1,5 +1,5 @@
 -- Texts that are taken or not, and what a check of a proof against their clauses returns.
-use Rattle.std.proofs.Common.{◌≡◌, ℕ, ◌++◌, List, [], Option, Some, None, Result, Ok, Err, IfErr, true, false, inl, inr, ◌⊎◌, ⊎_elim, refl, sym, ap, subst, ◌∙◌, append_assoc}
+use Rattle.std.proofs.Common.{◌≡◌, ◌≢◌, ℕ, ◌++◌, List, [], Option, Some, None, Result, Ok, Err, IfErr, true, false, inl, inr, ◌⊎◌, ⊎_elim, refl, sym, ap, subst, ◌∙◌, append_assoc}
 use Rattle.std.specs.Io.KnownBytes.{Consumes}
 use Rattle.varisat_theory.specs.promises.Literals.{Clause, IsSatisfiable}
 use Rattle.varisat_formula.specs.declared.dimacs.error.DimacsError.{DimacsError}
@@ -21,7 +21,8 @@ use Rattle.varisat_proof.specs.promises.DratChecks.{IsDratResult}
 use Rattle.varisat_proof.specs.promises.Verified.{AreGiven, IsMarkedCheck}
 use Rattle.varisat_proof.proofs.VerifiedTexts.{given_satisfied}
 use Rattle.varisat_calls.specs.Checks as checks
-use Rattle.varisat_calls.specs.Checks.{new_checker, ReturnsResult, ReturnsDrat, ReturnsMarked, ReturnsProof, ReturnsCheck, FailsText, HasFault, BreaksOff}
+use Rattle.varisat_calls.specs.Checks.{new_checker, ReturnsResult, ReturnsDrat, ReturnsMarked, ReturnsProof, ReturnsCheck, FailsText, HasFault}
+use Rattle.varisat_calls.proofs.Fronts.{fault-of-front}
 
 -- a marked proof from no clause refutes the clauses that it was given, and so those among which these are
 pub marked-refutes : {A : Type 0} (P given : List Clause) (report : MarkedReport A) → P ≡ [] → IsTrueReport P report →
@@ -41,44 +42,46 @@ front-read (Some rest) bytes front c = (rest, c)
 front-of : (s t : Input) (bytes front : List ℕ) → s.left ≡ Some bytes → Reads s front t → (rest : List ℕ) × (bytes ≡ front ++ rest)
 front-of s t bytes front is reads = front-read t.left bytes front (subst (λ o. Consumes o t.left front) is reads.consumed)
 
--- the fault that a text gives, over a source of known bytes
+-- the fault that a text gives, over a source of known bytes that did not fail
 fault-given : (text : List ℕ) (s t : Input) (reading : Reading) (cause : DimacsError) → s.left ≡ Some text →
-    ((front : List ℕ) → Reads s front t → HasEnded t → front ≡ text) → reading.fault ≡ Some cause → GivesReading s reading t →
-    FailsText text (Dimacs cause)
-fault-given text s t reading cause is known f (Whole whole reads ended quiet given) =
+    ((front : List ℕ) → Reads s front t → HasEnded t → front ≡ text) → t.faults ≡ s.faults → cause.kind ≢ kind.OutOfMemory →
+    reading.fault ≡ Some cause → GivesReading s reading t → FailsText text (Dimacs cause)
+fault-given text s t reading cause is known still room f (Whole whole reads ended quiet given) =
     HasFault cause (ap (λ x. (dimacs x).fault) (sym (known whole reads ended)) ∙ (ap (λ x. x.fault) (sym given) ∙ f)) refl
-fault-given text s t reading cause is known f (FaultInText front reads quiet given some) =
+fault-given text s t reading cause is known still room f (FaultInText front reads quiet given some) =
     let (rest, e) = front-of s t text front is reads in
     HasFault cause (ap (λ x. (dimacs x).fault) e ∙ (ap (λ x. x.fault) (given rest) ∙ f)) refl
-fault-given text s t reading cause is known f (TextFailed front reads risen given) =
-    let (rest, e) = front-of s t text front is reads in
-    BreaksOff kind.Io front rest cause (inl refl) e (ap (λ x. x.fault) (sym given) ∙ f) refl
-fault-given text s t reading cause is known f (ReaderRanOut front more reads out quiet given) =
+fault-given text s t reading cause is known still room f (TextFailed front reads risen given) = absurd (omega (arith, still, risen))
+fault-given text s t reading cause is known still room f (ReaderRanOut front more reads out quiet given) =
     let (rest, e) = front-of s t text (front ++ more) is reads in
-    BreaksOff kind.OutOfMemory front (more ++ rest) cause (inr refl) (e ∙ append_assoc front more rest)
-    (ap (λ x. x.fault) (sym given) ∙ f) refl
+    HasFault cause
+    (ap (λ x. (dimacs x).fault) (e ∙ append_assoc front more rest)
+    ∙ fault-of-front kind.OutOfMemory front (more ++ rest) cause (ap (λ x. x.fault) (sym given) ∙ f) room)
+    refl
 
 -- a new checker does not take a text
 text-fails : (text : List ℕ) (s t : Input) (old new : CheckerState) (e : CheckerError) → s.left ≡ Some text →
-    ((front : List ℕ) → Reads s front t → HasEnded t → front ≡ text) → old.spent ≡ false →
+    ((front : List ℕ) → Reads s front t → HasEnded t → front ≡ text) → t.faults ≡ s.faults → old.spent ≡ false →
     AddsText (at_input old s) (Err e) (at_input new t) → FailsText text e
-text-fails text s t old new e is known usable (ClauseRanOut front reads same refused) = checks.RanOut (let y : e ≡ OutOfMemory = cc in y)
-text-fails text s t old new (Dimacs cause) is known usable (Added reading gives adds) = fault-given text s t reading cause is known adds.0 gives
-text-fails text s t old new OutOfMemory is known usable (Added reading gives adds) = checks.RanOut refl
-text-fails text s t old new (CheckFailed n) is known usable (Added reading gives adds) = absurd adds
-text-fails text s t old new (NoSuchClause n) is known usable (Added reading gives adds) = absurd adds
-text-fails text s t old new (CoreNotAssumed n) is known usable (Added reading gives adds) = absurd adds
-text-fails text s t old new (Parse n) is known usable (Added reading gives adds) = absurd adds
-text-fails text s t old new (Io x) is known usable (Added reading gives adds) = absurd adds
-text-fails text s t old new Spent is known usable (Added reading gives adds) = absurd adds
-text-fails text s t old new e is known usable (Unread same refused stays) = absurd (let y : true ≡ false = sym refused.0 ∙ usable in cc)
+text-fails text s t old new e is known still usable (ClauseRanOut front reads same refused) = checks.RanOut (let y : e ≡ OutOfMemory = cc in y)
+text-fails text s t old new (Dimacs cause) is known still usable (Added reading gives adds) =
+    fault-given text s t reading cause is known still adds.1 adds.0 gives
+text-fails text s t old new OutOfMemory is known still usable (Added reading gives adds) = checks.RanOut refl
+text-fails text s t old new (CheckFailed n) is known still usable (Added reading gives adds) = absurd adds
+text-fails text s t old new (NoSuchClause n) is known still usable (Added reading gives adds) = absurd adds
+text-fails text s t old new (CoreNotAssumed n) is known still usable (Added reading gives adds) = absurd adds
+text-fails text s t old new (Parse n) is known still usable (Added reading gives adds) = absurd adds
+text-fails text s t old new (Io x) is known still usable (Added reading gives adds) = absurd adds
+text-fails text s t old new Spent is known still usable (Added reading gives adds) = absurd adds
+text-fails text s t old new e is known still usable (Unread same refused stays) =
+    absurd (let y : true ≡ false = sym refused.0 ∙ usable in cc)
 
 -- so it is of any answer
 pub unless-taken : (text : List ℕ) (s t : Input) (old new : CheckerState) (r : Result (Unit {0}) CheckerError) → s.left ≡ Some text →
-    ((front : List ℕ) → Reads s front t → HasEnded t → front ≡ text) → old.spent ≡ false →
+    ((front : List ℕ) → Reads s front t → HasEnded t → front ≡ text) → t.faults ≡ s.faults → old.spent ≡ false →
     AddsText (at_input old s) r (at_input new t) → IfErr r (FailsText text)
-unless-taken text s t old new (Ok u) is known usable adds = tt
-unless-taken text s t old new (Err e) is known usable adds = text-fails text s t old new e is known usable adds
+unless-taken text s t old new (Ok u) is known still usable adds = tt
+unless-taken text s t old new (Err e) is known still usable adds = text-fails text s t old new e is known still usable adds
 
 -- 2. Proofs.
 

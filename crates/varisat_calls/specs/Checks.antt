@@ -1,10 +1,8 @@
 -- What the check of a proof in memory against a text in memory returns: a number, and a place.
-use Rattle.std.specs.Prelude.{◌≡◌, ◌⊎◌, ℕ, false, List, [], ◌++◌, Option, Some, None, IsSome, Result, Ok, Err}
+use Rattle.std.specs.Prelude.{◌≡◌, ℕ, false, List, [], Option, Some, None, IsSome, Result, Ok, Err}
 use Rattle.varisat_theory.specs.promises.Literals.{Clause}
 use Rattle.varisat_formula.specs.declared.dimacs.error.DimacsError.{DimacsError}
-use Rattle.varisat_formula.specs.declared.dimacs.error.DimacsErrorKind.{DimacsErrorKind}
-use Rattle.varisat_formula.specs.declared.dimacs.error.DimacsErrorKind.TheVariants as kind
-use Rattle.varisat_formula.specs.promises.Dimacs.{dimacs, broken}
+use Rattle.varisat_formula.specs.promises.Dimacs.{dimacs}
 use Rattle.varisat_lines.specs.declared.format.ProofFormat.{ProofFormat}
 use Rattle.varisat_lines.specs.declared.format.ProofFormat.TheVariants.{Drat, BinaryDrat, Marked}
 use Rattle.varisat_proof.specs.declared.checker.error.CheckVerdict.{CheckVerdict}
@@ -74,13 +72,9 @@ ReturnsProof Drat P proof number place = ReturnsDrat Drat P proof number place
 ReturnsProof BinaryDrat P proof number place = ReturnsDrat BinaryDrat P proof number place
 ReturnsProof Marked P proof number place = ReturnsMarked P proof number place
 
--- Why a text is not taken: it has a fault; or its front has one where it breaks off, as its source fails or memory runs
--- out; or memory ran out for a clause.
+-- why a text is not taken: it has a fault, or memory ran out
 pub data FailsText (text : List ℕ) (e : CheckerError) : Type 0 where
   HasFault : (cause : DimacsError) → (dimacs text).fault ≡ Some cause → e ≡ Dimacs cause → FailsText text e
-  BreaksOff : (why : DimacsErrorKind) (front rest : List ℕ) (cause : DimacsError) →
-      (why ≡ kind.Io) ⊎ (why ≡ kind.OutOfMemory) → text ≡ front ++ rest → (broken why front).fault ≡ Some cause →
-      e ≡ Dimacs cause → FailsText text e
   RanOut : e ≡ OutOfMemory → FailsText text e
 
 -- What is returned: 14 where there is no such format; or why the text is not taken; or what the proof comes to from its

@@ -41,13 +41,13 @@ abbrev pub given_of : Option (List Clause) → Formula → ℕ → List Clause �
 given_of None f n cs = f
 given_of (Some stack) f n cs = record { var_count = n; clauses = cs }
 
--- the clauses Q are those of P, or have fewer literals
+-- the clauses Q are those of P, or have at least one of 20 literals fewer, rounded down
 abbrev pub AreNoLonger : List Clause → List Clause → Type 0
 AreNoLonger Q P = SameClauses Q P ⊎ IsShorter Q P
 
 -- What was made of the formula while these variables were frozen: what satisfies it satisfies what is left, and values
 -- that satisfy what is left are extended to ones that satisfy it, where no frozen variable has another value, nor one
--- of the clauses that are left. Its clauses are the same, or have fewer literals.
+-- of the clauses that are left. Its clauses are the same, or at least one of 20 literals fewer is left, rounded down.
 pub record SimplifiesFormula (g : Formula) (frozen : List Bool) (m : SimplifiedFormula) : Type 0 where
   pub made : (lines : List Line) × IsMadeOf g m.left m.stack lines
   pub keeps : KeepsFrozen frozen m.stack

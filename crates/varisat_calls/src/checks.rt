@@ -67,7 +67,8 @@ fn returned_verdict(verdict: CheckVerdict) -> Returned
     Returned { number, place: 0 }
 }
 
-/// Adds the clauses of the text to a new checker.
+/// Adds the clauses of the text to a new checker. Its source is over bytes in memory and fails at no call; if it did,
+/// that would not be called a fault of the text.
 fn add_text<A: Allocator + Copy>(checker: &mut Checker<A>, text: &[u8]) -> Result<(), CheckerError>
     requires new { checker.old ≡ new_checker }
     ensures clauses { OnOk result (checker.new ≡ record new_checker { clauses = (dimacs text.now).clauses }) }
@@ -75,7 +76,12 @@ fn add_text<A: Allocator + Copy>(checker: &mut Checker<A>, text: &[u8]) -> Resul
     ensures fails { IfErr result (FailsText text.now) }
 {
     known_bytes_are_read();
-    checker.add_dimacs_cnf(&mut CutSource::new(text))
+    let mut source = CutSource::new(text);
+    let added = checker.add_dimacs_cnf(&mut source);
+    if source.faults() != 0 {
+        return Err(CheckerError::OutOfMemory);
+    }
+    added
 }
 
 /// Checks a marked proof by a new checker. The clauses that it was given have to be among those of the other one.

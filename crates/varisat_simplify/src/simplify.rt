@@ -275,7 +275,7 @@ fn live_literals<A: Allocator + Copy>(db: &Database<A>) -> usize
     sum
 }
 
-/// Whether the live clauses have at most 19 of 20 of the literals that the clauses at the first places have.
+/// Whether the live clauses have at least one of 20 literals fewer, rounded down, than the clauses at the first places.
 fn is_shorter<A: Allocator + Copy>(db: &Database<A>, count: usize) -> bool
     requires { count ≤ length db.now.clauses }
     ensures { IsTrue result → IsShorter (live_clauses db.now) (take count db.now.clauses) }
@@ -342,8 +342,8 @@ fn finish<A: Allocator + Copy>(
 /// Makes a formula that has a model just where the given one has, and whose models are extended to ones of it. It
 /// counts the variables up to the highest that the given one names. Variables that are flagged in `frozen` are not
 /// resolved away, and no extension changes their values, those of variables that are left, or those of variables that
-/// the given one does not name. A formula stays of which more than 19 of 20 of the literals would be left. The given
-/// one's memory is given back early. The only error is out of memory.
+/// the given one does not name. The clauses stay unless at least one of 20 of their literals, rounded down, would be
+/// saved. The given one's memory is given back early. The only error is out of memory.
 pub fn simplify<A: Allocator + Copy>(
     alloc: A,
     formula: CnfFormula<A>,

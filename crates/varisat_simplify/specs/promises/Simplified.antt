@@ -19,7 +19,7 @@ abbrev pub literal_count : List Clause → ℕ
 literal_count [] = 0
 literal_count (c ∷ cs) = length c + literal_count cs
 
--- the clauses Q have at most 19 of 20 of the literals of P
+-- The clauses Q have at least one of 20 of the literals of P fewer, rounded down: for P of fewer than 20 literals Q may have as many.
 abbrev pub IsShorter : List Clause → List Clause → Type 0
 IsShorter Q P = literal_count Q ≤ literal_count P - literal_count P / 20
 

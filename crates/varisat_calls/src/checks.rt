@@ -9,8 +9,8 @@ ghost use Rattle.varisat_calls.specs.Checks.{new_checker, ReturnsResult, Returns
 
 use crate::codes::{OUT_OF_MEMORY, WRONG, format_of};
 use std::alloc::Allocator;
-use varisat_formula::io::CutSource;
 use varisat_formula::io::source::known_bytes_are_read;
+use varisat_formula::io::{ByteSource, CutSource};
 use varisat_proof::checker::{CheckVerdict, Checker, CheckerError, DratCounts};
 use varisat_proof::program::are_given;
 use varisat_proof::proof::ProofFormat;

@@ -1,4 +1,5 @@
 pub mod Making
+pub mod Fronts
 pub mod Checking
 pub mod Reading
 pub mod Adding

@@ -50,7 +50,7 @@ behind-text n place r (b ∷ bs) =
     (k, end, t, advances_more (standing n place r) (standing m at s) (standing k end t) (b ∷ []) bs first rest)
 
 -- the kind of a fault, if there is one
-kind-in : DimacsErrorKind → Option DimacsError → DimacsErrorKind
+abbrev kind-in : DimacsErrorKind → Option DimacsError → DimacsErrorKind
 kind-in k None = k
 kind-in k (Some e) = e.kind
 

@@ -1,5 +1,5 @@
 -- Texts that are taken or not, and what a check of a proof against their clauses returns.
-use Rattle.std.proofs.Common.{◌≡◌, ◌≢◌, ℕ, ◌++◌, List, [], Option, Some, None, Result, Ok, Err, IfErr, true, false, inl, inr, ◌⊎◌, ⊎_elim, refl, sym, ap, subst, ◌∙◌, append_assoc}
+use Rattle.std.proofs.Common.{◌≡◌, ◌≢◌, ℕ, ◌++◌, List, [], Option, Some, None, Result, Ok, Err, IfErr, true, false, ◌⊎◌, ⊎_elim, refl, sym, ap, subst, ◌∙◌, append_assoc, arith}
 use Rattle.std.specs.Io.KnownBytes.{Consumes}
 use Rattle.varisat_theory.specs.promises.Literals.{Clause, IsSatisfiable}
 use Rattle.varisat_formula.specs.declared.dimacs.error.DimacsError.{DimacsError}

@@ -391,7 +391,7 @@ class Solver:
 
     @_alone
     def is_valid(self) -> bool:
-        """Whether the solver can go on. After a MemoryError, or what self_check finds wrong, it may not: then all changes are refused."""
+        """Whether the solver can go on. After a MemoryError, or if what takes a proof failed, it may not: then all changes are refused."""
         return self._done(_lib.varisat_is_valid(self._solver)) == 1
 
     def nof_vars(self) -> int:

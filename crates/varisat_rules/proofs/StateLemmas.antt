@@ -5,7 +5,7 @@ use Rattle.varisat_theory.specs.promises.Membership.{◌∈◌, ◌⊆◌}
 use Rattle.varisat_theory.specs.promises.Literals.{Literal, Clause, Assignment, opposite, variable_of, value, Satisfies}
 use Rattle.varisat_theory.specs.promises.Propagation.{FalseClause, Propagate, Follows}
 use Rattle.varisat_theory.specs.promises.Derivations.{Add}
-use Rattle.varisat_theory.proofs.clauses.Members.{equal_or_not}
+use Rattle.varisat_theory.proofs.clauses.Members.{equal_or_not, ∈-append_cases}
 use Rattle.varisat_theory.proofs.clauses.Values.{∈-opposites, opposite_twice, not_both}
 use Rattle.varisat_theory.proofs.clauses.Assigned.{same_set_satisfied}
 use Rattle.varisat_formula.specs.promises.Values.{assignment_of}
@@ -176,6 +176,11 @@ push_reduces P s c entails f named r = record {
   spoken = told_add P s.lines c named r.spoken;
   saved = r.saved;
   thawed = r.thawed;
+  entailed = λ a h d m. ⊎_elim
+      (r.entailed a h d)
+      (λ k. ⊎_elim (λ q. satisfies_same a d c q (entails a (r.keeps a h))) (λ z. absurd z) k)
+      (∈-append_cases d s.clauses (c ∷ []) m);
+  implied = r.implied;
 }
 
 -- a live clause goes of which another live one is a part
@@ -193,6 +198,8 @@ remove_reduces P s i j live n part r = record {
   spoken = told_removed P s.lines (get_or s.live i false) (clause_at s i) (named_at P s.clauses i r.named) r.spoken;
   saved = r.saved;
   thawed = r.thawed;
+  entailed = r.entailed;
+  implied = r.implied;
 }
 
 -- The resolvent of two clauses follows from them.

@@ -1,7 +1,7 @@
 -- The clauses of a formula are loaded.
 use Rattle.std.proofs.Common.{◌≡◌, ℕ, ◌+◌, ◌≤◌, Bool, true, false, set, List, [], ◌∷◌, ◌++◌, inl, ⊎_elim, sym, ap, ◌∙◌, subst, refl, length, get_or, append_assoc, append-nil, arith}
 use Rattle.varisat_theory.specs.promises.Held.{SameClauses}
-use Rattle.varisat_theory.proofs.clauses.Held.{same_set-self, same_clauses-self, same_clauses-through}
+use Rattle.varisat_theory.proofs.clauses.Held.{same_clauses_find, same_set-self, same_clauses-self, same_clauses-through}
 use Rattle.varisat_theory.specs.promises.Derivations.{Delete, SpeakOf}
 use Rattle.varisat_rules.specs.promises.Leading.{LeadsTo, IsNamedBy, AreNamedBy}
 use Rattle.varisat_rules.proofs.LeadingLemmas.{leads_self, leads_delete, leads_as, told_removed, named_more}
@@ -176,8 +176,10 @@ loads_end P rest n frozen s e r = record {
     spoken = r.spoken;
     saved = λ c l m. absurd (subst (λ (st : List Clause). c ∈ st) r.empty m);
     thawed = λ c m. absurd (subst (λ (st : List Clause). c ∈ st) r.empty m);
+    entailed = λ a h c m. let (d, i, k) = same_clauses_find s.clauses P same c m in same_set_satisfied a d c k.0 (h d i);
+    implied = λ a h c m. absurd (subst (λ (st : List Clause). c ∈ st) r.empty m);
   };
-  same = subst (λ (l : List Clause). SameClauses l P) (ap (λ (l : List Clause). s.clauses ++ l) e ∙ append-nil s.clauses) r.same;
+  same = same;
   empty = r.empty;
   fewer = let a = r.fewer in omega (arith, a);
   count = r.count;
@@ -186,3 +188,6 @@ loads_end P rest n frozen s e r = record {
   where
     all : r.front ≡ P
     all = sym (append-nil r.front) ∙ ap (λ (x : List Clause). r.front ++ x) (sym e) ∙ r.whole
+
+    same : SameClauses s.clauses P
+    same = subst (λ (l : List Clause). SameClauses l P) (ap (λ (l : List Clause). s.clauses ++ l) e ∙ append-nil s.clauses) r.same

@@ -178,6 +178,7 @@ made f g s t o d c empty later e =
       named = named;
       spoken = r.spoken;
       saved = r.saved;
+      implied = r.implied;
     }
 
 -- a formula of the same clauses
@@ -194,6 +195,7 @@ made_same f g e b k = record {
   named = λ c l m h. let d = same_clauses_find g.clauses f.clauses e c m in (d.0, d.1, d.2.1 l h);
   spoken = tt;
   saved = λ c l m h. absurd m;
+  implied = λ a h c m. absurd m;
 }
 
 -- the first clauses are those that were loaded

@@ -63,6 +63,8 @@ pub record IsMadeOf (f g : Formula) (stack : List Clause) (lines : List Line) : 
       slice_index_or (extended stack vs) v false ≡ slice_index_or vs v false
   -- the variables of the stack are some of f
   pub saved : HasVariablesOf f.clauses stack
+  -- what satisfies f satisfies the clauses of the stack
+  pub implied : (a : Assignment) → SatisfiesAll a f.clauses → SatisfiesAll a stack
 
 -- Behind the lines each derivation from the clauses of g is one from those of f.
 abbrev pub DerivesBehind : Type 0

@@ -53,4 +53,4 @@ pub made_of_copy : (f copy g : Formula) (stack : List Clause) (lines : List Line
 made_of_copy f copy g stack lines e m =
     let over : List Clause → Formula = λ cs. record { var_count = f.var_count; clauses = cs } in
     subst (λ (cs : List Clause). IsMadeOf (over cs) g stack lines) e
-    (record { below = m.below; least = m.least; keeps = m.keeps; extends = m.extends; leads = m.leads; named = m.named; spoken = m.spoken; kept = m.kept; saved = m.saved; implied = m.implied })
+    (record { below = m.below; least = m.least; keeps = m.keeps; extends = m.extends; leads = m.leads; named = m.named; spoken = m.spoken; kept = m.kept; saved = m.saved })

@@ -1,5 +1,6 @@
 -- Clauses are taken, eliminated and restored.
 use Rattle.std.proofs.Common.{◌≡◌, ℕ, ◌+◌, ◌/◌, ◌<◌, ◌≤◌, Bool, true, false, List, [], ◌∷◌, ◌++◌, ◌⊎◌, inl, inr, ⊎_elim, sym, ap, ◌∙◌, refl, subst, length, take, take_all, get_or, append-nil, append_assoc, arith}
+use Rattle.std.specs.Prelude.{Result, Ok, IfOk}
 use Rattle.varisat_theory.specs.promises.Membership.{◌∈◌, ◌⊆◌}
 use Rattle.varisat_theory.specs.promises.Literals.{Literal, Clause, Assignment, variable_of, Satisfies, SatisfiesAll}
 use Rattle.varisat_theory.specs.promises.Derivations.{Line}
@@ -139,6 +140,10 @@ restores-then S K L B R T f g h d e = record {
 
 -- 3. What is reduced.
 
+-- what a clause says where the call returned a value
+pub at-ok : {X E : Type 0} → (r : Result X E) (x : X) (f : X → Type 0) → r ≡ Ok x → IfOk r f → f x
+at-ok r x f e h = subst (λ y. IfOk y f) e h
+
 below-all : (n : ℕ) (c : Clause) → ((l : Literal) → l ∈ c → variable_of l < n) → AllBelow n c
 below-all n [] h = tt
 below-all n (l ∷ c) h = (h l (inl refl), below-all n c (λ m i. h m (inr i)))
@@ -147,10 +152,11 @@ pub have-below : (vs : List Bool) (F : List Clause) → HaveValues F vs → AreB
 have-below vs [] h = tt
 have-below vs (c ∷ F) h = (below-all (length vs) c (λ l i. h c l (inl refl) i), have-below vs F (λ d l i j. h d l (inr i) j))
 
-pub reduced-made : (f g : Formula) (S : List Clause) (lines : List Line) → IsMadeOf f g S lines → IsReduced f.clauses g.clauses S
-reduced-made f g S lines m = record {
+pub reduced-made : (f g : Formula) (S : List Clause) (lines : List Line) → IsMadeOf f g S lines → ((a : Assignment) → SatisfiesAll a f.clauses → SatisfiesAll a S) →
+    IsReduced f.clauses g.clauses S
+reduced-made f g S lines m implied = record {
   keeps = m.keeps;
-  implied = m.implied;
+  implied = implied;
   extends = λ vs h s. m.extends vs (have-below vs f.clauses h) s;
   named = λ c l i j. (l, m.named c l i j, refl);
   saved = m.saved;
@@ -282,9 +288,10 @@ brings-some F R A r m s t E same more held apart fewer clear d led wider all es 
     left : AreAmong t.eliminated m.eliminated
     left v i = d.some.fewer v (subst (λ (f : List Bool). IsFlagged f v) ee i)
 
-pub reduces-made : (f g : Formula) (S : List Clause) (lines : List Line) (z : List Bool) (r s : Reconstruction) → IsMadeOf f g S lines → KeepsFrozen z S → z ≡ r.frozen →
+pub reduces-made : (f g : Formula) (S : List Clause) (lines : List Line) (z : List Bool) (r s : Reconstruction) → IsMadeOf f g S lines →
+    ((a : Assignment) → SatisfiesAll a f.clauses → SatisfiesAll a S) → KeepsFrozen z S → z ≡ r.frozen →
     Saves S r s → Reduces f.clauses g.clauses r s
-reduces-made f g S lines z r s m k e d = (S, reduced-made f g S lines m, subst (λ (x : List Bool). KeepsFrozen x S) e k, d)
+reduces-made f g S lines z r s m implied k e d = (S, reduced-made f g S lines m implied, subst (λ (x : List Bool). KeepsFrozen x S) e k, d)
 
 pub reduces-same : (F : List Clause) (r : Reconstruction) → Reduces F F r r
 reduces-same F r = ([], reduced-same F, (λ vs v f. refl), saves-none r)

@@ -64,8 +64,51 @@ pub fn set_all_flags<A: Allocator + Copy>(
     Ok(())
 }
 
+/// Flags the literal's variable if it is flagged in `hinted`.
+fn set_if_hinted<A: Allocator + Copy>(
+    flags: &mut Vec<bool, A>,
+    hinted: &[bool],
+    lit: Lit,
+) -> Result<(), AllocError>
+    ensures { OnOk result (AreAmong flags.old.items flags.new.items) }
+{
+    if !has_flag(hinted, lit) {
+        return Ok(());
+    }
+    set_flag(flags, lit)?;
+    Ok(())
+}
+
+/// Flags those variables of the literals that are flagged in `hinted`.
+fn set_hinted_in<A: Allocator + Copy>(
+    flags: &mut Vec<bool, A>,
+    hinted: &[bool],
+    lits: &[Lit],
+) -> Result<(), AllocError>
+    ensures { OnOk result (AreAmong flags.old.items flags.new.items) }
+{
+    for lit in lits {
+        set_if_hinted(flags, hinted, *lit)?;
+    }
+    Ok(())
+}
+
+/// Flags those variables of the clauses that are flagged in `hinted`.
+pub fn set_hinted_flags<A: Allocator + Copy>(
+    flags: &mut Vec<bool, A>,
+    hinted: &[bool],
+    formula: &CnfFormula<A>,
+) -> Result<(), AllocError>
+    ensures { OnOk result (AreAmong flags.old.items flags.new.items) }
+{
+    for clause in formula.iter() {
+        set_hinted_in(flags, hinted, clause)?;
+    }
+    Ok(())
+}
+
 /// Clears the flag of the literal's variable. Whether it was set.
-fn clear_flag<A: Allocator + Copy>(flags: &mut Vec<bool, A>, lit: Lit) -> bool
+pub fn clear_flag<A: Allocator + Copy>(flags: &mut Vec<bool, A>, lit: Lit) -> bool
     ensures fewer { AreAmong flags.new.items flags.old.items }
     ensures clear { IsFlagged flags.new.items (variable_of lit) → ⊥ }
     ensures same { result ≡ false → flags.new.items ≡ flags.old.items }

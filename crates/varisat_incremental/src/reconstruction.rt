@@ -4,18 +4,28 @@ ghost use Rattle.varisat_rules.specs.promises.Stacks.{extended};
 ghost use Rattle.varisat_incremental.specs.Flags.{AreAmong};
 ghost use Rattle.varisat_incremental.specs.Reconstructions.{no_clauses, IsLedBy, AreLedBy, Takes, Restores, RestoresSome, BringsBack, Reduces, Saves, TakesRest};
 
-use crate::flags::{clear_all_flags, clear_flags, has_flag, set_all_flags, set_flag, set_flags};
+use crate::flags::{
+    clear_all_flags, clear_flag, clear_flags, has_flag, set_all_flags, set_flag, set_flags,
+    set_hinted_flags,
+};
 use std::alloc::{AllocError, Allocator};
 use std::marker::Model;
 use varisat_database::database::literals_in;
 use varisat_formula::formula::cnf::{CnfFormula, FormulaError};
 use varisat_literals::Lit;
 use varisat_simplify::clauses::ClauseList;
-use varisat_simplify::simplify::simplify;
+use varisat_simplify::simplify::{Limits, simplify_with};
 use varisat_simplify::stack::extend;
 
-/// Fewer literals than these are not simplified.
+/// A batch of fewer literals is not simplified, unless another count is set.
 const LEAST_LITERALS: usize = 1000;
+
+/// A batch is simplified if its literals are at least this share of those that are there: a simplification goes through
+/// the flags of all variables, so that all simplifications together are linear in the literals that were ever taken.
+const SHARE: usize = 256;
+
+/// How often all literals that are there are read to restore variables, before all variables are restored at once.
+const MOST_READS: u64 = 256;
 
 /// The clauses of eliminated variables, by which models are extended, and which variables may not be eliminated.
 #[derive(Drop)]
@@ -25,6 +35,16 @@ pub struct Reconstruction<A: Allocator + Copy> {
     stack: ClauseList<A>,
     eliminated: Vec<bool, A>,
     frozen: Vec<bool, A>,
+    // The variables that are not to be eliminated from the next batches. It is only a hint.
+    hinted: Vec<bool, A>,
+    // How many literals a batch has at least that is simplified.
+    least: usize,
+    // How many literals the clauses have that were returned.
+    given: usize,
+    // How many literals of the stack were read to restore variables.
+    read: u64,
+    // How many variables were eliminated.
+    eliminations: u64,
 }
 
 impl<A: Allocator + Copy> Model for Reconstruction<A> {
@@ -49,7 +69,7 @@ fn is_led_by(flags: &[bool], clause: &[Lit]) -> bool
     }
 }
 
-/// Whether that is so of all clauses.
+/// Whether the first literal of each clause is of a flagged variable.
 fn are_led_by<A: Allocator + Copy>(flags: &[bool], stack: &ClauseList<A>) -> bool
     ensures { IsTrue result → AreLedBy flags.now stack.now }
 {
@@ -61,7 +81,22 @@ fn are_led_by<A: Allocator + Copy>(flags: &[bool], stack: &ClauseList<A>) -> boo
     true
 }
 
-/// Adds the clauses behind the others.
+/// How many variables clauses of the stack begin with. Those of one variable are next to each other.
+fn count_leads<A: Allocator + Copy>(stack: &ClauseList<A>) -> u64 {
+    let mut count: u64 = 0;
+    let mut last = usize::MAX;
+    for place in 0..stack.len() {
+        if let Some(lit) = stack.clause(place).first() {
+            if lit.index() != last {
+                count = count.saturating_add(1);
+            }
+            last = lit.index();
+        }
+    }
+    count
+}
+
+/// Adds the clauses after the others.
 fn append<A: Allocator + Copy>(
     formula: &mut CnfFormula<A>,
     more: &CnfFormula<A>,
@@ -88,8 +123,8 @@ fn flag_first<A: Allocator + Copy>(
     Ok(())
 }
 
-/// Puts behind the restored clauses those of the stack whose first literal is of a variable that is not flagged, or all
-/// where none is to be kept, and takes the flags of their variables. Returns the others.
+/// Adds to the restored clauses those of the stack whose first literal is of a variable that is not flagged, or all if
+/// none is to be kept, and clears the flags of their variables. Returns the others.
 fn restore_from<A: Allocator + Copy>(
     alloc: A,
     stack: &ClauseList<A>,
@@ -125,23 +160,84 @@ impl<A: Allocator + Copy> Reconstruction<A> {
             stack: ClauseList::new_in(alloc),
             eliminated: Vec::new(alloc),
             frozen: Vec::new(alloc),
+            hinted: Vec::new(alloc),
+            least: LEAST_LITERALS,
+            given: 0,
+            read: 0,
+            eliminations: 0,
         }
     }
 
+    /// Sets how many literals a batch has at least that is simplified. The greatest number simplifies none.
+    pub fn simplify_from(&mut self, literals: usize)
+        ensures { self.new ≡ self.old }
+    {
+        self.least = literals;
+    }
+
+    /// Hints that later calls name the literal's variable: it is not eliminated from the next batches. No answer depends
+    /// on it. The hint is dropped if memory runs out.
+    pub fn freeze(&mut self, lit: Lit)
+        ensures { self.new ≡ self.old }
+    {
+        let _ = set_flag(&mut self.hinted, lit);
+    }
+
+    /// Takes the hint back.
+    pub fn melt(&mut self, lit: Lit)
+        ensures { self.new ≡ self.old }
+    {
+        clear_flag(&mut self.hinted, lit);
+    }
+
+    /// How many variables were eliminated so far.
+    pub fn eliminations(&self) -> u64 {
+        self.eliminations
+    }
+
+    /// How many variables were restored so far.
+    pub fn restorations(&self) -> u64 {
+        self.eliminations.saturating_sub(count_leads(&self.stack))
+    }
+
+    /// Whether a batch of so many literals is worth a simplification.
+    fn is_worth(&self, literals: usize) -> bool {
+        let present = self.given.saturating_add(self.stack.literal_count());
+        literals >= self.least && literals >= present / SHARE
+    }
+
+    /// Whether reading the stack for each variable that is restored has come to cost more than restoring all.
+    fn is_worn(&self) -> bool {
+        let present = self.given.saturating_add(self.stack.literal_count()) as u64;
+        self.read > present.saturating_mul(MOST_READS)
+    }
+
+    /// Whether variables that no call names stay eliminated. If not, restoring all costs less from now on.
+    fn keeps_stack(&mut self) -> bool
+        ensures { self.new ≡ self.old }
+    {
+        if self.is_worn() {
+            self.read = 0;
+            return false;
+        }
+        true
+    }
+
     /// Restores each variable that has clauses on the stack and is not flagged as eliminated, and those that are
-    /// eliminated and that these clauses name. Returns the clauses. One pass does, since the clauses stand in the order
-    /// in which their variables were eliminated; where they did not, all would be restored.
-    fn restore(&mut self) -> Result<CnfFormula<A>, FormulaError>
+    /// eliminated and that these clauses name; or all, if none is to be kept. Returns the clauses. One pass does, since
+    /// the clauses are in the order in which their variables were eliminated; if they were not, all would be restored.
+    fn restore(&mut self, keeps: bool) -> Result<CnfFormula<A>, FormulaError>
         ensures restores { IfOk result (λ f. Restores self.old [] self.new f.clauses) }
         ensures led { IfOk result (λ f. AreLedBy self.new.eliminated self.new.stack) }
     {
+        self.read = self.read.saturating_add(self.stack.literal_count() as u64);
         let mut restored = CnfFormula::new_in(self.alloc);
         let kept = restore_from(
             self.alloc,
             &self.stack,
             &mut self.eliminated,
             &mut restored,
-            true,
+            keeps,
         )?;
         self.stack = kept;
         if are_led_by(&self.eliminated, &self.stack) {
@@ -158,22 +254,24 @@ impl<A: Allocator + Copy> Reconstruction<A> {
         Ok(restored)
     }
 
-    /// Restores what the clauses and the literals name. Returns its clauses. The variables of these and the literals
-    /// are not eliminated from now on.
+    /// Restores what the clauses and the literals name, or all variables if none is to be kept. Returns their clauses.
+    /// The variables of these, the literals, and what is hinted of the clauses' variables are not eliminated from now on.
     fn bring_back(
         &mut self,
         formula: &CnfFormula<A>,
         assumed: &[Lit],
+        keeps: bool,
     ) -> Result<CnfFormula<A>, FormulaError>
         ensures { IfOk result (λ f. BringsBack formula.now.clauses assumed.now f.clauses self.old self.new) }
     {
+        set_hinted_flags(&mut self.frozen, &self.hinted, formula)?;
         set_flags(&mut self.frozen, assumed)?;
         let is_assumed = clear_flags(&mut self.eliminated, assumed);
         let is_named = clear_all_flags(&mut self.eliminated, formula);
-        if !is_assumed && !is_named {
+        if keeps && !is_assumed && !is_named {
             return Ok(CnfFormula::new_in(self.alloc));
         }
-        let restored = self.restore()?;
+        let restored = self.restore(keeps)?;
         set_all_flags(&mut self.frozen, &restored)?;
         Ok(restored)
     }
@@ -182,6 +280,8 @@ impl<A: Allocator + Copy> Reconstruction<A> {
     fn save(&mut self, saved: &ClauseList<A>) -> Result<(), AllocError>
         ensures { OnOk result (Saves saved.now self.old self.new) }
     {
+        self.eliminations = self.eliminations.saturating_add(count_leads(saved));
+        self.stack.reserve(saved.len(), saved.literal_count())?;
         for place in 0..saved.len() {
             let clause = saved.clause(place);
             flag_first(&mut self.eliminated, clause)?;
@@ -190,25 +290,37 @@ impl<A: Allocator + Copy> Reconstruction<A> {
         Ok(())
     }
 
-    /// What is left of the clauses once variables are eliminated that are not frozen. Few clauses stay as they are.
+    /// Returns what is left of the clauses once variables are eliminated that are not frozen. Few clauses stay as they
+    /// are.
     fn reduce(&mut self, formula: CnfFormula<A>) -> Result<CnfFormula<A>, FormulaError>
         ensures { IfOk result (λ f. Reduces formula.clauses f.clauses self.old self.new) }
     {
-        if literals_in(&formula) < LEAST_LITERALS {
+        let literals = literals_in(&formula);
+        if !self.is_worth(literals) {
             return Ok(formula);
         }
-        let made = simplify(self.alloc, formula, &self.frozen)?;
+        let limits = Limits::of_batch(literals);
+        let made = simplify_with(self.alloc, formula, &self.frozen, limits, true)?;
+        drop(made.history);
         self.save(&made.stack)?;
         Ok(made.formula)
     }
 
-    /// The same. The variables of what is left are not eliminated from now on.
+    /// Returns what is left of the clauses once variables are eliminated that are not frozen. The variables of what is
+    /// left are not eliminated from now on.
     fn take_rest(&mut self, formula: CnfFormula<A>) -> Result<CnfFormula<A>, FormulaError>
         ensures { IfOk result (λ f. TakesRest formula.clauses f.clauses self.old self.new) }
     {
         let left = self.reduce(formula)?;
         set_all_flags(&mut self.frozen, &left)?;
         Ok(left)
+    }
+
+    /// Counts the literals that the solver is given.
+    fn count_given(&mut self, given: &CnfFormula<A>)
+        ensures { self.new ≡ self.old }
+    {
+        self.given = self.given.saturating_add(literals_in(given));
     }
 
     /// Takes more clauses, and literals that are to be assumed. Returns the clauses that a solver is to be given: those
@@ -220,9 +332,12 @@ impl<A: Allocator + Copy> Reconstruction<A> {
     ) -> Result<CnfFormula<A>, FormulaError>
         ensures { IfOk result (λ f. Takes formula.clauses assumed.now f.clauses self.old self.new) }
     {
-        let mut given = self.bring_back(&formula, assumed)?;
+        let keeps = self.keeps_stack();
+        let mut given = self.bring_back(&formula, assumed, keeps)?;
         let left = self.take_rest(formula)?;
         append(&mut given, &left)?;
+        drop(left);
+        self.count_given(&given);
         Ok(given)
     }
 

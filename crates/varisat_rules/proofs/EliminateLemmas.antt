@@ -13,7 +13,7 @@ use Rattle.varisat_rules.proofs.LeadingLemmas.{leads_removed, told_removed, name
 use Rattle.varisat_formula.proofs.ValueLemmas.{made-true, stays-true}
 use Rattle.varisat_rules.proofs.ExtendLemmas.{thawed_more}
 use Rattle.varisat_database.specs.Databases.{DatabaseState, pushed, removed, saved, clause_at, IsLive}
-use Rattle.varisat_rules.specs.inside.States.{IsThawed, Models, DerivesFrom, IsGone, LeadIsGone, Continues, IsLaterState, SavesLed, ModelsRest, SatisfiesBut, Collects, IsPairResolved, ResolvesPairs, SavesClauses}
+use Rattle.varisat_rules.specs.inside.States.{IsThawed, Occurs, Models, DerivesFrom, IsGone, LeadIsGone, Continues, IsLaterState, SavesLed, ModelsRest, SatisfiesBut, Collects, IsPairResolved, ResolvesPairs, SavesClauses, Drops}
 use Rattle.varisat_rules.proofs.StateLemmas.{continues_self, continues_then, becomes_self, becomes_then, lead_gone, unsaved, gone_removed, clause_stays, pushed_live, pushed_keeps, pushed_new, removed_live, removed_keeps, removed_even, pushed_even, satisfies_same, push_resolvent}
 use Rattle.varisat_rules.proofs.ExtendLemmas.{extended_more, amended_cases, amended_length}
 
@@ -199,8 +199,8 @@ save_reduces P s l e i g small hl part whole others pairs thaw r = record {
       (m, named_at P s.clauses i r.named m (⊎_elim (λ q. subst (λ x. x ∈ clause_at s i) (sym q) hl) (part m) h), refl)) r.saved;
   thawed = thawed_more s.frozen s.stack l e thaw r.thawed;
   entailed = r.entailed;
-  implied = λ a h c m. ⊎_elim
-      (r.implied a h c)
+  implied = λ both a h c m. ⊎_elim
+      (r.implied both a h c)
       (λ k. ⊎_elim
       (λ q. satisfies_same a c (l ∷ e) q
       (same_set_satisfied a (clause_at s i) (l ∷ e) (λ x y. ⊎_elim inl inr (whole x y)) (r.entailed a h (clause_at s i) (clause_in s.clauses i l hl))))
@@ -260,6 +260,7 @@ saves_next s t l w g x e h small thaw part whole r = record {
     more = ([], sym (append-nil t.clauses));
     count = refl;
     frozen = refl;
+    both = refl;
     reduces = λ P q. save_reduces P t l e i g small (r.each i iw) part whole r.others (λ j k. r.pairs i j iw k) thaw q;
     gone = λ v q. gone_removed (saved t (l ∷ e)) i v (record { even = q.even; none = q.none });
   });
@@ -286,15 +287,15 @@ saves_next s t l w g x e h small thaw part whole r = record {
 pub saves_end : (s t : DatabaseState) (l : Literal) (w g : List ℕ) (x : ℕ) → length w ≤ x → SavesClauses s t l w g x → (k : ℕ) → IsLive t k → l ∈ clause_at t k → ⊥
 saves_end s t l w g x h r k live c = let p = r.ones k live c in let a = p.1 in let b = p.2 in omega (arith, a, b, h)
 
--- the clauses with the opposite, once none has the literal
-pub saves_other : (t : DatabaseState) (l m : Literal) (g : List ℕ) → m ≡ opposite l → ((k : ℕ) → IsLive t k → l ∈ clause_at t k → ⊥) → Collects t (opposite l) g →
+-- the clauses with a literal whose opposite is in none are saved without others to be resolved with
+pub saves_alone : (t : DatabaseState) (m : Literal) (g : List ℕ) → ((k : ℕ) → IsLive t k → opposite m ∈ clause_at t k → ⊥) → Collects t m g →
     SavesClauses t t m g [] 0
-saves_other t l m g e pure c = subst (λ x. SavesClauses t t x g [] 0) (sym e) (record {
+saves_alone t m g pure c = record {
   becomes = continues_self t;
   led = λ d h. inl h;
   others = record {
     even = c.even;
-    all = λ k live h. absurd (pure k live (subst (λ x. x ∈ clause_at t k) (opposite_twice l) h));
+    all = λ k live h. absurd (pure k live h);
     live = λ k h. absurd h;
     with = λ k h. absurd h;
     without = λ k h. absurd h;
@@ -303,17 +304,153 @@ saves_other t l m g e pure c = subst (λ x. SavesClauses t t x g [] 0) (sym e) (
   each = c.with;
   apart = c.without;
   pairs = λ i j h k. absurd k;
-})
+}
 
--- the variable is in none then
-pub saved_gone : (t : DatabaseState) (l m : Literal) → m ≡ opposite l → ((k : ℕ) → IsLive t k → m ∈ clause_at t k → ⊥) → Collects t (opposite m) [] →
-    IsGone t (variable_of m)
-saved_gone t l m e pure c = record {
+-- once no live clause has the literal, nor its opposite, its variable is gone
+pub saved_gone : (t : DatabaseState) (m : Literal) → ((k : ℕ) → IsLive t k → m ∈ clause_at t k → ⊥) → Collects t (opposite m) [] → IsGone t (variable_of m)
+saved_gone t m pure c = record {
   even = c.even;
   none = λ k x live h q. ⊎_elim
       (λ s. pure k live (subst (λ y. y ∈ clause_at t k) s h))
       (λ s. c.all k live (subst (λ y. y ∈ clause_at t k) s h))
       (same_or_opposite x m q);
+}
+
+pub drops_first : (s : DatabaseState) (m : Literal) (g : List ℕ) → Drops s (saved s (m ∷ [])) m g 0
+drops_first s m g = record {
+  count = refl;
+  frozen = refl;
+  both = refl;
+  same = refl;
+  stack = refl;
+  even = refl;
+  fewer = λ k h. h;
+  kept = λ k h n. h;
+  dropped = λ k h. absurd (no_first k g h);
+  tells = λ P q. (q.leads, q.spoken);
+}
+
+pub drops_next : (s t : DatabaseState) (m : Literal) (g : List ℕ) (x i : ℕ) → i ≡ get_or g x 0 → m ∈ clause_at s i → Drops s t m g x →
+    Drops s (removed t i) m g (x + 1)
+drops_next s t m g x i e h r = record {
+  count = r.count;
+  frozen = r.frozen;
+  both = r.both;
+  same = r.same;
+  stack = r.stack;
+  even = length-set t.live i false ∙ r.even;
+  fewer = λ k live. r.fewer k (removed_live t i k live).0;
+  kept = λ k live n. removed_keeps t i k (r.kept k live n) (λ q. n (subst (λ x. m ∈ clause_at s x) (sym q) h));
+  dropped = λ k h live. let old = removed_live t i k live in ⊎_elim
+      (λ p. r.dropped k p old.0)
+      (λ q. old.1 (q ∙ sym e))
+      (∈-take_more k g x 0 h);
+  tells = λ P q. (
+    leads_removed P t.lines t.live t.clauses i (r.even ∙ q.even ∙ ap length (sym r.same)) (r.tells P q).0,
+    told_removed P t.lines (get_or t.live i false) (clause_at t i)
+        (λ l a. named_at P s.clauses i q.named l (subst (λ (cs : List Clause). l ∈ get_or cs i []) r.same a)) (r.tells P q).1,
+  );
+}
+  where
+    length-set : {X : Type 0} (xs : List X) (i : ℕ) (x : X) → length (set xs i x) ≡ length xs
+    length-set [] i x = refl
+    length-set (y ∷ xs) zero x = refl
+    length-set (y ∷ xs) (suc i) x = ap suc (length-set xs i x)
+
+-- the variable of a literal that occurs is not new
+occurs_named : (P : List Clause) (s : DatabaseState) (m : Literal) → Occurs s m → DerivesFrom P s → HasVariable P (variable_of m)
+occurs_named P s m (k, inl h) q = (m, named_at P s.clauses k q.named m h, refl)
+occurs_named P s m (k, inr h) q = (opposite m, named_at P s.clauses k q.named (opposite m) h, variable-opposite m)
+
+-- a literal occurs whose variable was resolved away, with some clauses at these places
+pub occurs_resolved : (s t : DatabaseState) (l m : Literal) (w g : List ℕ) → m ≡ opposite l → Collects s l w → Collects t (opposite l) g → Continues s t →
+    (false ≡ (length w == 0)) ⊎ (false ≡ (length g == 0)) → Occurs t m
+occurs_resolved s t l m w (y ∷ g) e c d b n = (y, inl (subst (λ x. x ∈ clause_at t y) (sym e) (d.with y (inl refl))))
+occurs_resolved s t l m (x ∷ w) [] e c d b n = (
+  x,
+  inr (subst (λ y. y ∈ clause_at t x) (sym (ap opposite e ∙ opposite_twice l))
+      (in_same l (clause_at s x) (clause_at t x) (sym (clause_stays s t x c.even (c.live x (inl refl)) b)) (c.with x (inl refl)))),
+)
+occurs_resolved s t l m [] [] e c d b (inl n) = absurd (cc)
+occurs_resolved s t l m [] [] e c d b (inr n) = absurd (cc)
+
+pub drops_end : (s t : DatabaseState) (m : Literal) (g : List ℕ) (x : ℕ) → m / 2 < s.var_count → IsThawed s m → s.saves_both ≡ false → Occurs s m → ((k : ℕ) → IsLive s k → opposite m ∈ clause_at s k → ⊥) →
+    Drops s t m g x → Continues s t
+drops_end s t m g x small thaw one occurs pure r = record {
+  more = ([], r.same ∙ sym (append-nil s.clauses));
+  count = r.count;
+  frozen = r.frozen;
+  both = r.both;
+  reduces = λ P q. reduces P q;
+  gone = λ v q. record {
+    even = r.even ∙ q.even ∙ ap length (sym r.same);
+    none = λ k l live h e. q.none k l (r.fewer k live) (in_same l (clause_at t k) (clause_at s k) (at k) h) e;
+  };
+}
+  where
+    at : (k : ℕ) → clause_at t k ≡ clause_at s k
+    at k = ap (λ (cs : List Clause). get_or cs k []) r.same
+
+    reduces : (P : List Clause) → DerivesFrom P s → DerivesFrom P t
+    reduces P q = record {
+      even = r.even ∙ q.even ∙ ap length (sym r.same);
+      keeps = λ a h k live. satisfies_same a (clause_at t k) (clause_at s k) (at k) (q.keeps a h k (r.fewer k live));
+      extends = λ vs n h. subst (λ (v : List Bool). SatisfiesAll (assignment_of v) P)
+          (sym (ap (λ (st : List Clause). extended st vs) r.stack ∙ extended_more s.stack (m ∷ []) vs))
+          (q.extends (amended (m ∷ []) vs) (let e = amended_length (m ∷ []) vs in let c = r.count in omega (arith, e, n, c)) (holds vs n h));
+      leads = (r.tells P q).0;
+      named = subst (λ (cs : List Clause). AreNamedBy P cs) (sym r.same) q.named;
+      spoken = (r.tells P q).1;
+      saved = subst (λ (st : List Clause). HasVariablesOf P st) (sym r.stack) (has_more P s.stack (m ∷ [])
+          (λ l h. ⊎_elim (λ e. subst (λ x. HasVariable P (variable_of x)) (sym e) (occurs_named P s m occurs q)) (λ z. absurd z) h) q.saved);
+      thawed = subst (λ (st : List Clause). (c : Clause) → c ∈ st → avoids t.frozen c ≡ true) (sym r.stack)
+          (subst (λ (f : List Bool). (c : Clause) → c ∈ (s.stack ++ (m ∷ []) ∷ []) → avoids f c ≡ true) (sym r.frozen)
+          (thawed_more s.frozen s.stack m [] thaw q.thawed));
+      entailed = λ a h. subst (λ (cs : List Clause). SatisfiesAll a cs) (sym r.same) (q.entailed a h);
+      implied = λ both. absurd (let e : true ≡ false = sym both ∙ r.both ∙ one in cc);
+    }
+      where
+        holds : (vs : List Bool) → t.var_count ≤ length vs → Models (assignment_of vs) t → Models (assignment_of (amended (m ∷ []) vs)) s
+        holds vs n h k live = ⊎_elim
+            (λ c. subst (λ (v : List Bool). Satisfies (assignment_of v) (clause_at s k)) (sym c.1) (before c.0))
+            (λ c. subst (λ (v : List Bool). Satisfies (assignment_of v) (clause_at s k)) (sym c.1) after)
+            (amended_cases m [] vs)
+          where
+            room : m / 2 < length vs
+            room = let c = r.count in omega (arith, small, n, c)
+
+            old : (m ∈ clause_at s k → ⊥) → Satisfies (assignment_of vs) (clause_at s k)
+            old d = satisfies_same (assignment_of vs) (clause_at s k) (clause_at t k) (sym (at k)) (h k (r.kept k live d))
+
+            before : Satisfies (assignment_of vs) (m ∷ []) → Satisfies (assignment_of vs) (clause_at s k)
+            before v = ⊎_elim
+                (λ i. (m, i, subst (λ x. value (assignment_of vs) x ≡ true) (⊎_elim (λ p. p) (λ f. absurd f) v.1) v.2))
+                old
+                (∈-or_not m (clause_at s k))
+
+            after : Satisfies (assignment_of (with_true m vs)) (clause_at s k)
+            after = ⊎_elim
+                (λ i. (m, i, made-true vs m room))
+                (λ d. let v = old d in (v.0, v.1, stays-true vs m v.0 room (λ e. pure k live (subst (λ x. x ∈ clause_at s k) e v.1)) v.2))
+                (∈-or_not m (clause_at s k))
+
+-- the literal alone is saved
+pub drops_led : (s t : DatabaseState) (m : Literal) (g : List ℕ) (x : ℕ) → Drops s t m g x → SavesLed s t m
+drops_led s t m g x r c h =
+    ⊎_elim inl (λ k. ⊎_elim (λ q. inr ([], q)) (λ z. absurd z) k)
+    (∈-append_cases c s.stack ((m ∷ []) ∷ []) (subst (λ (st : List Clause). c ∈ st) r.stack h))
+
+-- once all clauses with it are removed, its variable is gone
+pub drops_gone : (s t : DatabaseState) (m : Literal) (g : List ℕ) (x : ℕ) → length g ≤ x → Collects s m g →
+    ((k : ℕ) → IsLive s k → opposite m ∈ clause_at s k → ⊥) → Drops s t m g x → IsGone t (variable_of m)
+drops_gone s t m g x room c pure r = record {
+  even = r.even ∙ c.even ∙ ap length (sym r.same);
+  none = λ k l live h e.
+      let i : l ∈ clause_at s k = subst (λ (cs : List Clause). l ∈ get_or cs k []) r.same h in
+      ⊎_elim
+      (λ q. r.dropped k (∈-take_all k g x room (c.all k (r.fewer k live) (subst (λ y. y ∈ clause_at s k) q i))) live)
+      (λ q. pure k (r.fewer k live) (subst (λ y. y ∈ clause_at s k) q i))
+      (same_or_opposite l m e);
 }
 
 -- A variable was resolved away: its clauses of one sign were saved, and then its other literal.

@@ -6,9 +6,9 @@ use Rattle.varisat_theory.specs.promises.Literals.{Literal, Clause, opposite}
 use Rattle.varisat_theory.proofs.clauses.Places.{∈-get_or}
 use Rattle.varisat_theory.proofs.clauses.Values.{opposite_twice, variable-opposite}
 use Rattle.varisat_database.specs.Databases.{DatabaseState, pushed, removed, saved, clause_at, IsLive}
-use Rattle.varisat_rules.specs.inside.States.{IsThawed, Collects, ResolvesPairs, SavesClauses}
+use Rattle.varisat_rules.specs.inside.States.{IsThawed, Collects, ResolvesPairs, SavesClauses, Drops}
 use Rattle.varisat_rules.specs.inside.Resolving.{Resolves, Clashes}
-use Rattle.varisat_rules.proofs.EliminateLemmas.{adds_skip, adds_push, saves_first, saves_next}
+use Rattle.varisat_rules.proofs.EliminateLemmas.{adds_skip, adds_push, saves_first, saves_next, drops_first, drops_next}
 
 pub adds_by_push : (s t u : DatabaseState) (l : Literal) (w g : List ℕ) (x y p q : ℕ) (c d e f : Clause) → p ≡ get_or w x 0 → q ≡ get_or g y 0 → c ≡ clause_at t p →
     d ≡ clause_at t q → Resolves c d l e → f ≡ e → u ≡ pushed t f → x < length w → y < length g → ResolvesPairs s t l w g x y → ResolvesPairs s u l w g x (y + 1)
@@ -44,6 +44,17 @@ saves_by s t u l w g x p ep eu hx small thaw a =
     subst (λ (v : DatabaseState). SavesClauses s v l w g (x + 1)) (sym (eu ∙ ap (λ i. removed (saved t (l ∷ clause_at t i)) i) ep))
     (saves_next s t l w g x (clause_at t (get_or w x 0)) hx (let n = a.becomes.count in omega (arith, small, n))
     (ap (λ (f : List Bool). get_or f (l / 2) false) a.becomes.frozen ∙ thaw) (λ m h. h) (λ m h. inr h) a)
+
+pub drops_begun : (s t : DatabaseState) (m : Literal) (g : List ℕ) (c : Clause) → c ≡ m ∷ [] → t ≡ saved s c → Drops s t m g 0
+drops_begun s t m g c e q = subst (λ (u : DatabaseState). Drops s u m g 0) (sym (q ∙ ap (λ (x : Clause). saved s x) e)) (drops_first s m g)
+
+pub drops_by : (s t u : DatabaseState) (m : Literal) (g : List ℕ) (x p : ℕ) → p ≡ get_or g x 0 → u ≡ removed t p → x < length g → Collects s m g →
+    Drops s t m g x → Drops s u m g (x + 1)
+drops_by s t u m g x p ep eu hx with a =
+    subst (λ (v : DatabaseState). Drops s v m g (x + 1)) (sym eu) (drops_next s t m g x p ep (subst (λ i. m ∈ clause_at s i) (sym ep) (with.with (get_or g x 0) (∈-get_or g x 0 hx))) a)
+
+pub pure_opposite : (s : DatabaseState) (l m : Literal) → m ≡ opposite l → ((k : ℕ) → IsLive s k → l ∈ clause_at s k → ⊥) → (k : ℕ) → IsLive s k → opposite m ∈ clause_at s k → ⊥
+pure_opposite s l m e pure k live h = pure k live (subst (λ x. x ∈ clause_at s k) (ap opposite e ∙ opposite_twice l) h)
 
 pub matched_true : (P Q : Type 0) (b : Bool) → b ≡ true → MatchBool b P Q → P
 matched_true P Q b e m = subst (λ x. MatchBool x P Q) e m

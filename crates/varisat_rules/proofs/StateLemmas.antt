@@ -16,7 +16,7 @@ use Rattle.varisat_rules.specs.promises.Leading.{LeadsTo, IsNamedBy}
 use Rattle.varisat_rules.proofs.LeadingLemmas.{flagged_pushed, flagged_has, leads_add, leads_removed, told_add, told_removed, named_more, named_at}
 
 pub continues_self : (s : DatabaseState) → Continues s s
-continues_self s = record { more = ([], sym (append-nil s.clauses)); count = refl; frozen = refl; reduces = λ P r. r; gone = λ v h. h }
+continues_self s = record { more = ([], sym (append-nil s.clauses)); count = refl; frozen = refl; both = refl; reduces = λ P r. r; gone = λ v h. h }
 
 pub continues_then : (s t u : DatabaseState) → Continues s t → Continues t u → Continues s u
 continues_then s t u b d = record {
@@ -26,6 +26,7 @@ continues_then s t u b d = record {
   );
   count = d.count ∙ b.count;
   frozen = d.frozen ∙ b.frozen;
+  both = d.both ∙ b.both;
   reduces = λ P r. d.reduces P (b.reduces P r);
   gone = λ v h. d.gone v (b.gone v h);
 }
@@ -233,6 +234,7 @@ push_resolvent s i j l e li lj hl left right from = record {
   more = (e ∷ [], refl);
   count = refl;
   frozen = refl;
+  both = refl;
   reduces = λ P r. push_reduces P s e
       (λ a m. resolvent_satisfied a (clause_at s i) (clause_at s j) e l left right (m i li) (m j lj))
       (resolvent_follows (live_clauses s) (clause_at s i) (clause_at s j) e l (clause_held s i r.even li) (clause_held s j r.even lj) hl left right)
@@ -249,6 +251,7 @@ strengthened s j i l e lj li hl left right part = unsaved s (removed (pushed s e
   more = (e ∷ [], refl);
   count = refl;
   frozen = refl;
+  both = refl;
   reduces = λ P r.
       let new = pushed_new s e r.even in
       let old = pushed_keeps s e i r.even li in

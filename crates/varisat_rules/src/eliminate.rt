@@ -1,9 +1,9 @@
 //! A variable that is resolved away.
-ghost use Rattle.std.specs.Prelude.{◌≡◌, ℕ, ◌/◌, ◌<◌, ◌≤◌, true, ◌∷◌, length, OnOk, OnErr, IfOk, IsTrue};
+ghost use Rattle.std.specs.Prelude.{◌≡◌, ℕ, ◌/◌, ◌<◌, ◌≤◌, true, false, ◌∷◌, length, OnOk, OnErr, IfOk, IsTrue};
 ghost use Rattle.varisat_theory.specs.promises.Membership.{◌∈◌};
 ghost use Rattle.varisat_theory.specs.promises.Literals.{opposite, variable_of};
 ghost use Rattle.varisat_database.specs.Databases.{IsLive, clause_at, removed, saved};
-ghost use Rattle.varisat_rules.specs.inside.States.{IsThawed, Continues, IsLaterState, SavesLed, Collects, ResolvesPairs, SavesClauses};
+ghost use Rattle.varisat_rules.specs.inside.States.{IsThawed, Occurs, IsGone, Continues, IsLaterState, SavesLed, Collects, ResolvesPairs, SavesClauses};
 
 use crate::resolve::{holds, resolve};
 use std::alloc::{AllocError, Allocator};
@@ -104,6 +104,53 @@ fn save_all<A: Allocator + Copy>(
     Ok(())
 }
 
+/// Saves the literal as a unit, which makes it true, and removes the clauses with it. No clause has its opposite.
+fn save_literal<A: Allocator + Copy>(
+    db: &mut Database<A>,
+    lit: Lit,
+    places: &[u32],
+) -> Result<(), AllocError>
+    requires small { variable_of lit < db.old.var_count }
+    requires thawed { IsThawed db.old lit }
+    requires one { db.old.saves_both ≡ false }
+    requires occurs { Occurs db.old lit }
+    requires pure { (k : ℕ) → IsLive db.old k → opposite lit ∈ clause_at db.old k → ⊥ }
+    requires with { Collects db.old lit places.now }
+    ensures becomes { OnOk result (Continues db.old db.new) }
+    ensures led { OnOk result (SavesLed db.old db.new lit) }
+    ensures gone { OnOk result (IsGone db.new (variable_of lit)) }
+{
+    db.save(&[lit])?;
+    for place in places {
+        db.remove(*place as usize)?;
+    }
+    Ok(())
+}
+
+/// Saves and removes the clauses with the literal, whose opposite no clause has: all of them if the variable is to be
+/// restored at need, else the literal as a unit in their place, which makes it true.
+fn save_others<A: Allocator + Copy>(
+    db: &mut Database<A>,
+    lit: Lit,
+    places: &[u32],
+) -> Result<(), AllocError>
+    requires small { variable_of lit < db.old.var_count }
+    requires thawed { IsThawed db.old lit }
+    requires occurs { Occurs db.old lit }
+    requires pure { (k : ℕ) → IsLive db.old k → opposite lit ∈ clause_at db.old k → ⊥ }
+    requires with { Collects db.old lit places.now }
+    ensures becomes { OnOk result (Continues db.old db.new) }
+    ensures led { OnOk result (SavesLed db.old db.new lit) }
+    ensures gone { OnOk result (IsGone db.new (variable_of lit)) }
+{
+    if db.saves_both() {
+        save_all(db, lit, places, &[])?;
+        return Ok(());
+    }
+    save_literal(db, lit, places)?;
+    Ok(())
+}
+
 /// Whether the literal's variable is there, is not frozen and stands in few clauses.
 pub fn may_go<A: Allocator + Copy>(db: &Database<A>, lit: Lit) -> bool
     ensures small { IsTrue result → variable_of lit < db.now.var_count }
@@ -116,7 +163,8 @@ pub fn may_go<A: Allocator + Copy>(db: &Database<A>, lit: Lit) -> bool
     count <= MOST_CLAUSES && count.saturating_mul(db.count(!lit)) <= MOST_PAIRS
 }
 
-/// Adds the resolvents, and saves and removes the clauses that were resolved: all of them, so that they can come back.
+/// Adds the resolvents, and saves and removes the clauses that were resolved. Without any, nothing is saved: the
+/// formula need not have the variable.
 pub fn resolve_away<A: Allocator + Copy>(
     db: &mut Database<A>,
     lit: Lit,
@@ -130,8 +178,11 @@ pub fn resolve_away<A: Allocator + Copy>(
     requires against { Collects db.old (opposite lit) against.now }
     ensures { OnOk result (IsLaterState db.old db.new) }
 {
+    if with.is_empty() && against.is_empty() {
+        return Ok(());
+    }
     add_resolvents(db, lit, with, against, literals)?;
     save_all(db, lit, with, against)?;
-    save_all(db, !lit, against, &[])?;
+    save_others(db, !lit, against)?;
     Ok(())
 }

@@ -12,6 +12,10 @@ use Rattle.varisat_rules.specs.promises.Leading.{LeadsTo, IsNamedBy, AreNamedBy,
 abbrev pub IsThawed : DatabaseState → Literal → Type 0
 IsThawed s l = slice_index_or s.frozen (l / 2) false ≡ false
 
+-- a clause, live or not, has the literal or its opposite
+abbrev pub Occurs : DatabaseState → Literal → Type 0
+Occurs s l = (k : ℕ) × ((l ∈ clause_at s k) ⊎ (opposite l ∈ clause_at s k))
+
 -- the clauses that are flagged, in order
 abbrev pub flagged : List Bool → List Clause → List Clause
 flagged [] cs = []
@@ -43,9 +47,9 @@ pub record DerivesFrom (P : List Clause) (s : DatabaseState) : Type 0 where
   pub spoken : SpeakOf (IsNamedBy P) s.lines
   -- no variable of the stack is new
   pub saved : HasVariablesOf P s.stack
-  -- what satisfies them satisfies each clause, live or not, and the stack
+  -- what satisfies them satisfies each clause, live or not, and the stack if clauses of both signs are saved
   pub entailed : (a : Assignment) → SatisfiesAll a P → SatisfiesAll a s.clauses
-  pub implied : (a : Assignment) → SatisfiesAll a P → SatisfiesAll a s.stack
+  pub implied : s.saves_both ≡ true → (a : Assignment) → SatisfiesAll a P → SatisfiesAll a s.stack
   -- the stack changes no frozen variable
   pub thawed : (c : Clause) → c ∈ s.stack → avoids s.frozen c ≡ true
 
@@ -68,6 +72,7 @@ pub record Continues (s t : DatabaseState) : Type 0 where
   pub more : (rest : List Clause) × (t.clauses ≡ s.clauses ++ rest)
   pub count : t.var_count ≡ s.var_count
   pub frozen : t.frozen ≡ s.frozen
+  pub both : t.saves_both ≡ s.saves_both
   pub reduces : (P : List Clause) → DerivesFrom P s → DerivesFrom P t
   -- no variable comes back
   pub gone : (v : ℕ) → IsGone s v → IsGone t v
@@ -120,3 +125,16 @@ pub record SavesClauses (s t : DatabaseState) (l : Literal) (w g : List ℕ) (x 
   pub each : (k : ℕ) → k ∈ w → l ∈ clause_at t k
   pub apart : (k : ℕ) → k ∈ w → opposite l ∈ clause_at t k → ⊥
   pub pairs : (i j : ℕ) → i ∈ w → j ∈ g → IsPairResolved t l i j
+
+-- The literal was saved, and of the live clauses only such with it were removed, as far as the places were read.
+pub record Drops (s t : DatabaseState) (m : Literal) (places : List ℕ) (x : ℕ) : Type 0 where
+  pub count : t.var_count ≡ s.var_count
+  pub frozen : t.frozen ≡ s.frozen
+  pub both : t.saves_both ≡ s.saves_both
+  pub same : t.clauses ≡ s.clauses
+  pub stack : t.stack ≡ s.stack ++ (m ∷ []) ∷ []
+  pub even : length t.live ≡ length s.live
+  pub fewer : (k : ℕ) → IsLive t k → IsLive s k
+  pub kept : (k : ℕ) → IsLive s k → (m ∈ clause_at s k → ⊥) → IsLive t k
+  pub dropped : (k : ℕ) → k ∈ take x places → IsLive t k → ⊥
+  pub tells : (P : List Clause) → DerivesFrom P s → LeadsTo P t.lines (live_clauses t) × SpeakOf (IsNamedBy P) t.lines

@@ -1,10 +1,13 @@
-use Rattle.std.proofs.Common.{◌<◌, ◌≤◌, refl, sym, subst}
+use Rattle.std.proofs.Common.{List, ◌<◌, ◌≤◌, refl, sym, ap, ◌∙◌, subst}
+use Rattle.varisat_theory.specs.promises.Literals.{Clause}
 use Rattle.varisat_incremental.specs.Reconstructions.{Reconstruction}
 use Rattle.varisat_incremental.proofs.TakingLemmas.{saves-first, saves-next, saves-all}
 use Rattle.varisat_incremental.proofs.reconstruction.Reconstruction.save.Goals as goal
 
 pub loop-place-init : goal.loop-place-init
-loop-place-init g c = saves-first c.args.saved.now c.args.self.now _ c.self.view_is
+loop-place-init g c =
+    saves-first c.args.saved.now c.args.self.now _
+    (ap (λ (S : List Clause). record { stack = S; eliminated = c.self.inside.eliminated.items; frozen = c.self.inside.frozen.items }) c.reserve.ensures ∙ c.self.view_is)
 
 pub loop-place-preserved : goal.loop-place-preserved
 loop-place-preserved g c =

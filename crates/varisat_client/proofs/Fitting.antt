@@ -306,7 +306,7 @@ few-more m n k h (near, wide) =
     (omega (arith, near, product), omega (arith, wide, wider))
 
 -- steps were just counted anew
-anew : (t : State) → t.ledger.since ≡ 0 → MadeFewSince t 0
+pub anew : (t : State) → t.ledger.since ≡ 0 → MadeFewSince t 0
 anew t e = record { same = e; few = few_none (length t.counted) }
 
 pub since-added : (s t : State) (d : Clause) → AddsClause s d (Ok tt) t → MadeFewSince t 0
@@ -368,30 +368,30 @@ join-spent s t r = join-counted s t (Err Interrupted) r.steps (ap (λ l. l.since
 since-joined : (s t : State) → JoinSteps s t → MadeFewSince t t.ledger.since
 since-joined s t j = record { same = refl; few = subst (λ (xs : List ℕ). AreFew (length xs) t.ledger.since) (sym j.same) j.few }
 
-makes-few : (p q : ClientPast) (s t : State) → JoinSteps s t → CountsAmong s p.counted → MadeFewSince s p.since → s.ledger.steps ≡ p.steps →
+makes-few : (p q : ClientPast) (known : List ℕ) → known ⊆ p.counted → (s t : State) → JoinSteps s t → CountsAmong s known → MadeFewSince s p.since → s.ledger.steps ≡ p.steps →
     s.ledger.settings.max_steps ≡ p.limit → t.ledger.steps ≡ q.steps → t.ledger.since ≡ q.since → MakesFew p q
-makes-few p q s t j k m e o w v = record {
+makes-few p q known within s t j k m e o w v = record {
   made = j.made;
   count = sym w ∙ j.count ∙ ap (λ n. n + j.made) e;
   since = sym v ∙ j.since ∙ ap (λ n. n + j.made) m.same;
   budget = subst (λ n. j.made ≤ n) o j.budget;
   few = subst (AreFew (length p.counted)) v
-      (few-more (length s.counted) (length p.counted) t.ledger.since (length-distinct s.counted p.counted k.once k.within) j.few);
+      (few-more (length s.counted) (length p.counted) t.ledger.since (length-distinct s.counted p.counted k.once (λ u i. within u (k.within u i))) j.few);
 }
 
 pub since-decided : (s t : State) (b : Bool) (since : ℕ) → Solves by_state s (Ok b) t → MadeFewSince s since → MadeFewSince t t.ledger.since
 since-decided s t b since r m = since-joined s t (join-decided s t b since r m)
 
-pub decided-few : (p q : ClientPast) (s t : State) (b : Bool) → Solves by_state s (Ok b) t → CountsAmong s p.counted → MadeFewSince s p.since → s.ledger.steps ≡ p.steps →
+pub decided-few : (p q : ClientPast) (known : List ℕ) → known ⊆ p.counted → (s t : State) (b : Bool) → Solves by_state s (Ok b) t → CountsAmong s known → MadeFewSince s p.since → s.ledger.steps ≡ p.steps →
     s.ledger.settings.max_steps ≡ p.limit → t.ledger.steps ≡ q.steps → t.ledger.since ≡ q.since → MakesFew p q
-decided-few p q s t b r k m = makes-few p q s t (join-decided s t b p.since r m) k m
+decided-few p q known within s t b r k m = makes-few p q known within s t (join-decided s t b p.since r m) k m
 
 pub since-spent : (s t : State) → Solves by_state s (Err Interrupted) t → MadeFewSince t t.ledger.since
 since-spent s t r = since-joined s t (join-spent s t r)
 
-pub spent-few : (p q : ClientPast) (s t : State) → Solves by_state s (Err Interrupted) t → CountsAmong s p.counted → MadeFewSince s p.since →
+pub spent-few : (p q : ClientPast) (known : List ℕ) → known ⊆ p.counted → (s t : State) → Solves by_state s (Err Interrupted) t → CountsAmong s known → MadeFewSince s p.since →
     s.ledger.steps ≡ p.steps → s.ledger.settings.max_steps ≡ p.limit → t.ledger.steps ≡ q.steps → t.ledger.since ≡ q.since → MakesFew p q
-spent-few p q s t r k m = makes-few p q s t (join-spent s t r) k m
+spent-few p q known within s t r k m = makes-few p q known within s t (join-spent s t r) k m
 
 -- 6. Models and cores.
 

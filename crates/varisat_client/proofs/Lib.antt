@@ -4,3 +4,4 @@ pub mod Moving
 pub mod Runs
 pub mod Given
 pub mod SetFlags
+pub mod Giving

@@ -9,7 +9,7 @@ use Rattle.varisat_solver.specs.promises.Calls.{IsPastLimit, RefusesNames, MayAc
 use Rattle.varisat_solver.specs.declared.solver.SolverError.{SolverError}
 use Rattle.varisat_solver.specs.declared.solver.SolverError.TheVariants as error
 use Rattle.varisat_client.specs.declared.refusal.Refusal.TheVariants.{OutOfMemory, VariableLimit, ClauseStoreFull}
-use Rattle.varisat_client.specs.inside.Refusals.{refusal_for}
+use Rattle.varisat_client.specs.inside.Refusals.{refusal_for, store_refusal_for}
 use Rattle.varisat_client.specs.promises.Pasts.{ClientPast, refuse, Refuses, Memory, Limit, Full}
 use Rattle.varisat_client.specs.inside.Clients.{WasGiven}
 use Rattle.varisat_client.proofs.Fitting.{past-limit}
@@ -157,3 +157,20 @@ never-refused error.ClauseAfterSolve s t u c v b = c
 never-refused error.ProofOpen s t u c v b = c
 never-refused error.ProofTooLate s t u c v b = c
 never-refused (error.Dimacs cause) s t u c v b = c
+
+-- clauses that are given are refused for memory or for a full store
+pub store-room : (Z : Type 0) (e : SolverError) → (e ≡ error.ClauseStoreFull → Z) →
+    (store_refusal_for e ≡ OutOfMemory) ⊎ ((store_refusal_for e ≡ ClauseStoreFull) × Z)
+store-room Z error.ClauseStoreFull f = inr (refl, f refl)
+store-room Z error.VariableLimit f = inl refl
+store-room Z error.Interrupted f = inl refl
+store-room Z (error.ProofIoError cause) f = inl refl
+store-room Z error.OutOfMemory f = inl refl
+store-room Z error.Invalid f = inl refl
+store-room Z (error.WitnessVar u) f = inl refl
+store-room Z (error.AssumedVar u) f = inl refl
+store-room Z error.ClauseAfterSolve f = inl refl
+store-room Z error.ProofOpen f = inl refl
+store-room Z error.ProofTooLate f = inl refl
+store-room Z (error.ConfigOutOfRange field) f = inl refl
+store-room Z (error.Dimacs cause) f = inl refl

@@ -1,23 +1,29 @@
 //! A client of the solver that takes clauses and assumptions a literal at a time, and returns values one at a time.
-ghost use Rattle.std.specs.Prelude.{◌≡◌, None};
+ghost use Rattle.std.specs.Prelude.{◌≡◌, None, pos, true, false, IfOk};
 ghost use Rattle.varisat_solver.specs.inside.Representations.{Represents};
 ghost use Rattle.varisat_client.specs.inside.Clients.{first_state};
 
 use crate::literal_set::LitSet;
-use crate::numbers::{literal_of, put_number};
-use crate::refusal::{Refusal, refusal_for};
+use crate::numbers::{count_with, literal_of, put_number};
+use crate::refusal::{Refusal, refusal_for, store_refusal_for};
 use std::alloc::{AllocError, Allocator};
 use std::marker::Model;
+use std::mem::{replace, swap};
 use varisat::config::{ConfigField, SolverConfigUpdate};
 use varisat::io::MemoryTarget;
 use varisat::solver::SolverError;
-use varisat::{Lit, Solver};
+use varisat::{CnfFormula, Lit, Solver};
+use varisat_formula::values::{literals_of, values_of};
+use varisat_incremental::reconstruction::Reconstruction;
 
 // The settings of a client's solver. Where calls come to many conflicts they took 0.7 of the time of a new solver's
 // settings, and else the same. Restarts that glue chooses, as the program has for a file, were not tried on calls.
 const REDUCE_LOCALS_INTERVAL: u64 = 2000;
 
 const LUBY_RESTART_INTERVAL_SCALE: u64 = 64;
+
+/// How many variables there may be.
+const MOST_VARIABLES: usize = 0x1000_0000;
 
 /// How a search ended.
 #[derive(Clone, Copy)]
@@ -48,42 +54,66 @@ fn new_solver<A: Allocator + Copy>(alloc: A) -> Solver<MemoryTarget<A>, A>
 /// A client with its solver. From the first call on that is refused, all are.
 #[derive(Drop)]
 pub struct Client<A: Allocator + Copy> {
+    alloc: A,
     // No proof is ever written, so that the type of targets does not matter.
     solver: Solver<MemoryTarget<A>, A>,
+    // The clauses that the solver was not given yet, and by which models are extended to those that it never gets.
+    pending: CnfFormula<A>,
+    reconstruction: Reconstruction<A>,
+    // Whether a clause ended or a search was begun since the solver was given the clauses.
+    is_changed: bool,
+    // How many variables there are up to the highest that is counted.
+    var_count: usize,
     clause: Vec<Lit, A>,
     assumptions: Vec<Lit, A>,
+    // The assumptions of the search that was begun last.
+    assumed: Vec<Lit, A>,
     model: LitSet<A>,
     core: LitSet<A>,
     refusal: Option<Refusal>,
 }
 
 impl<A: Allocator + Copy> Model for Client<A> {
+    ghost use Rattle.std.specs.Prelude.{◌≤◌, ◌^◌};
     ghost use Rattle.varisat_client.specs.inside.Clients as clients;
 
     ghost Value = { clients.Client };
 
     ghost view = { λ c. record {
       solver = c.solver;
+      pending = c.pending.clauses;
+      reconstruction = c.reconstruction;
+      is_changed = c.is_changed;
+      var_count = c.var_count;
       clause = c.clause.items;
       assumptions = c.assumptions.items;
+      assumed = c.assumed.items;
       model = c.model;
       core = c.core;
       refusal = c.refusal;
     } };
+
+    ghost invariant = { λ c. c.var_count ≤ 2 ^ 31 };
 }
 
 impl<A: Allocator + Copy> Client<A> {
     ghost use Rattle.varisat_client.specs.promises.Pasts.{empty_client_past, AddsNumber, AssumesNumber, Begins, LimitsSteps, IsSearchEnd, ReturnsValue, ReturnsFailed};
-    ghost use Rattle.varisat_client.specs.inside.Clients.{RepresentsPast, IsTrueOfPast, Moves, RunsOutOfMemory, KeepsModel, KeepsCore};
+    ghost use Rattle.varisat_client.specs.inside.Clients.{RepresentsPast, IsTrueOfPast, Moves, GivesPending, model_of_all, RunsOutOfMemory, KeepsModel, KeepsCore};
 
     /// A client with a new solver. It takes no memory.
     pub fn new_in(alloc: A) -> Client<A>
         ensures { RepresentsPast result empty_client_past }
     {
         Client {
+            alloc,
             solver: new_solver(alloc),
+            pending: CnfFormula::new_in(alloc),
+            reconstruction: Reconstruction::new_in(alloc),
+            is_changed: false,
+            var_count: 0,
             clause: Vec::new(alloc),
             assumptions: Vec::new(alloc),
+            assumed: Vec::new(alloc),
             model: LitSet::new_in(alloc),
             core: LitSet::new_in(alloc),
             refusal: None,
@@ -98,14 +128,30 @@ impl<A: Allocator + Copy> Client<A> {
             return;
         }
         if number == 0 {
-            match self.solver.add_clause(&self.clause) {
-                Ok(()) => self.clause.clear(),
-                Err(error) => self.refusal = Some(refusal_for(&error)),
-            }
+            self.end_clause();
             return;
         }
         if let Err(AllocError) = put_number(&mut self.clause, number) {
             self.refusal = Some(Refusal::OutOfMemory);
+        }
+    }
+
+    /// Keeps the clause that was given until the next search.
+    fn end_clause(&mut self)
+        ensures { self.old.refusal ≡ None → Moves (AddsNumber (pos 0)) self.old self.new }
+    {
+        let count = count_with(self.var_count, &self.clause);
+        if count > MOST_VARIABLES {
+            self.refusal = Some(Refusal::VariableLimit);
+            return;
+        }
+        match self.pending.add_clause(&self.clause) {
+            Ok(()) => {
+                self.clause.clear();
+                self.var_count = count;
+                self.is_changed = true;
+            }
+            Err(_) => self.refusal = Some(Refusal::OutOfMemory),
         }
     }
 
@@ -132,7 +178,12 @@ impl<A: Allocator + Copy> Client<A> {
             return;
         }
         match self.solver.assume(&self.assumptions) {
-            Ok(()) => self.assumptions.clear(),
+            Ok(()) => {
+                self.var_count = count_with(self.var_count, &self.assumptions);
+                swap(&mut self.assumed, &mut self.assumptions);
+                self.assumptions.clear();
+                self.is_changed = true;
+            }
             Err(error) => self.refusal = Some(refusal_for(&error)),
         }
     }
@@ -165,6 +216,20 @@ impl<A: Allocator + Copy> Client<A> {
         if self.refusal.is_some() {
             return SearchEnd::Refused;
         }
+        if self.is_changed {
+            self.give_pending();
+            if self.refusal.is_some() {
+                return SearchEnd::Refused;
+            }
+        }
+        self.seek()
+    }
+
+    /// Searches, where the solver was given all clauses.
+    fn seek(&mut self) -> SearchEnd
+        ensures { self.old.refusal ≡ None → self.old.is_changed ≡ false →
+            Moves (IsSearchEnd result) self.old self.new }
+    {
         match self.solver.solve() {
             Ok(true) => self.keep_model(),
             Ok(false) => self.keep_core(),
@@ -173,6 +238,21 @@ impl<A: Allocator + Copy> Client<A> {
                 self.refusal = Some(refusal_for(&error));
                 SearchEnd::Refused
             }
+        }
+    }
+
+    /// Gives the solver the clauses that it is to have for the next search.
+    fn give_pending(&mut self)
+        ensures { self.old.is_changed ≡ true → self.old.refusal ≡ None → GivesPending self.old self.new }
+    {
+        let pending = replace(&mut self.pending, CnfFormula::new_in(self.alloc));
+        let Ok(formula) = self.reconstruction.take(pending, &self.assumed) else {
+            self.refusal = Some(Refusal::OutOfMemory);
+            return;
+        };
+        match self.solver.add_formula(&formula) {
+            Ok(()) => self.is_changed = false,
+            Err(error) => self.refusal = Some(store_refusal_for(&error)),
         }
     }
 
@@ -191,10 +271,23 @@ impl<A: Allocator + Copy> Client<A> {
         let Ok(Some(list)) = self.solver.model() else {
             return self.run_out();
         };
-        match self.model.replace(&list) {
-            Ok(()) => SearchEnd::Satisfiable,
+        match self.extended(&list) {
+            Ok(all) => match self.model.replace(&all) {
+                Ok(()) => SearchEnd::Satisfiable,
+                Err(_) => self.run_out(),
+            },
             Err(_) => self.run_out(),
         }
+    }
+
+    /// The model of the solver's clauses, extended to one of all.
+    fn extended(&self, list: &[Lit]) -> Result<Vec<Lit, A>, AllocError>
+        ensures { IfOk result (λ all. all.items ≡ model_of_all self.now list.now) }
+    {
+        let mut values = values_of(self.alloc, self.var_count, list)?;
+        self.reconstruction.extend_model(&mut values);
+        let all = literals_of(self.alloc, &values)?;
+        Ok(all)
     }
 
     /// Keeps the core that was found.

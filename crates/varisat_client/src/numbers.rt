@@ -1,5 +1,6 @@
 //! Literals by their DIMACS numbers, one at a time.
-ghost use Rattle.std.specs.Prelude.{◌≡◌, ◌≢◌, ◌∷◌, [], ◌++◌, pos, OnOk};
+ghost use Rattle.std.specs.Prelude.{◌≡◌, ◌≢◌, ◌∷◌, [], ◌++◌, ◌≤◌, ◌^◌, max, pos, OnOk};
+ghost use Rattle.varisat_formula.specs.promises.Formulas.{variables_of};
 ghost use Rattle.varisat_literals.specs.promises.Numbers.{literal_numbered};
 
 use std::alloc::{AllocError, Allocator};
@@ -23,4 +24,17 @@ pub fn put_number<A: Allocator + Copy>(
 {
     list.push(literal_of(number))?;
     Ok(())
+}
+
+/// The count of variables, or the least one above it that has those of the literals too.
+pub fn count_with(count: usize, lits: &[Lit]) -> usize
+    requires { count ≤ 2 ^ 31 }
+    ensures count { result ≡ max count (variables_of lits.now) }
+    ensures small { result ≤ 2 ^ 31 }
+{
+    let mut most = count;
+    for lit in lits {
+        most = most.max(lit.index() + 1);
+    }
+    most
 }

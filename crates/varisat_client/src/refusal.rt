@@ -1,6 +1,6 @@
 //! Why a client refuses calls.
 ghost use Rattle.std.specs.Prelude.{◌≡◌};
-ghost use Rattle.varisat_client.specs.inside.Refusals.{refusal_for};
+ghost use Rattle.varisat_client.specs.inside.Refusals.{refusal_for, store_refusal_for};
 
 use varisat::solver::SolverError;
 
@@ -22,6 +22,16 @@ pub(crate) fn refusal_for(error: &SolverError) -> Refusal
 {
     match error {
         SolverError::VariableLimit => Refusal::VariableLimit,
+        SolverError::ClauseStoreFull => Refusal::ClauseStoreFull,
+        _ => Refusal::OutOfMemory,
+    }
+}
+
+/// The same where clauses are given whose variables are not past the limit.
+pub(crate) fn store_refusal_for(error: &SolverError) -> Refusal
+    ensures { result ≡ store_refusal_for error.now }
+{
+    match error {
         SolverError::ClauseStoreFull => Refusal::ClauseStoreFull,
         _ => Refusal::OutOfMemory,
     }

@@ -5,23 +5,25 @@ use Rattle.varisat_theory.specs.promises.Derivations.{Line, Add, Delete}
 use Rattle.varisat_database.specs.Written.{WrittenClauses}
 
 -- The clauses that there ever were, in order, whether each is still live, the lines of a proof that added and deleted them, and the
--- stack by which models are extended. No variable that is flagged in `frozen` is resolved away.
+-- stack by which models are extended. No variable that is flagged in `frozen` is resolved away. `saves_both`: of a variable that is resolved
+-- away the clauses with either literal are saved, so that it can be restored; else those with one literal, and the other as a unit.
 pub record DatabaseState : Type 0 where
   pub var_count : ℕ
   pub frozen : List Bool
+  pub saves_both : Bool
   pub clauses : List Clause
   pub live : List Bool
   pub lines : List Line
   pub stack : List Clause
 
 -- the state of clauses that were written, of which the flagged ones are live
-abbrev pub state_of : ℕ → List Bool → WrittenClauses → List Bool → List Clause → DatabaseState
-state_of n frozen w live stack =
-    record { var_count = n; frozen = frozen; clauses = w.clauses; live = live; lines = w.lines; stack = stack }
+abbrev pub state_of : ℕ → List Bool → Bool → WrittenClauses → List Bool → List Clause → DatabaseState
+state_of n frozen both w live stack =
+    record { var_count = n; frozen = frozen; saves_both = both; clauses = w.clauses; live = live; lines = w.lines; stack = stack }
 
 -- no clauses
-abbrev pub no_clauses : ℕ → List Bool → DatabaseState
-no_clauses n frozen = record { var_count = n; frozen = frozen; clauses = []; live = []; lines = []; stack = [] }
+abbrev pub no_clauses : ℕ → List Bool → Bool → DatabaseState
+no_clauses n frozen both = record { var_count = n; frozen = frozen; saves_both = both; clauses = []; live = []; lines = []; stack = [] }
 
 -- one more clause, which is live, and which a checker has already
 abbrev pub given : DatabaseState → Clause → DatabaseState

@@ -19,6 +19,7 @@ use varisat_literals::{Lit, Var};
 pub struct Database<A: Allocator + Copy> {
     var_count: usize,
     frozen: Vec<bool, A>,
+    saves_both: bool,
     names: ShortNames<A>,
     history: History<A>,
     live: Vec<bool, A>,
@@ -37,7 +38,7 @@ impl<A: Allocator + Copy> Model for Database<A> {
 
     ghost Value = { DatabaseState };
 
-    ghost view = { λ d. state_of d.var_count d.frozen.items d.history d.live.items d.stack };
+    ghost view = { λ d. state_of d.var_count d.frozen.items d.saves_both d.history d.live.items d.stack };
 
     ghost invariant = { λ d. IsSoundDatabase d.var_count d.history.clauses d.live.items d.is_listed d.names d.occurrences };
 }
@@ -203,15 +204,17 @@ pub fn literals_in<A: Allocator + Copy>(formula: &CnfFormula<A>) -> usize {
 }
 
 impl<A: Allocator + Copy> Database<A> {
-    /// No clauses, over so many variables, of which the flagged ones are frozen. Tables are by their short names.
+    /// No clauses, over so many variables, of which the flagged ones are frozen. `saves_both` says whether the clauses
+    /// with either literal of an eliminated variable are to be saved. Tables are by the short names.
     pub fn new_in(
         alloc: A,
         var_count: usize,
         frozen: &[bool],
+        saves_both: bool,
         names: ShortNames<A>,
     ) -> Result<Database<A>, AllocError>
         requires { var_count ≤ 2 ^ 31 }
-        ensures { IfOk result (λ d. d ≡ no_clauses var_count frozen.now) }
+        ensures { IfOk result (λ d. d ≡ no_clauses var_count frozen.now saves_both) }
     {
         let mut flags = Vec::new(alloc);
         flags.extend_from_slice(frozen)?;
@@ -222,6 +225,7 @@ impl<A: Allocator + Copy> Database<A> {
         Ok(Database {
             var_count,
             frozen: flags,
+            saves_both,
             names,
             history: History::new_in(alloc),
             live: Vec::new(alloc),
@@ -309,6 +313,13 @@ impl<A: Allocator + Copy> Database<A> {
             Some(flag) => *flag,
             None => false,
         }
+    }
+
+    /// Whether the clauses with either literal of an eliminated variable are saved, so that it can be restored.
+    pub fn saves_both(&self) -> bool
+        ensures { result ≡ self.now.saves_both }
+    {
+        self.saves_both
     }
 
     /// How many literals all clauses have that there were.

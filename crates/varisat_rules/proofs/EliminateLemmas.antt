@@ -4,6 +4,7 @@ use Rattle.varisat_theory.specs.promises.Membership.{◌∈◌}
 use Rattle.varisat_theory.specs.promises.Literals.{Literal, Clause, Assignment, opposite, variable_of, value, Satisfies, SatisfiesAll}
 use Rattle.varisat_theory.proofs.clauses.Members.{equal_or_not, ∈-or_not, ∈-append_cases}
 use Rattle.varisat_theory.proofs.clauses.Places.{∈-get_or, ∈-take_more, ∈-take_all, place_in}
+use Rattle.varisat_theory.proofs.clauses.Assigned.{same_set_satisfied}
 use Rattle.varisat_theory.proofs.clauses.Values.{opposite_twice, variable-opposite, same_or_opposite, true_or_opposite}
 use Rattle.varisat_formula.specs.promises.Values.{assignment_of, with_true}
 use Rattle.varisat_rules.specs.promises.Stacks.{amended, extended, avoids}
@@ -176,6 +177,12 @@ saves_first s t l w g x h r = record {
   pairs = λ i j p q. r.done i j (∈-take_all i w x h p) q;
 }
 
+-- what has a literal at a place is one of the clauses
+clause_in : (cs : List Clause) (i : ℕ) (l : Literal) → l ∈ get_or cs i [] → get_or cs i [] ∈ cs
+clause_in [] i l h = absurd h
+clause_in (c ∷ cs) zero l h = inl refl
+clause_in (c ∷ cs) (suc i) l h = inr (clause_in cs i l h)
+
 -- A clause with the literal is saved and removed.
 pub save_reduces : (P : List Clause) (s : DatabaseState) (l : Literal) (e : Clause) (i : ℕ) (g : List ℕ) → l / 2 < s.var_count → l ∈ clause_at s i →
     ((m : Literal) → m ∈ e → m ∈ clause_at s i) → ((m : Literal) → m ∈ clause_at s i → (m ≡ l) ⊎ (m ∈ e)) → Collects s (opposite l) g →
@@ -191,6 +198,14 @@ save_reduces P s l e i g small hl part whole others pairs thaw r = record {
   saved = has_more P s.stack (l ∷ e) (λ m h.
       (m, named_at P s.clauses i r.named m (⊎_elim (λ q. subst (λ x. x ∈ clause_at s i) (sym q) hl) (part m) h), refl)) r.saved;
   thawed = thawed_more s.frozen s.stack l e thaw r.thawed;
+  entailed = r.entailed;
+  implied = λ both a h c m. ⊎_elim
+      (r.implied both a h c)
+      (λ k. ⊎_elim
+      (λ q. satisfies_same a c (l ∷ e) q
+      (same_set_satisfied a (clause_at s i) (l ∷ e) (λ x y. ⊎_elim inl inr (whole x y)) (r.entailed a h (clause_at s i) (clause_in s.clauses i l hl))))
+      (λ z. absurd z) k)
+      (∈-append_cases c s.stack ((l ∷ e) ∷ []) m);
 }
   where
     holds : (vs : List Bool) → s.var_count ≤ length vs → Models (assignment_of vs) (removed (saved s (l ∷ e)) i) → Models (assignment_of (amended (l ∷ e) vs)) s
@@ -245,6 +260,7 @@ saves_next s t l w g x e h small thaw part whole r = record {
     more = ([], sym (append-nil t.clauses));
     count = refl;
     frozen = refl;
+    both = refl;
     reduces = λ P q. save_reduces P t l e i g small (r.each i iw) part whole r.others (λ j k. r.pairs i j iw k) thaw q;
     gone = λ v q. gone_removed (saved t (l ∷ e)) i v (record { even = q.even; none = q.none });
   });
@@ -271,10 +287,40 @@ saves_next s t l w g x e h small thaw part whole r = record {
 pub saves_end : (s t : DatabaseState) (l : Literal) (w g : List ℕ) (x : ℕ) → length w ≤ x → SavesClauses s t l w g x → (k : ℕ) → IsLive t k → l ∈ clause_at t k → ⊥
 saves_end s t l w g x h r k live c = let p = r.ones k live c in let a = p.1 in let b = p.2 in omega (arith, a, b, h)
 
+-- the clauses with a literal whose opposite is in none are saved without others to be resolved with
+pub saves_alone : (t : DatabaseState) (m : Literal) (g : List ℕ) → ((k : ℕ) → IsLive t k → opposite m ∈ clause_at t k → ⊥) → Collects t m g →
+    SavesClauses t t m g [] 0
+saves_alone t m g pure c = record {
+  becomes = continues_self t;
+  led = λ d h. inl h;
+  others = record {
+    even = c.even;
+    all = λ k live h. absurd (pure k live h);
+    live = λ k h. absurd h;
+    with = λ k h. absurd h;
+    without = λ k h. absurd h;
+  };
+  ones = λ k live h. let p = place_in k g 0 (c.all k live h) in (p.0, omega arith, p.1, p.2);
+  each = c.with;
+  apart = c.without;
+  pairs = λ i j h k. absurd k;
+}
+
+-- once no live clause has the literal, nor its opposite, its variable is gone
+pub saved_gone : (t : DatabaseState) (m : Literal) → ((k : ℕ) → IsLive t k → m ∈ clause_at t k → ⊥) → Collects t (opposite m) [] → IsGone t (variable_of m)
+saved_gone t m pure c = record {
+  even = c.even;
+  none = λ k x live h q. ⊎_elim
+      (λ s. pure k live (subst (λ y. y ∈ clause_at t k) s h))
+      (λ s. c.all k live (subst (λ y. y ∈ clause_at t k) s h))
+      (same_or_opposite x m q);
+}
+
 pub drops_first : (s : DatabaseState) (m : Literal) (g : List ℕ) → Drops s (saved s (m ∷ [])) m g 0
 drops_first s m g = record {
   count = refl;
   frozen = refl;
+  both = refl;
   same = refl;
   stack = refl;
   even = refl;
@@ -289,6 +335,7 @@ pub drops_next : (s t : DatabaseState) (m : Literal) (g : List ℕ) (x i : ℕ) 
 drops_next s t m g x i e h r = record {
   count = r.count;
   frozen = r.frozen;
+  both = r.both;
   same = r.same;
   stack = r.stack;
   even = length-set t.live i false ∙ r.even;
@@ -327,12 +374,13 @@ occurs_resolved s t l m (x ∷ w) [] e c d b n = (
 occurs_resolved s t l m [] [] e c d b (inl n) = absurd (cc)
 occurs_resolved s t l m [] [] e c d b (inr n) = absurd (cc)
 
-pub drops_end : (s t : DatabaseState) (m : Literal) (g : List ℕ) (x : ℕ) → m / 2 < s.var_count → IsThawed s m → Occurs s m → ((k : ℕ) → IsLive s k → opposite m ∈ clause_at s k → ⊥) →
+pub drops_end : (s t : DatabaseState) (m : Literal) (g : List ℕ) (x : ℕ) → m / 2 < s.var_count → IsThawed s m → s.saves_both ≡ false → Occurs s m → ((k : ℕ) → IsLive s k → opposite m ∈ clause_at s k → ⊥) →
     Drops s t m g x → Continues s t
-drops_end s t m g x small thaw occurs pure r = record {
+drops_end s t m g x small thaw one occurs pure r = record {
   more = ([], r.same ∙ sym (append-nil s.clauses));
   count = r.count;
   frozen = r.frozen;
+  both = r.both;
   reduces = λ P q. reduces P q;
   gone = λ v q. record {
     even = r.even ∙ q.even ∙ ap length (sym r.same);
@@ -358,6 +406,8 @@ drops_end s t m g x small thaw occurs pure r = record {
       thawed = subst (λ (st : List Clause). (c : Clause) → c ∈ st → avoids t.frozen c ≡ true) (sym r.stack)
           (subst (λ (f : List Bool). (c : Clause) → c ∈ (s.stack ++ (m ∷ []) ∷ []) → avoids f c ≡ true) (sym r.frozen)
           (thawed_more s.frozen s.stack m [] thaw q.thawed));
+      entailed = λ a h. subst (λ (cs : List Clause). SatisfiesAll a cs) (sym r.same) (q.entailed a h);
+      implied = λ both. absurd (let e : true ≡ false = sym both ∙ r.both ∙ one in cc);
     }
       where
         holds : (vs : List Bool) → t.var_count ≤ length vs → Models (assignment_of vs) t → Models (assignment_of (amended (m ∷ []) vs)) s

@@ -20,6 +20,7 @@ subsumed_becomes s t j i e live n part = becomes_next s (removed s i) t (unsaved
   more = ([], sym (append-nil s.clauses));
   count = refl;
   frozen = refl;
+  both = refl;
   reduces = λ P r. remove_reduces P s i j live n part r;
   gone = λ v h. gone_removed s i v h;
 })) e

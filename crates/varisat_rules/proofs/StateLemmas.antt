@@ -5,7 +5,7 @@ use Rattle.varisat_theory.specs.promises.Membership.{◌∈◌, ◌⊆◌}
 use Rattle.varisat_theory.specs.promises.Literals.{Literal, Clause, Assignment, opposite, variable_of, value, Satisfies}
 use Rattle.varisat_theory.specs.promises.Propagation.{FalseClause, Propagate, Follows}
 use Rattle.varisat_theory.specs.promises.Derivations.{Add}
-use Rattle.varisat_theory.proofs.clauses.Members.{equal_or_not}
+use Rattle.varisat_theory.proofs.clauses.Members.{equal_or_not, ∈-append_cases}
 use Rattle.varisat_theory.proofs.clauses.Values.{∈-opposites, opposite_twice, not_both}
 use Rattle.varisat_theory.proofs.clauses.Assigned.{same_set_satisfied}
 use Rattle.varisat_formula.specs.promises.Values.{assignment_of}
@@ -16,7 +16,7 @@ use Rattle.varisat_rules.specs.promises.Leading.{LeadsTo, IsNamedBy}
 use Rattle.varisat_rules.proofs.LeadingLemmas.{flagged_pushed, flagged_has, leads_add, leads_removed, told_add, told_removed, named_more, named_at}
 
 pub continues_self : (s : DatabaseState) → Continues s s
-continues_self s = record { more = ([], sym (append-nil s.clauses)); count = refl; frozen = refl; reduces = λ P r. r; gone = λ v h. h }
+continues_self s = record { more = ([], sym (append-nil s.clauses)); count = refl; frozen = refl; both = refl; reduces = λ P r. r; gone = λ v h. h }
 
 pub continues_then : (s t u : DatabaseState) → Continues s t → Continues t u → Continues s u
 continues_then s t u b d = record {
@@ -26,6 +26,7 @@ continues_then s t u b d = record {
   );
   count = d.count ∙ b.count;
   frozen = d.frozen ∙ b.frozen;
+  both = d.both ∙ b.both;
   reduces = λ P r. d.reduces P (b.reduces P r);
   gone = λ v h. d.gone v (b.gone v h);
 }
@@ -176,6 +177,11 @@ push_reduces P s c entails f named r = record {
   spoken = told_add P s.lines c named r.spoken;
   saved = r.saved;
   thawed = r.thawed;
+  entailed = λ a h d m. ⊎_elim
+      (r.entailed a h d)
+      (λ k. ⊎_elim (λ q. satisfies_same a d c q (entails a (r.keeps a h))) (λ z. absurd z) k)
+      (∈-append_cases d s.clauses (c ∷ []) m);
+  implied = r.implied;
 }
 
 -- a live clause goes of which another live one is a part
@@ -193,6 +199,8 @@ remove_reduces P s i j live n part r = record {
   spoken = told_removed P s.lines (get_or s.live i false) (clause_at s i) (named_at P s.clauses i r.named) r.spoken;
   saved = r.saved;
   thawed = r.thawed;
+  entailed = r.entailed;
+  implied = r.implied;
 }
 
 -- The resolvent of two clauses follows from them.
@@ -226,6 +234,7 @@ push_resolvent s i j l e li lj hl left right from = record {
   more = (e ∷ [], refl);
   count = refl;
   frozen = refl;
+  both = refl;
   reduces = λ P r. push_reduces P s e
       (λ a m. resolvent_satisfied a (clause_at s i) (clause_at s j) e l left right (m i li) (m j lj))
       (resolvent_follows (live_clauses s) (clause_at s i) (clause_at s j) e l (clause_held s i r.even li) (clause_held s j r.even lj) hl left right)
@@ -242,6 +251,7 @@ strengthened s j i l e lj li hl left right part = unsaved s (removed (pushed s e
   more = (e ∷ [], refl);
   count = refl;
   frozen = refl;
+  both = refl;
   reduces = λ P r.
       let new = pushed_new s e r.even in
       let old = pushed_keeps s e i r.even li in

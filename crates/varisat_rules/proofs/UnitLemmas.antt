@@ -101,6 +101,7 @@ shortened s t u i c d e ec ed et eu live out =
       more = (e ∷ [], refl);
       count = refl;
       frozen = refl;
+      both = refl;
       reduces = λ P r.
           let new = pushed_new s e r.even in
           let old = pushed_keeps s e i r.even live in

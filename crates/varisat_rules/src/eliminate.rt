@@ -1,5 +1,5 @@
 //! A variable that is resolved away.
-ghost use Rattle.std.specs.Prelude.{◌≡◌, ℕ, ◌/◌, ◌<◌, ◌≤◌, true, ◌∷◌, length, OnOk, OnErr, IfOk, IsTrue};
+ghost use Rattle.std.specs.Prelude.{◌≡◌, ℕ, ◌/◌, ◌<◌, ◌≤◌, true, false, ◌∷◌, length, OnOk, OnErr, IfOk, IsTrue};
 ghost use Rattle.varisat_theory.specs.promises.Membership.{◌∈◌};
 ghost use Rattle.varisat_theory.specs.promises.Literals.{opposite, variable_of};
 ghost use Rattle.varisat_database.specs.Databases.{IsLive, clause_at, removed, saved};
@@ -104,8 +104,32 @@ fn save_all<A: Allocator + Copy>(
     Ok(())
 }
 
-/// Removes the clauses with the literal, which is made true. Its opposite stands in none.
+/// Saves the literal as a unit, which makes it true, and removes the clauses with it. No clause has its opposite.
 fn save_literal<A: Allocator + Copy>(
+    db: &mut Database<A>,
+    lit: Lit,
+    places: &[u32],
+) -> Result<(), AllocError>
+    requires small { variable_of lit < db.old.var_count }
+    requires thawed { IsThawed db.old lit }
+    requires one { db.old.saves_both ≡ false }
+    requires occurs { Occurs db.old lit }
+    requires pure { (k : ℕ) → IsLive db.old k → opposite lit ∈ clause_at db.old k → ⊥ }
+    requires with { Collects db.old lit places.now }
+    ensures becomes { OnOk result (Continues db.old db.new) }
+    ensures led { OnOk result (SavesLed db.old db.new lit) }
+    ensures gone { OnOk result (IsGone db.new (variable_of lit)) }
+{
+    db.save(&[lit])?;
+    for place in places {
+        db.remove(*place as usize)?;
+    }
+    Ok(())
+}
+
+/// Saves and removes the clauses with the literal, whose opposite no clause has: all of them if the variable is to be
+/// restored at need, else the literal as a unit in their place, which makes it true.
+fn save_others<A: Allocator + Copy>(
     db: &mut Database<A>,
     lit: Lit,
     places: &[u32],
@@ -119,10 +143,11 @@ fn save_literal<A: Allocator + Copy>(
     ensures led { OnOk result (SavesLed db.old db.new lit) }
     ensures gone { OnOk result (IsGone db.new (variable_of lit)) }
 {
-    db.save(&[lit])?;
-    for place in places {
-        db.remove(*place as usize)?;
+    if db.saves_both() {
+        save_all(db, lit, places, &[])?;
+        return Ok(());
     }
+    save_literal(db, lit, places)?;
     Ok(())
 }
 
@@ -158,6 +183,6 @@ pub fn resolve_away<A: Allocator + Copy>(
     }
     add_resolvents(db, lit, with, against, literals)?;
     save_all(db, lit, with, against)?;
-    save_literal(db, !lit, against)?;
+    save_others(db, !lit, against)?;
     Ok(())
 }

@@ -1,7 +1,7 @@
 -- The clauses of a formula are loaded.
 use Rattle.std.proofs.Common.{◌≡◌, ℕ, ◌+◌, ◌≤◌, Bool, true, false, set, List, [], ◌∷◌, ◌++◌, inl, ⊎_elim, sym, ap, ◌∙◌, subst, refl, length, get_or, append_assoc, append-nil, arith}
 use Rattle.varisat_theory.specs.promises.Held.{SameClauses}
-use Rattle.varisat_theory.proofs.clauses.Held.{same_set-self, same_clauses-self, same_clauses-through}
+use Rattle.varisat_theory.proofs.clauses.Held.{same_clauses_find, same_set-self, same_clauses-self, same_clauses-through}
 use Rattle.varisat_theory.specs.promises.Derivations.{Delete, SpeakOf}
 use Rattle.varisat_rules.specs.promises.Leading.{LeadsTo, IsNamedBy, AreNamedBy}
 use Rattle.varisat_rules.proofs.LeadingLemmas.{leads_self, leads_delete, leads_as, told_removed, named_more}
@@ -21,7 +21,7 @@ use Rattle.varisat_theory.proofs.clauses.Assigned.{same_set_satisfied}
 use Rattle.varisat_rules.proofs.StateLemmas.{live_below, live_pushed, pushed_keeps, pushed_live, pushed_even, pushed_new, removed_even, removed_keeps, removed_live, satisfies_same}
 
 -- The clauses are loaded, but for the rest.
-pub record Loads (P rest : List Clause) (n : ℕ) (frozen : List Bool) (s : DatabaseState) : Type 0 where
+pub record Loads (P rest : List Clause) (n : ℕ) (frozen : List Bool) (both : Bool) (s : DatabaseState) : Type 0 where
   pub front : List Clause
   pub whole : front ++ rest ≡ P
   pub even : length s.live ≡ length s.clauses
@@ -35,9 +35,10 @@ pub record Loads (P rest : List Clause) (n : ℕ) (frozen : List Bool) (s : Data
   pub fewer : literal_count s.clauses + literal_count rest ≤ literal_count P
   pub count : s.var_count ≡ n
   pub flags : s.frozen ≡ frozen
+  pub saves : s.saves_both ≡ both
 
-pub loads_first : (P rest : List Clause) (n : ℕ) (frozen : List Bool) (s : DatabaseState) → s ≡ no_clauses n frozen → rest ≡ P → Loads P rest n frozen s
-loads_first P rest n frozen s e q = subst (λ (t : DatabaseState). Loads P rest n frozen t) (sym e) (record {
+pub loads_first : (P rest : List Clause) (n : ℕ) (frozen : List Bool) (both : Bool) (s : DatabaseState) → s ≡ no_clauses n frozen both → rest ≡ P → Loads P rest n frozen both s
+loads_first P rest n frozen both s e q = subst (λ (t : DatabaseState). Loads P rest n frozen both t) (sym e) (record {
   front = [];
   whole = q;
   even = refl;
@@ -51,6 +52,7 @@ loads_first P rest n frozen s e q = subst (λ (t : DatabaseState). Loads P rest 
   fewer = let e = ap literal_count q in omega (arith, e);
   count = refl;
   flags = refl;
+  saves = refl;
 })
 
 -- one clause more, with no more literals than the next of the rest
@@ -80,12 +82,12 @@ same_next P L rest tail c e q s r = same_clauses-through ((L ++ e ∷ []) ++ tai
     (subst (λ (l : List Clause). SameClauses (L ++ l) P) q r)
 
 -- a tautology was loaded, and is gone
-pub loads_skip : (P rest tail : List Clause) (n : ℕ) (frozen : List Bool) (s t u : DatabaseState) (c d : Clause) (i : ℕ) → rest ≡ c ∷ tail → IsTautology c → d ≡ c →
-    i ≡ length s.clauses → t ≡ given s d → u ≡ removed t i → Loads P rest n frozen s → Loads P tail n frozen u
-loads_skip P rest tail n frozen s t u c d i e x k q et eu r =
+pub loads_skip : (P rest tail : List Clause) (n : ℕ) (frozen : List Bool) (both : Bool) (s t u : DatabaseState) (c d : Clause) (i : ℕ) → rest ≡ c ∷ tail → IsTautology c → d ≡ c →
+    i ≡ length s.clauses → t ≡ given s d → u ≡ removed t i → Loads P rest n frozen both s → Loads P tail n frozen both u
+loads_skip P rest tail n frozen both s t u c d i e x k q et eu r =
     let v : u ≡ removed (given s c) (length s.clauses) =
     eu ∙ ap (λ j. removed t j) q ∙ ap (λ (y : DatabaseState). removed y (length s.clauses)) (et ∙ ap (λ (y : Clause). given s y) k) in
-    subst (λ (y : DatabaseState). Loads P tail n frozen y) (sym v) (record {
+    subst (λ (y : DatabaseState). Loads P tail n frozen both y) (sym v) (record {
       front = r.front ++ c ∷ [];
       whole = moved P r.front rest tail c r.whole e;
       even = removed_even (given s c) (length s.clauses) (pushed_even s c r.even);
@@ -106,6 +108,7 @@ loads_skip P rest tail n frozen s t u c d i e x k q et eu r =
       fewer = fewer_next s.clauses rest tail c c (literal_count P) e (omega arith) r.fewer;
       count = r.count;
       flags = r.flags;
+      saves = r.saves;
     })
   where
     own : (l : Literal) → l ∈ c → IsNamedBy P l
@@ -134,9 +137,9 @@ loads_skip P rest tail n frozen s t u c d i e x k q et eu r =
         (leads_delete P s.lines (live_clauses s ++ rest) c (live_clauses s ++ tail)
         (live_clauses s, c, tail, ap (λ (l : List Clause). live_clauses s ++ l) e, same_set-self c, refl) r.leads)))
 
-pub loads_give : (P rest tail : List Clause) (n : ℕ) (frozen : List Bool) (s t : DatabaseState) (c e d : Clause) → rest ≡ c ∷ tail → SameSet c e →
-    length e ≤ length c → d ≡ e → t ≡ given s d → Loads P rest n frozen s → Loads P tail n frozen t
-loads_give P rest tail n frozen s t c e d q same short eq qt r = subst (λ (u : DatabaseState). Loads P tail n frozen u) (sym (qt ∙ ap (λ (x : Clause). given s x) eq)) (record {
+pub loads_give : (P rest tail : List Clause) (n : ℕ) (frozen : List Bool) (both : Bool) (s t : DatabaseState) (c e d : Clause) → rest ≡ c ∷ tail → SameSet c e →
+    length e ≤ length c → d ≡ e → t ≡ given s d → Loads P rest n frozen both s → Loads P tail n frozen both t
+loads_give P rest tail n frozen both s t c e d q same short eq qt r = subst (λ (u : DatabaseState). Loads P tail n frozen both u) (sym (qt ∙ ap (λ (x : Clause). given s x) eq)) (record {
   front = r.front ++ c ∷ [];
   whole = moved P r.front rest tail c r.whole q;
   even = pushed_even s e r.even;
@@ -161,11 +164,12 @@ loads_give P rest tail n frozen s t c e d q same short eq qt r = subst (λ (u : 
   fewer = fewer_next s.clauses rest tail c e (literal_count P) q short r.fewer;
   count = r.count;
   flags = r.flags;
+  saves = r.saves;
 })
 
 -- nothing is left to load
-pub loads_end : (P rest : List Clause) (n : ℕ) (frozen : List Bool) (s : DatabaseState) → rest ≡ [] → Loads P rest n frozen s → IsLoaded P n frozen s
-loads_end P rest n frozen s e r = record {
+pub loads_end : (P rest : List Clause) (n : ℕ) (frozen : List Bool) (both : Bool) (s : DatabaseState) → rest ≡ [] → Loads P rest n frozen both s → IsLoaded P n frozen both s
+loads_end P rest n frozen both s e r = record {
   reduces = record {
     even = r.even;
     keeps = r.keeps;
@@ -176,13 +180,19 @@ loads_end P rest n frozen s e r = record {
     spoken = r.spoken;
     saved = λ c l m. absurd (subst (λ (st : List Clause). c ∈ st) r.empty m);
     thawed = λ c m. absurd (subst (λ (st : List Clause). c ∈ st) r.empty m);
+    entailed = λ a h c m. let (d, i, k) = same_clauses_find s.clauses P same c m in same_set_satisfied a d c k.0 (h d i);
+    implied = λ _ a h c m. absurd (subst (λ (st : List Clause). c ∈ st) r.empty m);
   };
-  same = subst (λ (l : List Clause). SameClauses l P) (ap (λ (l : List Clause). s.clauses ++ l) e ∙ append-nil s.clauses) r.same;
+  same = same;
   empty = r.empty;
   fewer = let a = r.fewer in omega (arith, a);
   count = r.count;
   flags = r.flags;
+  saves = r.saves;
 }
   where
     all : r.front ≡ P
     all = sym (append-nil r.front) ∙ ap (λ (x : List Clause). r.front ++ x) (sym e) ∙ r.whole
+
+    same : SameClauses s.clauses P
+    same = subst (λ (l : List Clause). SameClauses l P) (ap (λ (l : List Clause). s.clauses ++ l) e ∙ append-nil s.clauses) r.same

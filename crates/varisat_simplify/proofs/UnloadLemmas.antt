@@ -3,7 +3,7 @@ use Rattle.std.proofs.Common.{◌≡◌, ℕ, zero, suc, ◌+◌, ◌/◌, ◌%�
 use Rattle.varisat_theory.specs.promises.Membership.{◌∈◌}
 use Rattle.std.proofs.lemmas.List.{length-append}
 use Rattle.std.proofs.Math.Seq.{take-append_seam}
-use Rattle.varisat_theory.specs.promises.Literals.{Literal, Clause, variable_of}
+use Rattle.varisat_theory.specs.promises.Literals.{Literal, Clause, Assignment, variable_of, SatisfiesAll}
 use Rattle.varisat_theory.specs.promises.Derivations.{Line}
 use Rattle.varisat_theory.specs.promises.Held.{SameClauses}
 use Rattle.varisat_theory.proofs.clauses.Held.{same_clauses_find, same_clauses-back}
@@ -197,39 +197,39 @@ made_same f g e b k = record {
 }
 
 -- the first clauses are those that were loaded
-first_loaded : (P : List Clause) (n count : ℕ) (frozen : List Bool) (t : DatabaseState) → (r : IsReduced P n frozen count t) → take count t.clauses ≡ r.loaded.clauses
-first_loaded P n count frozen t r =
+first_loaded : (P : List Clause) (n count : ℕ) (frozen : List Bool) (both : Bool) (t : DatabaseState) → (r : IsReduced P n frozen both count t) → take count t.clauses ≡ r.loaded.clauses
+first_loaded P n count frozen both t r =
     let more = r.becomes.continues.more in
     ap (λ (l : List Clause). take count l) more.1 ∙ ap (λ k. take k (r.loaded.clauses ++ more.0)) r.whole ∙ take-append_seam r.loaded.clauses more.0
 
 first_clauses : (g : Formula) (count : ℕ) (t : DatabaseState) → g ≡ formula_over t.var_count (take count t.clauses) → g.clauses ≡ take count t.clauses
 first_clauses g count t e = ap (λ (k : Formula). k.clauses) e ∙ over_clauses t.var_count (take count t.clauses)
 
-first_same : (P : List Clause) (g : Formula) (n count : ℕ) (frozen : List Bool) (t : DatabaseState) → IsReduced P n frozen count t →
+first_same : (P : List Clause) (g : Formula) (n count : ℕ) (frozen : List Bool) (both : Bool) (t : DatabaseState) → IsReduced P n frozen both count t →
     g ≡ formula_over t.var_count (take count t.clauses) → SameClauses g.clauses P
-first_same P g n count frozen t r e =
-    subst (λ (l : List Clause). SameClauses l P) (sym (first_clauses g count t e ∙ first_loaded P n count frozen t r)) r.same
+first_same P g n count frozen both t r e =
+    subst (λ (l : List Clause). SameClauses l P) (sym (first_clauses g count t e ∙ first_loaded P n count frozen both t r)) r.same
 
 -- what is handed out has the same clauses, or is shorter
-pub finished_shorter : (P : List Clause) (g : Formula) (n count : ℕ) (frozen : List Bool) (t : DatabaseState) (stack : List Clause) (lines : List Line) →
-    IsReduced P n frozen count t → Finishes t count g stack lines → SameClauses g.clauses P ⊎ IsShorter g.clauses P
-finished_shorter P g n count frozen t stack lines r (inl h) =
+pub finished_shorter : (P : List Clause) (g : Formula) (n count : ℕ) (frozen : List Bool) (both : Bool) (t : DatabaseState) (stack : List Clause) (lines : List Line) →
+    IsReduced P n frozen both count t → Finishes t count g stack lines → SameClauses g.clauses P ⊎ IsShorter g.clauses P
+finished_shorter P g n count frozen both t stack lines r (inl h) =
     let left = ap literal_count (ap (λ (k : Formula). k.clauses) h.0 ∙ over_clauses t.var_count (live_clauses t)) in
-    let first = ap literal_count (first_loaded P n count frozen t r) in
+    let first = ap literal_count (first_loaded P n count frozen both t r) in
     let short = h.3 in
     let fewer = r.fewer in
     inr (omega (arith, left, first, short, fewer))
-finished_shorter P g n count frozen t stack lines r (inr h) = inl (first_same P g n count frozen t r h.0)
+finished_shorter P g n count frozen both t stack lines r (inr h) = inl (first_same P g n count frozen both t r h.0)
 
 -- what is handed out is made of what was loaded
-pub finished : (f g : Formula) (n count : ℕ) (frozen : List Bool) (t : DatabaseState) (stack : List Clause) (lines : List Line) → AreBelow n f.clauses →
+pub finished : (f g : Formula) (n count : ℕ) (frozen : List Bool) (both : Bool) (t : DatabaseState) (stack : List Clause) (lines : List Line) → AreBelow n f.clauses →
     ((m : ℕ) → AreBelow m f.clauses → n ≤ m) →
-    IsReduced f.clauses n frozen count t → Finishes t count g stack lines → IsMadeOf f g stack lines
-finished f g n count frozen t stack lines below least r (inl h) =
+    IsReduced f.clauses n frozen both count t → Finishes t count g stack lines → IsMadeOf f g stack lines
+finished f g n count frozen both t stack lines below least r (inl h) =
     subst (λ (st : List Clause). IsMadeOf f g st lines) (sym h.1) (subst (λ (ls : List Line). IsMadeOf f g t.stack ls) (sym h.2)
     (made f g r.loaded t r.reduces (subst (λ m. AreBelow m f.clauses) (sym r.vars) below)
     (λ m b. let v = r.vars in let l = least m b in omega (arith, v, l)) r.empty r.becomes h.0))
-finished f g n count frozen t stack lines below least r (inr h) =
+finished f g n count frozen both t stack lines below least r (inr h) =
     subst (λ (st : List Clause). IsMadeOf f g st lines) (sym h.1) (subst (λ (ls : List Line). IsMadeOf f g [] ls) (sym h.2)
     (made_same f g same
     (subst (λ (k : Formula). AreBelow k.var_count f.clauses) (sym h.0) (counted_all t.var_count f.clauses (take count t.clauses)
@@ -245,22 +245,30 @@ finished f g n count frozen t stack lines below least r (inr h) =
     e = first_clauses g count t h.0
 
     same : SameClauses g.clauses f.clauses
-    same = first_same f.clauses g n count frozen t r h.0
+    same = first_same f.clauses g n count frozen both t r h.0
 
 -- no extension changes a frozen variable
 pub stays_frozen : (P : List Clause) (s t : DatabaseState) (frozen : List Bool) → DerivesFrom P s → s.frozen ≡ frozen → IsLaterState s t → KeepsFrozen frozen t.stack
 stays_frozen P s t frozen o e b = subst (λ (f : List Bool). KeepsFrozen f t.stack) (b.continues.frozen ∙ e) (keeps_frozen t.frozen t.stack (b.continues.reduces P o).thawed)
 
 -- none that what is handed out makes
-pub finished_frozen : (P : List Clause) (g : Formula) (n count : ℕ) (frozen : List Bool) (t : DatabaseState) (stack : List Clause) (lines : List Line) →
-    IsReduced P n frozen count t → Finishes t count g stack lines → KeepsFrozen frozen stack
-finished_frozen P g n count frozen t stack lines r (inl h) =
+pub finished_frozen : (P : List Clause) (g : Formula) (n count : ℕ) (frozen : List Bool) (both : Bool) (t : DatabaseState) (stack : List Clause) (lines : List Line) →
+    IsReduced P n frozen both count t → Finishes t count g stack lines → KeepsFrozen frozen stack
+finished_frozen P g n count frozen both t stack lines r (inl h) =
     subst (λ (st : List Clause). KeepsFrozen frozen st) (sym h.1) (stays_frozen P r.loaded t frozen r.reduces r.flags r.becomes)
-finished_frozen P g n count frozen t stack lines r (inr h) = subst (λ (st : List Clause). KeepsFrozen frozen st) (sym h.1) (λ vs v e. refl)
+finished_frozen P g n count frozen both t stack lines r (inr h) = subst (λ (st : List Clause). KeepsFrozen frozen st) (sym h.1) (λ vs v e. refl)
+
+-- what satisfies the formula satisfies the stack that is handed out, if the clauses with either literal were saved
+pub finished_implied : (P : List Clause) (g : Formula) (n count : ℕ) (frozen : List Bool) (both : Bool) (t : DatabaseState) (stack : List Clause) (lines : List Line) →
+    IsReduced P n frozen both count t → Finishes t count g stack lines → both ≡ true → (a : Assignment) → SatisfiesAll a P → SatisfiesAll a stack
+finished_implied P g n count frozen both t stack lines r (inl h) e a s =
+    subst (λ (st : List Clause). SatisfiesAll a st) (sym h.1)
+    ((r.becomes.continues.reduces P r.reduces).implied (r.becomes.continues.both ∙ r.saves ∙ e) a s)
+finished_implied P g n count frozen both t stack lines r (inr h) e a s = subst (λ (st : List Clause). SatisfiesAll a st) (sym h.1) (λ c m. absurd m)
 
 -- the clauses that were loaded are among those of the state
-pub reduced_room : (P : List Clause) (n count : ℕ) (frozen : List Bool) (t : DatabaseState) → IsReduced P n frozen count t → count ≤ length t.clauses
-reduced_room P n count frozen t r =
+pub reduced_room : (P : List Clause) (n count : ℕ) (frozen : List Bool) (both : Bool) (t : DatabaseState) → IsReduced P n frozen both count t → count ≤ length t.clauses
+reduced_room P n count frozen both t r =
     let more = r.becomes.continues.more in
     let e = ap length more.1 ∙ length-append r.loaded.clauses more.0 in let w = r.whole in omega (arith, e, w)
 

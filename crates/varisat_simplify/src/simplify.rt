@@ -1,4 +1,5 @@
 //! The simplification of a formula.
+ghost use Rattle.varisat_theory.specs.promises.Literals.{Assignment, SatisfiesAll};
 ghost use Rattle.std.specs.Prelude.{◌≡◌, ◌⊎◌, ℕ, ◌-◌, ◌/◌, ◌<◌, ◌≤◌, ◌^◌, true, min, length, take, OnOk, IfOk, IfErr, IsTrue};
 ghost use Rattle.varisat_formula.specs.declared.formula.cnf.FormulaError.TheVariants.{Memory};
 ghost use Rattle.varisat_formula.specs.promises.Formulas.{AllBelow, AreBelow};
@@ -25,11 +26,44 @@ use varisat_rules::stack::extend;
 /// How often the variables are gone through at most.
 const MOST_ROUNDS: usize = 20;
 
-/// How many pairs of clauses are compared at most, and one more for each literal of the formula.
-const MOST_COMPARISONS: u64 = 5_000_000;
+/// Into how many parts the variables of a round are cut, each of at least `LEAST_PART` variables.
+const MOST_PARTS: usize = 16;
 
-/// How many pairs of clauses are resolved at most, and four more for each literal of the formula.
-const MOST_RESOLVENTS: u64 = 1_000_000;
+const LEAST_PART: usize = 512;
+
+/// How much work a simplification may take.
+#[derive(Clone, Copy)]
+pub struct Limits {
+    /// How many pairs of clauses are compared at most.
+    pub comparisons: u64,
+    /// How many pairs of clauses are resolved at most.
+    pub resolvents: u64,
+    /// Whether the simplification ends once it eliminates variables and no literal less is left.
+    pub ends_without_gain: bool,
+}
+
+impl Limits {
+    /// The limits for a formula of so many literals that is searched once.
+    pub fn of_formula(literals: usize) -> Limits {
+        let size = literals as u64;
+        Limits {
+            comparisons: size.saturating_add(5_000_000),
+            resolvents: size.saturating_mul(4).saturating_add(1_000_000),
+            ends_without_gain: false,
+        }
+    }
+
+    /// The limits for a batch of so many literals, of which many may come: all simplifications together take no longer
+    /// than the literals of all batches allow.
+    pub fn of_batch(literals: usize) -> Limits {
+        let size = literals as u64;
+        Limits {
+            comparisons: size.saturating_mul(8).saturating_add(10_000),
+            resolvents: size.saturating_mul(4).saturating_add(10_000),
+            ends_without_gain: true,
+        }
+    }
+}
 
 /// A simplified formula, with what extends its models.
 #[derive(Drop)]
@@ -98,8 +132,8 @@ fn load<A: Allocator + Copy>(
     formula: &CnfFormula<A>,
     literals: &mut Vec<Lit, A>,
 ) -> Result<(), AllocError>
-    requires { db.old ≡ no_clauses db.old.var_count db.old.frozen }
-    ensures { OnOk result (IsLoaded formula.now.clauses db.old.var_count db.old.frozen db.new) }
+    requires { db.old ≡ no_clauses db.old.var_count db.old.frozen db.old.saves_both }
+    ensures { OnOk result (IsLoaded formula.now.clauses db.old.var_count db.old.frozen db.old.saves_both db.new) }
 {
     db.reserve_for(formula)?;
     for clause in formula.iter() {
@@ -156,8 +190,7 @@ fn eliminate_all<A: Allocator + Copy>(
     db: &mut Database<A>,
     order: &[u64],
     first: usize,
-    comparisons: &mut u64,
-    resolvents: &mut u64,
+    limits: &mut Limits,
     scratch: &mut Scratch<A>,
 ) -> Result<usize, AllocError>
     ensures { OnOk result (IsLaterState db.old db.new) }
@@ -165,31 +198,64 @@ fn eliminate_all<A: Allocator + Copy>(
     let mut place = first;
     for key in order {
         let var = Var::from_index((*key % 0x8000_0000) as usize);
-        if eliminate(db, var, resolvents, scratch)? {
-            place = subsume_from(db, place, comparisons, &mut scratch.literals)?;
+        if eliminate(db, var, &mut limits.resolvents, scratch)? {
+            place = subsume_from(db, place, &mut limits.comparisons, &mut scratch.literals)?;
         }
     }
     Ok(place)
 }
 
-/// Simplifies until nothing changes, or for so many rounds, or until the work is spent that `size` literals allow.
+/// Tries the variables in parts, and returns the place of the first clause that was not used on others; or none, if a
+/// part took no literal away and the limits say that this is the end.
+fn eliminate_in_parts<A: Allocator + Copy>(
+    db: &mut Database<A>,
+    order: &[u64],
+    first: usize,
+    limits: &mut Limits,
+    scratch: &mut Scratch<A>,
+) -> Result<Option<usize>, AllocError>
+    ensures { OnOk result (IsLaterState db.old db.new) }
+{
+    let length = (order.len() / MOST_PARTS).max(LEAST_PART);
+    let mut place = first;
+    let mut start: usize = 0;
+    let mut before = live_literals(db);
+    for _ in 0..MOST_PARTS + 1 {
+        if start >= order.len() {
+            return Ok(Some(place));
+        }
+        let end = start.saturating_add(length).min(order.len());
+        place = eliminate_all(db, &order[start..end], place, limits, scratch)?;
+        let left = live_literals(db);
+        if limits.ends_without_gain && left >= before {
+            return Ok(None);
+        }
+        before = left;
+        start = end;
+    }
+    Ok(Some(place))
+}
+
+/// Simplifies until nothing changes, or for so many rounds, or until the work is spent that the limits allow.
 fn run<A: Allocator + Copy>(
     db: &mut Database<A>,
-    size: u64,
+    limits: &mut Limits,
     order: &mut Vec<u64, A>,
     scratch: &mut Scratch<A>,
 ) -> Result<(), AllocError>
     ensures { OnOk result (IsLaterState db.old db.new) }
 {
-    let mut comparisons = size.saturating_add(MOST_COMPARISONS);
-    let mut resolvents = size.saturating_mul(4).saturating_add(MOST_RESOLVENTS);
-    let mut place = subsume_from(db, 0, &mut comparisons, &mut scratch.literals)?;
+    let mut place = subsume_from(db, 0, &mut limits.comparisons, &mut scratch.literals)?;
     for _ in 0..MOST_ROUNDS {
         candidates(db, order)?;
         if order.is_empty() {
             return Ok(());
         }
-        place = eliminate_all(db, order, place, &mut comparisons, &mut resolvents, scratch)?;
+        let part = eliminate_in_parts(db, order, place, limits, scratch)?;
+        let Some(next) = part else {
+            return Ok(());
+        };
+        place = next;
     }
     Ok(())
 }
@@ -232,20 +298,21 @@ fn reduce<A: Allocator + Copy>(
     alloc: A,
     db: &mut Database<A>,
     formula: CnfFormula<A>,
+    limits: &mut Limits,
     order: &mut Vec<u64, A>,
     scratch: &mut Scratch<A>,
 ) -> Result<usize, AllocError>
-    requires empty { db.old ≡ no_clauses db.old.var_count db.old.frozen }
-    ensures reduced { IfOk result (λ count. IsReduced formula.clauses db.old.var_count db.old.frozen count db.new) }
+    requires empty { db.old ≡ no_clauses db.old.var_count db.old.frozen db.old.saves_both }
+    ensures reduced { IfOk result (λ count.
+        IsReduced formula.clauses db.old.var_count db.old.frozen db.old.saves_both count db.new) }
     ensures room { IfOk result (λ count. count ≤ length db.new.clauses) }
 {
     load(db, &formula, &mut scratch.literals)?;
     drop(formula);
     let count = db.len();
-    let size = db.literal_count() as u64;
     propagate(db, alloc, &mut scratch.literals)?;
     db.list_all()?;
-    run(db, size, order, scratch)?;
+    run(db, limits, order, scratch)?;
     db.unlist();
     Ok(count)
 }
@@ -355,16 +422,40 @@ pub fn simplify<A: Allocator + Copy>(
         SameClauses s.formula.clauses formula.clauses ⊎ IsShorter s.formula.clauses formula.clauses) }
     ensures memory { IfErr result (λ e. e ≡ Memory) }
 {
+    let limits = Limits::of_formula(literals_in(&formula));
+    let made = simplify_with(alloc, formula, frozen, limits, false)?;
+    Ok(made)
+}
+
+/// Makes what `simplify` makes, within these limits. Where `saves_both` is true, the stack has the clauses with either
+/// literal of an eliminated variable, so that the variable can be restored with them: what satisfies the given formula
+/// satisfies the stack. Where it is false, the stack is shorter.
+pub fn simplify_with<A: Allocator + Copy>(
+    alloc: A,
+    formula: CnfFormula<A>,
+    frozen: &[bool],
+    limits: Limits,
+    saves_both: bool,
+) -> Result<Simplified<A>, FormulaError>
+    ensures made { IfOk result (λ s. IsMadeOf formula s.formula s.stack s.history.lines) }
+    ensures frozen { IfOk result (λ s. KeepsFrozen frozen.now s.stack) }
+    ensures shorter { IfOk result (λ s.
+        SameClauses s.formula.clauses formula.clauses ⊎ IsShorter s.formula.clauses formula.clauses) }
+    ensures implied { saves_both ≡ true → IfOk result (λ s.
+        (a : Assignment) → SatisfiesAll a formula.clauses → SatisfiesAll a s.stack) }
+    ensures memory { IfErr result (λ e. e ≡ Memory) }
+{
     let count = named_count(&formula);
     let names = ShortNames::of_formula(alloc, &formula, count, literals_in(&formula))?;
-    let mut db = Database::new_in(alloc, count, frozen, names)?;
+    let mut db = Database::new_in(alloc, count, frozen, saves_both, names)?;
     let mut scratch = Scratch {
         literals: Vec::new(alloc),
         with: Vec::new(alloc),
         against: Vec::new(alloc),
     };
     let mut order = Vec::new(alloc);
-    let given = reduce(alloc, &mut db, formula, &mut order, &mut scratch)?;
+    let mut left = limits;
+    let given = reduce(alloc, &mut db, formula, &mut left, &mut order, &mut scratch)?;
     drop(order);
     drop(scratch);
     let made = finish(alloc, db, given)?;

@@ -1,5 +1,5 @@
 -- What a client holds, and what of the calls and answers so far it stands for.
-use Rattle.std.specs.Prelude.{◌≡◌, ℕ, ◌<◌, ◌≤◌, Bool, true, false, Option, Some, None, List, length, map}
+use Rattle.std.specs.Prelude.{◌≡◌, ◌⊎◌, ℕ, ◌<◌, ◌≤◌, Bool, true, false, Option, Some, None, List, [], ◌++◌, length, map}
 use Rattle.varisat_theory.specs.promises.Membership.{◌∈◌, ◌⊆◌, IsDistinct}
 use Rattle.varisat_theory.specs.promises.Literals.{Literal, Clause, variable_of, IsSatisfiable, IsFailedCore}
 use Rattle.varisat_theory.specs.promises.CallBounds.{AreFew}
@@ -12,6 +12,9 @@ use Rattle.varisat_solver.specs.promises.Calls.{with_update}
 use Rattle.varisat_names.specs.promises.Settings.{no_update}
 use Rattle.varisat_names.specs.declared.config.SolverConfigUpdate.{SolverConfigUpdate}
 use Rattle.varisat_solver.specs.inside.Representations.{Represents}
+use Rattle.varisat_formula.specs.promises.Values.{literals_from, model_values}
+use Rattle.varisat_rules.specs.promises.Stacks.{extended}
+use Rattle.varisat_incremental.specs.Reconstructions.{Reconstruction, HasTaken, KeepsValues}
 use Rattle.varisat_client.specs.inside.LiteralSets.{IsSetOf}
 use Rattle.varisat_client.specs.promises.Pasts.{ClientPast, IsUpToCounted}
 use Rattle.varisat_client.specs.declared.client.SearchEnd.{SearchEnd}
@@ -27,12 +30,19 @@ client_update = record no_update { reduce_locals_interval = Some 2000; luby_rest
 abbrev pub first_state : State
 first_state = with_update client_update (new_state false)
 
--- What the solver holds; the clause that is being given, and the assumptions for the next search; the literals of the
--- last model and of the last core, as sets; why a call was refused, if one was.
+-- What the solver holds; the clauses that it was not given yet; what was eliminated; whether a clause ended or a search
+-- was begun since the solver was given all; how many variables there are up to the highest that is counted; the clause
+-- that is being given; the assumptions for the next search, and those of the search that was begun last; the literals of
+-- the last model and of the last core, as sets; why a call was refused, if one was.
 pub record Client : Type 0 where
   pub solver : Summary
+  pub pending : List Clause
+  pub reconstruction : Reconstruction
+  pub is_changed : Bool
+  pub var_count : ℕ
   pub clause : List Literal
   pub assumptions : List Literal
+  pub assumed : List Literal
   pub model : List Bool
   pub core : List Bool
   pub refusal : Option Refusal
@@ -76,15 +86,46 @@ pub record MadeFewSince (s : State) (since : ℕ) : Type 0 where
   pub same : s.ledger.since ≡ since
   pub few : AreFew (length s.counted) since
 
+-- The variables of the clauses P and of the assumptions A are among those that are counted, and n variables reach up to
+-- the highest of these.
+pub record CountsUpTo (n : ℕ) (P : List Clause) (A : List Literal) (counted : List ℕ) : Type 0 where
+  pub named : (c : Clause) (l : Literal) → c ∈ P → l ∈ c → variable_of l ∈ counted
+  pub assumed : (l : Literal) → l ∈ A → variable_of l ∈ counted
+  pub below : (u : ℕ) → u ∈ counted → u < n
+  pub up_to : (u : ℕ) → u < n → IsUpToCounted counted u
+  pub small : n ≤ variable_limit
+
+-- Of the clauses P some are pending. The others were taken, and the solver was given some clauses for them.
+pub record HasGiven (pending : List Clause) (r : Reconstruction) (P : List Clause) (A : List Literal)
+    (made most : ℕ) (counted : List ℕ) (s : State) : Type 0 where
+  pub taken : List Clause
+  pub given : List Clause
+  pub known : List ℕ
+  pub whole : P ≡ taken ++ pending
+  pub reduced : HasTaken taken given r
+  pub fits : WasGiven s given A made most
+  pub among : CountsAmong s known
+  pub within : known ⊆ counted
+
+-- Where something changed since the last search no step was made since; else nothing is pending, and no extension
+-- changes the assumptions.
+pub record IsSettled (is_changed : Bool) (pending : List Clause) (r : Reconstruction) (A : List Literal) (since : ℕ)
+    (s : State) : Type 0 where
+  pub fresh : is_changed ≡ true → since ≡ 0
+  pub made : is_changed ≡ false → MadeFewSince s since
+  pub all : is_changed ≡ false → pending ≡ []
+  pub keeps : is_changed ≡ false → KeepsValues A r.stack
+
 -- What is held stands for the past, where no call was refused.
 pub record HoldsPast (g : Client) (p : ClientPast) : Type 0 where
   pub state : State
   pub stands : Represents g.solver state
-  pub fits : WasGiven state p.clauses p.assumed p.steps p.limit
-  pub counted : CountsAmong state p.counted
-  pub since : MadeFewSince state p.since
+  pub gave : HasGiven g.pending g.reconstruction p.clauses p.assumed p.steps p.limit p.counted state
+  pub settled : IsSettled g.is_changed g.pending g.reconstruction p.assumed p.since state
+  pub counts : CountsUpTo g.var_count p.clauses p.assumed p.counted
   pub clause : g.clause ≡ p.clause
   pub assumptions : g.assumptions ≡ p.assumptions
+  pub assumed : g.assumed ≡ p.assumed
   pub model : IsSetOfModel p.model g
   pub core : IsSetOfCore p.core g
 
@@ -103,17 +144,28 @@ IsTrueOfPast P g = (p : ClientPast) → RepresentsPast g p → P p
 abbrev pub Moves : (ClientPast → ClientPast → Type 0) → Client → Client → Type 0
 Moves R g h = (p : ClientPast) → RepresentsPast g p → (q : ClientPast) × R p q × RepresentsPast h q
 
+-- The solver is given what it is to have for the next search, and the past is the same; or a call is refused.
+pub data GivesPending (g h : Client) : Type 0 where
+  Given : h.refusal ≡ None → h.is_changed ≡ false → ((p : ClientPast) → HoldsPast g p → HoldsPast h p) →
+      GivesPending g h
+  OutOfRoom : (why : Refusal) → h.refusal ≡ Some why →
+      (why ≡ OutOfMemory) ⊎ ((why ≡ ClauseStoreFull) × HasFullStore h.solver) → GivesPending g h
+
+-- the literals that are true in the extension of a model of the solver's clauses
+abbrev pub model_of_all : Client → List Literal → List Literal
+model_of_all g m = literals_from 0 (extended g.reconstruction.stack (model_values g.var_count m))
+
 -- memory ran out
 pub record RunsOutOfMemory (r : SearchEnd) (h : Client) : Type 0 where
   pub answer : r ≡ end.Refused
   pub refusal : h.refusal ≡ Some OutOfMemory
 
--- The model is kept that the solver returns, or memory ran out.
+-- The extension is kept of the model that the solver returns, or memory ran out.
 pub data KeepsModel (r : SearchEnd) (g h : Client) : Type 0 where
   Refused : RunsOutOfMemory r h → KeepsModel r g h
   Kept : (m : List Literal) → r ≡ end.Satisfiable →
       ((s : State) → Represents g.solver s → IsCompletable s.naming s.clauses s.assumptions s.counted m) →
-      IsSetOfModel m h → h ≡ record g { model = h.model } → KeepsModel r g h
+      IsSetOfModel (model_of_all g m) h → h ≡ record g { model = h.model } → KeepsModel r g h
 
 -- The core is kept that the solver returns, or memory ran out.
 pub data KeepsCore (r : SearchEnd) (g h : Client) : Type 0 where

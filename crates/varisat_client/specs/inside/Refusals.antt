@@ -9,3 +9,8 @@ abbrev pub refusal_for : SolverError → Refusal
 refusal_for error.VariableLimit = VariableLimit
 refusal_for error.ClauseStoreFull = ClauseStoreFull
 refusal_for _ = OutOfMemory
+
+-- the same where no variable is past the limit
+abbrev pub store_refusal_for : SolverError → Refusal
+store_refusal_for error.ClauseStoreFull = ClauseStoreFull
+store_refusal_for _ = OutOfMemory

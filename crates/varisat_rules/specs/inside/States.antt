@@ -47,6 +47,9 @@ pub record DerivesFrom (P : List Clause) (s : DatabaseState) : Type 0 where
   pub spoken : SpeakOf (IsNamedBy P) s.lines
   -- no variable of the stack is new
   pub saved : HasVariablesOf P s.stack
+  -- what satisfies them satisfies each clause, live or not, and the stack if clauses of both signs are saved
+  pub entailed : (a : Assignment) → SatisfiesAll a P → SatisfiesAll a s.clauses
+  pub implied : s.saves_both ≡ true → (a : Assignment) → SatisfiesAll a P → SatisfiesAll a s.stack
   -- the stack changes no frozen variable
   pub thawed : (c : Clause) → c ∈ s.stack → avoids s.frozen c ≡ true
 
@@ -69,6 +72,7 @@ pub record Continues (s t : DatabaseState) : Type 0 where
   pub more : (rest : List Clause) × (t.clauses ≡ s.clauses ++ rest)
   pub count : t.var_count ≡ s.var_count
   pub frozen : t.frozen ≡ s.frozen
+  pub both : t.saves_both ≡ s.saves_both
   pub reduces : (P : List Clause) → DerivesFrom P s → DerivesFrom P t
   -- no variable comes back
   pub gone : (v : ℕ) → IsGone s v → IsGone t v
@@ -126,6 +130,7 @@ pub record SavesClauses (s t : DatabaseState) (l : Literal) (w g : List ℕ) (x 
 pub record Drops (s t : DatabaseState) (m : Literal) (places : List ℕ) (x : ℕ) : Type 0 where
   pub count : t.var_count ≡ s.var_count
   pub frozen : t.frozen ≡ s.frozen
+  pub both : t.saves_both ≡ s.saves_both
   pub same : t.clauses ≡ s.clauses
   pub stack : t.stack ≡ s.stack ++ (m ∷ []) ∷ []
   pub even : length t.live ≡ length s.live

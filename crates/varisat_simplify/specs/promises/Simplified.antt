@@ -24,7 +24,7 @@ abbrev pub IsShorter : List Clause → List Clause → Type 0
 IsShorter Q P = literal_count Q ≤ literal_count P - literal_count P / 20
 
 -- The clauses P were loaded, so many of them, and the state was made of that.
-pub record IsReduced (P : List Clause) (n : ℕ) (frozen : List Bool) (count : ℕ) (t : DatabaseState) : Type 0 where
+pub record IsReduced (P : List Clause) (n : ℕ) (frozen : List Bool) (both : Bool) (count : ℕ) (t : DatabaseState) : Type 0 where
   pub loaded : DatabaseState
   pub reduces : DerivesFrom P loaded
   pub same : SameClauses loaded.clauses P
@@ -33,6 +33,7 @@ pub record IsReduced (P : List Clause) (n : ℕ) (frozen : List Bool) (count : �
   pub becomes : IsLaterState loaded t
   pub vars : loaded.var_count ≡ n
   pub flags : loaded.frozen ≡ frozen
+  pub saves : loaded.saves_both ≡ both
   pub whole : count ≡ length loaded.clauses
 
 -- What is handed out is what is live, where that is shorter than the first clauses, or these as they are.

@@ -239,7 +239,7 @@ const FAILED: [i32; 2] = [20, 0];
 
 #[test]
 fn memory_that_runs_out_is_told(rt: HostRuntime) {
-    for room in 0..200 {
+    for room in 0..800 {
         let outcome = outcome_with(rt.alloc(), room);
         assert!(rt;
             outcome.is_ok_and(|ends| ends == REFUSED || ends == FAILED),
@@ -247,5 +247,5 @@ fn memory_that_runs_out_is_told(rt: HostRuntime) {
         );
     }
     assert!(rt; outcome_with(rt.alloc(), 0).is_ok_and(|ends| ends == REFUSED));
-    assert!(rt; outcome_with(rt.alloc(), 200).is_ok_and(|ends| ends == FAILED));
+    assert!(rt; outcome_with(rt.alloc(), 800).is_ok_and(|ends| ends == FAILED));
 }

@@ -14,7 +14,7 @@ loop-place-preserved g c =
 
 pub returns-clause-becomes : goal.returns-clause-becomes
 returns-clause-becomes g c =
-    drops_end c.args.db.now c.loop-place.db c.args.lit c.args.places.now c.loop-place.place-index c.requires.small c.requires.thawed c.requires.occurs c.requires.pure
+    drops_end c.args.db.now c.loop-place.db c.args.lit c.args.places.now c.loop-place.place-index c.requires.small c.requires.thawed c.requires.one c.requires.occurs c.requires.pure
     c.loop-place.invariant
 
 pub returns-clause-led : goal.returns-clause-led

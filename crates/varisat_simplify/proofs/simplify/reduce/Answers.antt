@@ -18,9 +18,10 @@ returns-clause-reduced g c =
           (c.in_ok-run.ensures {u = tt})) c.unlist.ensures;
       vars = r.count;
       flags = r.flags;
+      saves = r.saves;
       whole = c.len-count.ensures.count;
     }
 
 pub returns-clause-room : goal.returns-clause-room
 returns-clause-room g c =
-    reduced_room c.args.formula.clauses c.args.db.now.var_count c.len-count.result c.args.db.now.frozen c.unlist.new.self (returns-clause-reduced g c)
+    reduced_room c.args.formula.clauses c.args.db.now.var_count c.len-count.result c.args.db.now.frozen c.args.db.now.saves_both c.unlist.new.self (returns-clause-reduced g c)

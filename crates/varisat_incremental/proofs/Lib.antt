@@ -1,0 +1,3 @@
+pub mod FlagLemmas
+pub mod StackLemmas
+pub mod TakingLemmas

@@ -1,0 +1,5 @@
+//! Simplification of clauses that go on growing: variables are eliminated from them, and come back once they are named.
+#![tactic(auto)]
+
+pub mod flags;
+pub mod reconstruction;

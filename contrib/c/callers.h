@@ -46,6 +46,11 @@ void client_close(struct handle *);
 void client_add(struct handle *, int32_t number);
 void client_assume(struct handle *, int32_t number);
 void client_limit_steps(struct handle *, uint64_t steps);
+/* 0 literals simplify nothing. */
+void client_simplify_from(struct handle *, uint32_t literals);
+void client_freeze(struct handle *, int32_t number);
+void client_melt(struct handle *, int32_t number);
+uint64_t client_eliminations(struct handle *, bool restored);
 void client_begin(struct handle *);
 uint8_t client_search(struct handle *);
 int32_t client_value(struct handle *, int32_t number);

@@ -3,6 +3,7 @@
 #include "../ipasir/ipasir.h"
 
 #include <stdlib.h>
+#include <string.h>
 
 #include "callers.h"
 #include "varisat.h"
@@ -37,11 +38,25 @@ const char *ipasir_signature(void) {
     return varisat_version();
 }
 
+/* VARISAT_SIMPLIFY is how many literals a batch of clauses has at least that is simplified, or 0 to simplify none. Another text than
+ * such a number changes nothing. */
+static void set_by_environment(struct handle *handle) {
+    const char *text = getenv("VARISAT_SIMPLIFY");
+    if (!text || *text < '0' || *text > '9')
+        return;
+    char *end;
+    unsigned long number = strtoul(text, &end, 10);
+    if (*end == '\0' && number <= UINT32_MAX)
+        client_simplify_from(handle, (uint32_t)number);
+}
+
 void *ipasir_init(void) {
     struct client *client = enter(calloc(1, sizeof *client));
     if (!client)
         return NULL;
     bool is_open = client_open(&client->handle);
+    if (is_open)
+        set_by_environment(&client->handle);
     leave(client);
     if (is_open)
         return client;
@@ -107,6 +122,31 @@ void ipasir_set_terminate(void *solver, void *data, int (*terminate)(void *data)
 
 void ipasir_set_learn(void *solver, void *data, int max_length, void (*learn)(void *data, int32_t *clause)) {
     (void)solver, (void)data, (void)max_length, (void)learn;
+}
+
+int varisat_ipasir_set(void *solver, const char *name, int value) {
+    struct client *client = enter(solver);
+    if (!client)
+        return 0;
+    bool is_known = name && strcmp(name, "simplify") == 0 && value >= 0;
+    if (is_known)
+        client_simplify_from(&client->handle, (uint32_t)value);
+    leave(client);
+    return is_known;
+}
+
+void varisat_ipasir_freeze(void *solver, int32_t number) { give(solver, client_freeze, number); }
+void varisat_ipasir_melt(void *solver, int32_t number) { give(solver, client_melt, number); }
+
+int64_t varisat_ipasir_counter(void *solver, const char *name) {
+    struct client *client = solver;
+    if (!client || !name)
+        return -1;
+    bool is_restored = strcmp(name, "restored") == 0;
+    if (!is_restored && strcmp(name, "eliminated") != 0)
+        return -1;
+    uint64_t count = client_eliminations(&client->handle, is_restored);
+    return count > INT64_MAX ? INT64_MAX : (int64_t)count;
 }
 
 int varisat_ipasir_error(void *solver) {

@@ -223,6 +223,21 @@ int varisat_simplifier_extend(varisat_simplifier *simplifier, const int32_t *mod
  * some call on: an error above, or 0. */
 int varisat_ipasir_error(void *solver);
 
+/* Simplification inside the calls of ipasir.h. The clauses that were given since the last ipasir_solve are simplified by the next one if
+ * they have enough literals. No answer depends on it. */
+
+/* Changes a setting of that solver: 1, or 0 if the name or the value is none. "simplify" is how many literals the clauses have at least
+ * that are simplified: 1000 at first, and 0 simplifies none. The environment's variable VARISAT_SIMPLIFY sets it for each new solver. */
+int varisat_ipasir_set(void *solver, const char *name, int value);
+
+/* Hints that later clauses or assumptions name the variable, and takes the hint back. Such a variable is not eliminated, which saves
+ * restoring it. */
+void varisat_ipasir_freeze(void *solver, int32_t number);
+void varisat_ipasir_melt(void *solver, int32_t number);
+
+/* How many variables were "eliminated" so far, or "restored", or -1 if the name is another. */
+int64_t varisat_ipasir_counter(void *solver, const char *name);
+
 #ifdef __cplusplus
 }
 #endif

@@ -85,6 +85,36 @@ static void unfinished_clauses(void) {
     ipasir_release(solver);
 }
 
+/* Names and values of settings, hints and counters that are none. */
+static void settings(void) {
+    void *solver = ipasir_init();
+    CHECK(varisat_ipasir_set(solver, "simplify", 0) == 1 && varisat_ipasir_set(solver, "simplify", INT_MAX) == 1);
+    CHECK(varisat_ipasir_set(solver, "simplify", -1) == 0 && varisat_ipasir_set(solver, "other", 1) == 0);
+    CHECK(varisat_ipasir_set(solver, NULL, 1) == 0 && varisat_ipasir_set(NULL, "simplify", 1) == 0);
+    CHECK(varisat_ipasir_counter(solver, "other") == -1 && varisat_ipasir_counter(solver, NULL) == -1);
+    CHECK(varisat_ipasir_counter(NULL, "eliminated") == -1);
+    CHECK(varisat_ipasir_counter(solver, "eliminated") == 0 && varisat_ipasir_counter(solver, "restored") == 0);
+    for (int i = 0; i < BEYOND; i++)
+        varisat_ipasir_freeze(solver, beyond[i]), varisat_ipasir_melt(solver, beyond[i]);
+    varisat_ipasir_freeze(solver, 0), varisat_ipasir_melt(solver, 0), varisat_ipasir_melt(solver, 7);
+    varisat_ipasir_freeze(NULL, 1), varisat_ipasir_melt(NULL, 1);
+    CHECK(varisat_ipasir_error(solver) == 0);
+    /* A frozen variable is not eliminated; without the hint it is. */
+    for (int frozen = 1; frozen >= 0; frozen--) {
+        void *client = ipasir_init();
+        CHECK(varisat_ipasir_set(client, "simplify", 1) == 1);
+        varisat_ipasir_freeze(client, 1);
+        if (!frozen)
+            varisat_ipasir_melt(client, -1);
+        add_clause(client, (int[]){1, 2}, 2);
+        varisat_ipasir_freeze(client, 2);
+        CHECK(ipasir_solve(client) == 10);
+        CHECK(varisat_ipasir_counter(client, "eliminated") == !frozen);
+        ipasir_release(client);
+    }
+    ipasir_release(solver);
+}
+
 static void without_a_solver(void) {
     ipasir_add(NULL, 1);
     ipasir_assume(NULL, 1);
@@ -130,6 +160,7 @@ int main(void) {
     past_in_assumptions();
     asked_early_and_late();
     unfinished_clauses();
+    settings();
     without_a_solver();
     called_from_within();
     printf("numbers out of range and calls out of turn: all right\n");

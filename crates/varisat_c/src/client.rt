@@ -68,6 +68,65 @@ pub extern "C" fn client_limit_steps(alloc: Global, handle: &mut ClientHandle, s
     handle.put(alloc, client);
 }
 
+/// Sets how many literals the clauses have at least that were given since the last search, for the next one to simplify
+/// them first. 0 simplifies none.
+#[unsafe(no_mangle)]
+pub extern "C" fn client_simplify_from(alloc: Global, handle: &mut ClientHandle, literals: u32)
+    requires { IsSome handle.old.held }
+    ensures { handle.new.held ≡ handle.old.held }
+{
+    let mut client = handle.take(alloc);
+    let least = if literals == 0 {
+        usize::MAX
+    } else {
+        literals as usize
+    };
+    client.simplify_from(least);
+    handle.put(alloc, client);
+}
+
+/// Hints that later calls name the variable of the number.
+#[unsafe(no_mangle)]
+pub extern "C" fn client_freeze(alloc: Global, handle: &mut ClientHandle, number: i32)
+    requires { IsSome handle.old.held }
+    ensures { handle.new.held ≡ handle.old.held }
+{
+    let mut client = handle.take(alloc);
+    client.freeze(number);
+    handle.put(alloc, client);
+}
+
+/// Takes the hint back.
+#[unsafe(no_mangle)]
+pub extern "C" fn client_melt(alloc: Global, handle: &mut ClientHandle, number: i32)
+    requires { IsSome handle.old.held }
+    ensures { handle.new.held ≡ handle.old.held }
+{
+    let mut client = handle.take(alloc);
+    client.melt(number);
+    handle.put(alloc, client);
+}
+
+/// How many variables simplifications eliminated so far, or restored if `restored` is true.
+#[unsafe(no_mangle)]
+pub extern "C" fn client_eliminations(
+    alloc: Global,
+    handle: &mut ClientHandle,
+    restored: bool,
+) -> u64
+    requires { IsSome handle.old.held }
+    ensures { handle.new.held ≡ handle.old.held }
+{
+    let client = handle.take(alloc);
+    let count = if restored {
+        client.restorations()
+    } else {
+        client.eliminations()
+    };
+    handle.put(alloc, client);
+    count
+}
+
 /// Begins a search under the assumptions that were given.
 #[unsafe(no_mangle)]
 pub extern "C" fn client_begin(alloc: Global, handle: &mut ClientHandle)

@@ -38,6 +38,18 @@ pub enum SearchEnd {
     Refused,
 }
 
+/// The literal of a hint. None if no clause may name it.
+fn hint_for(number: i32) -> Option<Lit> {
+    if number == 0 {
+        return None;
+    }
+    let lit = literal_of(number);
+    if lit.index() >= MOST_VARIABLES {
+        return None;
+    }
+    Some(lit)
+}
+
 /// A new solver with the settings of a client. It takes no memory.
 fn new_solver<A: Allocator + Copy>(alloc: A) -> Solver<MemoryTarget<A>, A>
     ensures { Represents result first_state }
@@ -199,6 +211,45 @@ impl<A: Allocator + Copy> Client<A> {
         if let Err(error) = self.solver.config(&update) {
             self.refusal = Some(refusal_for(&error));
         }
+    }
+
+    /// Sets how many literals the clauses have at least that were given since the last search, for the next one to
+    /// simplify them first: 1,000 at first. The greatest number simplifies none. No answer depends on it.
+    pub fn simplify_from(&mut self, literals: usize)
+        ensures { self.new ≡ self.old }
+    {
+        self.reconstruction.simplify_from(literals);
+    }
+
+    /// Hints that later clauses or assumptions name the variable of the number: until `melt` it is not eliminated, which
+    /// saves restoring it. No answer depends on it. A number past the limit of variables changes nothing.
+    pub fn freeze(&mut self, number: i32)
+        ensures { self.new ≡ self.old }
+    {
+        let Some(lit) = hint_for(number) else {
+            return;
+        };
+        self.reconstruction.freeze(lit);
+    }
+
+    /// Takes back the hint of `freeze`. A variable stays if the solver has it already.
+    pub fn melt(&mut self, number: i32)
+        ensures { self.new ≡ self.old }
+    {
+        let Some(lit) = hint_for(number) else {
+            return;
+        };
+        self.reconstruction.melt(lit);
+    }
+
+    /// How many variables simplifications eliminated so far.
+    pub fn eliminations(&self) -> u64 {
+        self.reconstruction.eliminations()
+    }
+
+    /// How many of them were restored so far.
+    pub fn restorations(&self) -> u64 {
+        self.reconstruction.restorations()
     }
 
     /// How many steps all searches made together, as long as no call was refused.

@@ -7,7 +7,7 @@ _varisat() {
     *:solve:--max-steps | *:solve:--heap) return ;;
     *:solve:--proof) ;;
     2:solve:*) choices="--help" ;;
-    *:solve:*) choices="--proof --binary --marked --check --max-steps --heap --no-simplify --progress" ;;
+    *:solve:*) choices="--proof --binary --marked --check --max-steps --heap --simplify --no-simplify --progress" ;;
     2:check:*) choices="--help --drat" ;;
     *:check:*) choices="--binary --marked" ;;
     2:session:*) choices="--help" ;;

@@ -15,7 +15,7 @@ use Rattle.varisat_solver.specs.promises.Names.{Naming, Sample, Witness, name_on
 use Rattle.varisat_solver.specs.promises.Additions.{AddsAll, AddsList, AddsReading, AddsText, ReturnsFault, AllAdded, OneRefused, RefusedAtOnce, NoFault, MemoryFault, Fault, ClauseRefused, ClausesAdded, RefusedEarly, Read, Unread}
 use Rattle.varisat_solver.specs.promises.Usage.{ChangesVar, Observes}
 use Rattle.varisat_solver.specs.promises.Calls as state
-use Rattle.varisat_solver.specs.promises.Calls.{Verdicts, is_valid, IsValid, Invalidates, IsLikeButLeft, MayAccept, TakesOne, Ignored, Accepted, TakesAssumed, TakesList, MakesVar, RefusesNames, CountsIf, Decided, Searched, ReturnsVerdict, IsSpent, Solves, IsRefuted, ReturnsList, Configures, once_searched}
+use Rattle.varisat_solver.specs.promises.Calls.{Verdicts, is_valid, IsValid, Invalidates, IsLikeButLeft, MayAccept, TakesOne, Ignored, Accepted, TakesAssumed, TakesList, MakesVar, RefusesNames, CountsIf, Decided, Searched, ReturnsVerdict, IsSpent, Solves, IsRefuted, ReturnsList, Configures, with_max_steps, once_searched}
 use Rattle.varisat.specs.promises.Turns.{Makes}
 use Rattle.varisat.specs.declared.session.Call.{Call}
 use Rattle.varisat.specs.declared.session.Answer.{Answer}
@@ -54,6 +54,8 @@ pub data Effect {V : Type 0} (by : Verdicts V) : Known V → Known V → Type 0 
   -- the ledger does, or the open proof, and steps are counted anew
   CountedAnew : {s t : Known V} (l : Ledger) (o : Option OpenProof) → t ≡ record s { ledger = l; proof = o } → l.valid ≡ is_valid s →
       l.steps ≡ s.ledger.steps → l.since ≡ 0 → Effect by s t
+  -- only the limit of steps does, and they are counted on
+  Limited : {s t : Known V} (n : ℕ) → t ≡ with_max_steps n s → Effect by s t
   -- names do
   Named : {s t : Known V} {may_leave : Bool} (m : Naming) (hidden started : Bool) → IsValid s → (IsCapped s.naming → IsCapped m) →
       IsLikeButLeft may_leave (with_new_names m hidden started s) t → Effect by s t
@@ -93,6 +95,7 @@ module _ {V W : Type 0} (by : Verdicts V) (to : Verdicts W) where
   abbrev pub Follows : {s t : Known V} → Effect by s t → W → W → Type 0
   Follows (Unchanged {s} {t} e) v w = recast w t ≡ recast v s
   Follows (CountedAnew {s} {t} l o e valid steps since) v w = recast w t ≡ record (recast v s) { ledger = l; proof = o }
+  Follows (Limited {s} {t} n e) v w = recast w t ≡ with_max_steps n (recast v s)
   Follows (Named {s} {t} {may_leave} m hidden started c keeps e) v w =
       IsLikeButLeft may_leave (with_new_names m hidden started (recast v s)) (recast w t)
   Follows (Joined {s} {t} d c n a) v w = state.Accepts to (recast v s) d (recast w t)
@@ -304,6 +307,7 @@ module _ {V W : Type 0} (by : Verdicts V) (to : Verdicts W) where
   effect-of seen taken call.Model (answer.Model r) s t m = return-list (by.model s) to.model s t (returned_list r) (λ v k. k.model) m
   effect-of seen taken call.FailedCore (answer.FailedCore r) s t m = return-list (by.core s) to.core s t (returned_list r) (λ v k. k.core) m
   effect-of seen taken (call.Config u) (answer.Config r) s t m = config s t u r m
+  effect-of seen taken (call.SetMaxSteps n) answer.SetMaxSteps s t m = (Limited n m, λ v w k x. x)
   effect-of seen taken call.Steps (answer.Steps n) s t (h, e) = (Unchanged e, λ v w k x. (h, x))
   effect-of seen taken call.StepsSinceChange (answer.StepsSinceChange n) s t (h, few, e) = (Unchanged e, λ v w k x. (h, few, x))
   effect-of seen taken call.IsValid (answer.IsValid b) s t (h, e) = (Unchanged e, λ v w k x. (h, x))

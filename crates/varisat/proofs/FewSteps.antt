@@ -14,7 +14,7 @@ use Rattle.varisat.specs.declared.session.Answer.{Answer}
 use Rattle.varisat_solver.specs.declared.solver.SolverError.{SolverError}
 use Rattle.varisat_solver.specs.declared.solver.SolverError.TheVariants.{Interrupted}
 use Rattle.varisat_solver.proofs.calls.CallStates.{same-counted, same-ledger}
-use Rattle.varisat.proofs.Effects.{Effect, Unchanged, CountedAnew, Named, Joined, Listed, Answered, Spent, Broken, InTurn, effect-of}
+use Rattle.varisat.proofs.Effects.{Effect, Unchanged, CountedAnew, Limited, Named, Joined, Listed, Answered, Spent, Broken, InTurn, effect-of}
 
 none-is-few : (since n : ℕ) → since ≡ 0 → AreFew n since
 none-is-few since n e = subst (AreFew n) (sym e) (few_none n)
@@ -53,6 +53,7 @@ module _ {V : Type 0} (by : Verdicts V) where
   stays-few : (s t : Known V) → Effect by s t → HasFewSteps s → HasFewSteps t
   stays-few s t (Unchanged e) h = subst HasFewSteps (sym e) h
   stays-few s t (CountedAnew l o e valid steps since) h = begun t l (ap (λ (x : Known V). x.ledger) e) since
+  stays-few s t (Limited n e) h = subst HasFewSteps (sym e) h
   stays-few s t (Named m hidden started c keeps e) h = begun t _ (same-ledger e) refl
   stays-few s t (Joined d c n (w, after, e)) h = begun t _ (same-ledger e) refl
   stays-few s t (Listed list c e) h = begun t _ (same-ledger e) refl

@@ -12,7 +12,7 @@ use Rattle.varisat.specs.promises.Turns.{Makes}
 use Rattle.varisat.specs.promises.Runs.{MakesCall, Run}
 use Rattle.varisat.specs.promises.Pasts.{Findings, Past, IsPastJournal, empty_past, by_answers}
 use Rattle.varisat.specs.promises.Histories.{AreTrue}
-use Rattle.varisat.proofs.Effects.{Effect, Unchanged, CountedAnew, Named, Joined, Listed, Answered, Spent, Broken, InTurn, Says, Follows, HasEffect, with_new_names, effect-of}
+use Rattle.varisat.proofs.Effects.{Effect, Unchanged, CountedAnew, Limited, Named, Joined, Listed, Answered, Spent, Broken, InTurn, Says, Follows, HasEffect, with_new_names, effect-of}
 use Rattle.varisat.proofs.Pasts.{Knows, Agrees, past_of, stays, stays-but, like-past, knows-like, accepted, refuted, listed, assumed-list, claimed, may-return-model, may-return-core, new-agrees}
 use Rattle.varisat.proofs.SolvedPasts.{answered, solved, undecided, known-by, interrupted, spent, returned}
 use Rattle.varisat.proofs.RunsLogged.{call-within}
@@ -39,6 +39,7 @@ moves : (v : Findings) (s t : State) → Agrees v s → (e : Effect by_state s t
     (w : Findings) × Follows by_state by_answers e v w × Agrees w t
 moves v s t g (Unchanged e) = (v, ap (past_of v) e, stays v s t e g)
 moves v s t g (CountedAnew l o e valid steps since) = (v, ap (past_of v) e, stays-but v s t l o e (λ h. sym valid ∙ h) g)
+moves v s t g (Limited n e) = (v, ap (past_of v) e, stays-but v s t _ s.proof e (λ h. h) g)
 moves v s t g (Named m hidden started c keeps e) =
     (v, like-past v (with_new_names m hidden started s) t e, λ _. let k = g c in knows-like v s t m hidden _ e (keeps k.capped) k)
 moves v s t g (Joined d c n a) =

@@ -29,7 +29,7 @@ use Rattle.varisat_solver.specs.promises.Calls.{by_state, count_anew, with_updat
 use Rattle.varisat_solver.specs.promises.Additions.{NoFault, MemoryFault, Fault, ClauseRefused, ClausesAdded, RefusedEarly, Read, Unread}
 use Rattle.varisat.specs.promises.Pasts.{Findings, Past, empty_past, by_answers}
 use Rattle.varisat_solver.specs.promises.Budgets.{CountsSteps}
-use Rattle.varisat.specs.promises.Decided.{IsUpToHighest, IsModel, named_variables, allowed_steps, Conclusion, Decided, Unknown, IsConclusion, Decides, StatusIsTrue, conclusion_status}
+use Rattle.varisat.specs.promises.Decided.{IsUpToHighest, IsModel, named_variables, allowed_steps, StepsSpent, Conclusion, Decided, Unknown, IsConclusion, Decides, StatusIsTrue, conclusion_status}
 use Rattle.varisat_solver.specs.declared.solver.SolverError.{SolverError}
 use Rattle.varisat_solver.specs.declared.solver.SolverError.TheVariants.{Interrupted, Invalid, ConfigOutOfRange, ProofOpen, ProofTooLate}
 use Rattle.varisat_solver.proofs.calls.CallStates.{same-assumptions, same-clauses, same-counted, same-ledger, same-naming}
@@ -346,7 +346,7 @@ module _ (check : Bool) (proof : Option OpenProof) (limit : Option ℕ) (old new
         r.carries,
       )
 
-  found-unknown : (u : State) → state.Solves by_state t (Err Interrupted) u → Found Unknown
+  found-unknown : (u : State) → state.Solves by_state t (Err Interrupted) u → Found (Unknown StepsSpent)
   found-unknown u f =
       let (v, x, g) = text-taken in
       let q = past_of v t in
@@ -399,7 +399,7 @@ module _ (check : Bool) (proof : Option OpenProof) (limit : Option ℕ) (old new
           own-model P u.naming u.assumptions u.counted model (subst (AreInOrder (count-all 0 P)) (sym same) order) logged
 
   pub found : (c : Conclusion) (u : State) → Concludes t c u → Found c
-  found Unknown u f = found-unknown u f
+  found (Unknown StepsSpent) u f = found-unknown u f
   found (Decided None) u f = found-none u f
   found (Decided (Some model)) u (f, d) = found-model model u u f d
 
@@ -419,11 +419,11 @@ outcome-is-true max_steps old new outcome status d e = record {
     same text g = append_cancel_left old.given d.text text (sym d.reads.gave ∙ g)
 
     found : (o : Conclusion) → conclusion_status o ≡ 10 → IsConclusion max_steps (dimacs d.text).clauses o → IsSatisfiable (dimacs d.text).clauses
-    found Unknown h k = absurd (omega (arith, h))
+    found (Unknown reason) h k = absurd (omega (arith, h))
     found (Decided None) h k = absurd (omega (arith, h))
     found (Decided (Some m)) h k = (k.satisfied.0, k.satisfied.2)
 
     none : (o : Conclusion) → conclusion_status o ≡ 20 → IsConclusion max_steps (dimacs d.text).clauses o → IsSatisfiable (dimacs d.text).clauses → ⊥
-    none Unknown h k = absurd (omega (arith, h))
+    none (Unknown reason) h k = absurd (omega (arith, h))
     none (Decided None) h k = k
     none (Decided (Some m)) h k = absurd (omega (arith, h))

@@ -12,8 +12,7 @@ use Rattle.varisat_solver.specs.promises.ClauseCalls.{AddsDimacs}
 use Rattle.varisat_solver.specs.promises.Calls.{by_state, IsValid, IsRefuted, ReturnsVerdict}
 use Rattle.varisat_solver.specs.promises.Additions.{AddsAll, NoFault, MemoryFault, Fault, ClauseRefused, ClausesAdded, RefusedEarly, Read, Unread}
 use Rattle.varisat.specs.promises.Decided.{Conclusion, allowed_steps}
-use Rattle.varisat.specs.declared.deciding.SolveOptions.{SolveOptions}
-use Rattle.varisat.specs.promises.Proven.{Concludes, prepared, Reports, IsProven, IsProvenIf, DecidesProven, SpendsSteps, Fails, AsSearched, AsListed}
+use Rattle.varisat.specs.promises.Proven.{Concludes, prepared, Reports, IsProven, IsProvenIf, DecidesProven, Fails, AsSearched, AsListed}
 use Rattle.varisat_solver.proofs.calls.CallStates.{same-clauses, same-naming, same-assumptions, same-hidden, same-ledger}
 use Rattle.varisat.proofs.NameLaws.{stay-in-order, none-in-order}
 use Rattle.varisat.proofs.ProgramDecides.{done, Carries, prepared-begun, unsearched, found}
@@ -108,7 +107,7 @@ first-of-text n s t old new o (Unread e k f) = absurd cc
 
 -- Where they are known to be unsatisfiable no other conclusion is found.
 pub finds-refuted : (t u : State) (c : Conclusion) → Concludes t c u → t.verdict ≡ Unsat → c ≡ conclusion.Decided None
-finds-refuted t u conclusion.Unknown r e = let z : Unsat ≡ Unknown = sym e ∙ r.unknown in absurd cc
+finds-refuted t u (conclusion.Unknown conclusion.StepsSpent) r e = let z : Unsat ≡ Unknown = sym e ∙ r.unknown in absurd cc
 finds-refuted t u (conclusion.Decided None) r e = refl
 finds-refuted t u (conclusion.Decided (Some model)) (r, m) e =
     let same = r.right.known (λ k. let z : Unsat ≡ Unknown = sym e ∙ k in absurd cc) ∙ e in
@@ -175,7 +174,7 @@ asks-logged t u b r = record {
 }
 
 asks : (t u : State) (c : Conclusion) → Concludes t c u → Asks t u
-asks t u conclusion.Unknown r = record {
+asks t u (conclusion.Unknown conclusion.StepsSpent) r = record {
   valid = ap (λ (l : Ledger). l.valid) (same-ledger r.rest) ∙ r.valid;
   proof = r.rest.proof;
   assumptions = same-assumptions r.rest;
@@ -190,7 +189,7 @@ finds-valid t u c f = (asks t u c f).valid
 
 -- where none was found the answer was false, and as nothing was assumed it speaks of the clauses
 finds-none : (t u : State) (c : Conclusion) (f : ProofFormat) → Concludes t c u → t.assumptions ≡ [] → c ≡ conclusion.Decided None → IsRefuted by_state f u
-finds-none t u conclusion.Unknown f r n e = absurd cc
+finds-none t u (conclusion.Unknown reason) f r n e = absurd cc
 finds-none t u (conclusion.Decided (Some model)) f r n e = let z : Some model ≡ None = cc in absurd cc
 finds-none t u (conclusion.Decided None) f r n e = (r.right.answer, λ _. go u.verdict refl)
   where
@@ -297,12 +296,7 @@ proven {W = W} taken format check limit old new target back t u c opened adds fi
             proven-bytes taken format target back u bytes P c e h has unassumed carries f.given f.rest f.begins
             ((asks t u c finds).clauses ∙ f.joined) (λ some. finds-refuted t u c finds (f.refuted some)) (finds-none t u c format finds before) closed
 
--- 4. Steps that are spent, and errors.
-
-pub spends : {W : Type 0} (taken : W → Taken) (o : SolveOptions) (target : Option W) (old new : Input) (c : Conclusion) (t u : State) →
-    AddsDimacs (prepared taken o.format o.check o.max_steps target) old done new t → Concludes t c u → SpendsSteps taken o target old new c
-spends taken o target old new (conclusion.Decided outcome) t u a f = tt
-spends taken o target old new conclusion.Unknown t u a f = (t, u, a, f)
+-- 4. Errors.
 
 pub fails-reported : (A : Type 0) {W : Type 0} (taken : W → Taken) (s : State) (old new : Input) (t u : State) (e : SolverError) →
     AddsDimacs s old done new t → Reports {A = A} t (Err e) u → Fails taken s old new e

@@ -14,7 +14,7 @@ use Rattle.varisat_solver.specs.declared.solver.SolverError.{SolverError}
 use Rattle.varisat_theory.proofs.journals.Journals.{by_leads, by_leads_append}
 use Rattle.varisat_solver.proofs.calls.CallStates.{same-ledger}
 use Rattle.varisat_solver.proofs.entries.LoggedEntries.{logs-nothing, logs-through, logs, accepts-goes, assumes-goes}
-use Rattle.varisat.proofs.Effects.{Effect, Unchanged, CountedAnew, Named, Joined, Listed, Answered, Spent, Broken, InTurn, effect-of}
+use Rattle.varisat.proofs.Effects.{Effect, Unchanged, CountedAnew, Limited, Named, Joined, Listed, Answered, Spent, Broken, InTurn, effect-of}
 
 -- Runs that go on.
 
@@ -77,6 +77,8 @@ logs-on : (s t : State) → Effect by_state s t → IsValid t → LogsOn s t
 logs-on s t (Unchanged e) w = logs-same s t e w
 logs-on s t (CountedAnew l o e valid steps since) w = logs-plainly s t (sym valid ∙ ap (λ (x : State). x.ledger.valid) (sym e) ∙ w)
     (ap (λ (x : State). x.ledger.steps) e ∙ steps) (subst (λ (x : State). LogsMore 0 s.logged x.logged) (sym e) (logs-nothing s.logged))
+logs-on s t (Limited n e) w = logs-plainly s t (ap (λ (x : State). x.ledger.valid) (sym e) ∙ w)
+    (ap (λ (x : State). x.ledger.steps) e) (subst (λ (x : State). LogsMore 0 s.logged x.logged) (sym e) (logs-nothing s.logged))
 logs-on s t (Named m hidden started v keeps e) w = logs-plainly s t v (ap (λ (x : Ledger). x.steps) (same-ledger e)) e.logged
 logs-on s t (Joined d v n (x, after, e)) w =
     let c = map (through_names (name_all d s.naming)) d in

@@ -427,6 +427,7 @@ is-answered seen taken call.Model (answer.Model r) y p q h m =
 is-answered seen taken call.FailedCore (answer.FailedCore r) y p q h m =
     tell-list (IsReturnedCore p) IsTrueCore y p q (returned_list r) h (no-answer y.found false) (λ c m f. true-core m f p c) m
 is-answered seen taken (call.Config u) (answer.Config r) y p q h m = config y p q u r h m
+is-answered seen taken (call.SetMaxSteps n) answer.SetMaxSteps y p q h k = (y, refl, same-but y p q _ p.proof k refl h)
 is-answered seen taken call.Steps (answer.Steps n) y p q h (e, k) = (y, refl, same y p q h k)
 is-answered seen taken call.StepsSinceChange (answer.StepsSinceChange n) y p q h (e, few, k) = (y, refl, same y p q h k)
 is-answered seen taken call.IsValid (answer.IsValid b) y p q h (e, k) = (y, (e ∙ sym (valid-as y p h), refl), same y p q h k)

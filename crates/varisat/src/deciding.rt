@@ -5,7 +5,7 @@ ghost use Rattle.varisat_solver.specs.promises.States.{State, new_state};
 ghost use Rattle.varisat_solver.specs.inside.Representations.{Represents};
 ghost use Rattle.varisat_solver.specs.promises.ProofCalls.{ClosesProof};
 ghost use Rattle.varisat.specs.promises.Decided.{concluded};
-ghost use Rattle.varisat.specs.promises.Proven.{CanCountFault, prepared, Reports, DecidesBy, SpendsSteps, FailsBy};
+ghost use Rattle.varisat.specs.promises.Proven.{CanCountFault, prepared, Reports, DecidesBy, SearchesText, FailsBy};
 
 use std::alloc::Allocator;
 use std::io::Write;
@@ -66,9 +66,9 @@ pub fn decide_text<W: ProofTarget, A: Allocator + Copy, S: ByteSource, E: Write>
     ensures decided { IfOk result
         (λ report.
         DecidesBy W.taken options (S.input cnf.old) (S.input cnf.new) target.old target.new (concluded report)) }
-    ensures spent { IfOk result
+    ensures searched { IfOk result
         (λ report.
-        SpendsSteps W.taken options target.old (S.input cnf.old) (S.input cnf.new) (concluded report)) }
+        SearchesText W.taken options target.old (S.input cnf.old) (S.input cnf.new) (concluded report)) }
     ensures fails { IfErr result
         (λ error. FailsBy W.taken options target.old (S.input cnf.old) (S.input cnf.new) error) }
 {
@@ -113,9 +113,9 @@ fn decide_in<W: ProofTarget, A: Allocator + Copy, S: ByteSource, E: Write>(
     ensures decided { IfOk result
         (λ report.
         DecidesBy W.taken options (S.input cnf.old) (S.input cnf.new) target.old target.new (concluded report)) }
-    ensures spent { IfOk result
+    ensures searched { IfOk result
         (λ report.
-        SpendsSteps W.taken options target.old (S.input cnf.old) (S.input cnf.new) (concluded report)) }
+        SearchesText W.taken options target.old (S.input cnf.old) (S.input cnf.new) (concluded report)) }
     ensures fails { IfErr result
         (λ error. FailsBy W.taken options target.old (S.input cnf.old) (S.input cnf.new) error) }
 {

@@ -2,6 +2,7 @@
 //! check of a proof's bytes; and that `answers` of `answers_of` rules wrong answers out.
 ghost use Rattle.varisat.specs.inside.Laws.{NamesStayInOrder, NamesAreIdentities, GivenIsAccepted, TooManyIsPastLimit};
 ghost use Rattle.varisat.specs.inside.WrongAnswers.{WrongAnswersFitNoStory};
+ghost use Rattle.varisat.specs.inside.FewSteps.{AnswersMakeFewSteps};
 ghost use Rattle.varisat.specs.inside.Laws.{AgainIsNoStep, CoresAreLogged, CoresAreWritten, BytesAreAccepted, MarkedProofsPass};
 
 /// Names come into use in order.
@@ -49,6 +50,12 @@ pub fn marked_proofs_pass()
 /// those that the program leaves, Refutation where they refute the clauses, and Derivation else.
 pub fn bytes_are_accepted()
     ensures { BytesAreAccepted }
+{}
+
+/// The clause `truth` of `answers_of` bounds the steps of a new solver: after each call fewer than (n+2)*2^(n+2) steps were
+/// made since the last change, and so fewer than 2^(2n+3), where n variables are counted.
+pub fn answers_make_few_steps()
+    ensures { AnswersMakeFewSteps }
 {}
 
 /// The clause `answers` of `answers_of` rules these wrong answers out: models and cores that lack a name or do not

@@ -32,6 +32,15 @@ pub mod clause {
     pub use varisat_search::reduce::{reduce_locals, reduce_mids};
 }
 
+/// Formulas, with the variables and literals that they are made of, and the macros that make them.
+pub mod formula {
+    pub use varisat_formula::formula::{
+        Clauses, CnfFormula, ExtendFormula, FormulaError, laws, new_lits, new_vars,
+    };
+    pub use varisat_formula::{cnf, cnf_formula};
+    pub use varisat_literals::{Lit, VARIABLE_LIMIT, Var, lit, lits, var};
+}
+
 /// The parts of a search that propagate, and backtracking.
 pub mod prop {
     pub use varisat_prop::prop::{
@@ -80,7 +89,7 @@ pub mod variables {
 }
 
 pub use varisat_formula::formula::{CnfFormula, ExtendFormula};
-pub use varisat_formula::{cnf, cnf_formula, dimacs, formula, io};
+pub use varisat_formula::{cnf, cnf_formula, dimacs, io};
 pub use varisat_literals::{Lit, Var, lit, lits, var};
 pub use varisat_names::config;
 pub use varisat_proof::proof::ProofFormat;

@@ -262,6 +262,7 @@ pub fn write_answer<O: Write, S: ByteSource, A: Allocator + Copy>(
         | Answer::Assume(done)
         | Answer::Config(done)
         | Answer::EnableSelfChecking(done) => write_done(out, done),
+        Answer::SetMaxSteps => out.write_all(b"ok"),
         Answer::NewVar(made) => write_made(out, made),
         Answer::ObserveInternalVars(names) => write_names(out, names),
         Answer::Steps(steps) | Answer::StepsSinceChange(steps) => write_count(out, *steps),

@@ -64,9 +64,9 @@ pub fn solve_lines<A: Allocator + Copy, S: ByteSource, P: ProofTarget, T: ProofT
     requires faults { (S.input cnf.old).faults < 2 ^ 64 - 1 }
     requires room { CanCountFault P.taken proof.old }
     requires out_faults { (T.taken out.old).faults < 2 ^ 64 - 1 }
-    // Deciding fails, and nothing is printed; or the source gave a whole text, which was decided unless all steps were
-    // made before, with a proof in the target, and the outcome was printed, or a beginning of it where a call of `out`
-    // failed.
+    // Deciding fails, and nothing is printed; or the source gave a whole text, which a solver searched that has the limit,
+    // the checker and the proof that the options ask for; and what it concluded was printed, or a beginning of that if a
+    // call of `out` failed.
     ensures outcome { SolvesText P.taken options (S.input cnf.old) (S.input cnf.new) proof.old proof.new
         (T.taken out.old) (T.taken out.new) result }
     ensures truth { StatusIsTrue (S.input cnf.old) (S.input cnf.new) result }

@@ -5,10 +5,10 @@ ghost use Rattle.varisat_solver.specs.inside.Representations.{Represents};
 ghost use Rattle.varisat_solver.specs.promises.Represented.{LeadsRepresented};
 ghost use Rattle.varisat.specs.promises.Runs.{MakesCall, Run, HasRightLog, MayStillFail, AreReady, story_now};
 ghost use Rattle.varisat_solver.specs.promises.Calls.{by_state};
-ghost use Rattle.varisat.specs.promises.Pasts.{empty_past, by_answers};
+ghost use Rattle.varisat.specs.promises.Pasts.{empty_past};
 ghost use Rattle.varisat.specs.promises.Histories.{AreTrue};
 ghost use Rattle.varisat.specs.promises.Answers.{AreAnswered, empty_story};
-ghost use Rattle.varisat.specs.promises.Moments.{HasFewSteps, HasFewStepsAlong};
+ghost use Rattle.varisat.specs.promises.Moments.{HasFewStepsAlong};
 
 use std::alloc::{AllocError, Allocator};
 use varisat_formula::formula::CnfFormula;
@@ -34,6 +34,7 @@ pub enum Call<W: ProofTarget, S: ByteSource, A: Allocator + Copy> {
     Model,
     FailedCore,
     Config(SolverConfigUpdate),
+    SetMaxSteps(u64),
     Steps,
     StepsSinceChange,
     IsValid,
@@ -59,6 +60,7 @@ pub enum Answer<W: ProofTarget, S: ByteSource, A: Allocator + Copy> {
     Model(Result<Option<Vec<Lit, A>>, AllocError>),
     FailedCore(Result<Option<Vec<Lit, A>>, AllocError>),
     Config(Result<(), SolverError>),
+    SetMaxSteps,
     Steps(u64),
     StepsSinceChange(u64),
     IsValid(bool),
@@ -93,6 +95,10 @@ pub fn make_call<W: ProofTarget, S: ByteSource, A: Allocator + Copy>(
         Call::Model => Answer::Model(solver.model()),
         Call::FailedCore => Answer::FailedCore(solver.copy_core()),
         Call::Config(update) => Answer::Config(solver.config(&update)),
+        Call::SetMaxSteps(max_steps) => {
+            solver.set_max_steps(max_steps);
+            Answer::SetMaxSteps
+        }
         Call::Steps => Answer::Steps(solver.steps()),
         Call::StepsSinceChange => Answer::StepsSinceChange(solver.steps_since_change()),
         Call::IsValid => Answer::IsValid(solver.is_valid()),
@@ -134,8 +140,9 @@ pub fn run<W: ProofTarget, S: ByteSource, A: Allocator + Copy>(
 /// The answers of a new solver to the calls. `answers` says what they mean, and is to be read first: true comes with a
 /// model and false with a failed core, of the clauses that were accepted until then, those of formulas and texts among
 /// them, and of the assumptions given last. `truth` says it too, and all else that the calls and answers before say:
-/// when a call is refused, what a proof would have logged, and how many steps were made since the last change, of which
-/// few were made at each moment. Of what the calls are given the same is asked as by `run`.
+/// when a call is refused, what a proof would have logged, and how many steps were made since the last change: fewer than
+/// 2^(2n+3), where n variables are counted (`laws::answers_make_few_steps`). Of what the calls are given the same is asked
+/// as by `run`.
 pub fn answers_of<W: ProofTarget, S: ByteSource, A: Allocator + Copy>(
     calls: Vec<Call<W, S, A>, A>,
 ) -> Result<Vec<Answer<W, S, A>, A>, AllocError>
@@ -144,8 +151,6 @@ pub fn answers_of<W: ProofTarget, S: ByteSource, A: Allocator + Copy>(
         (λ answers. (t : State) × Run S.input W.taken empty_state calls.items answers.items t × HasRightLog t) }
     ensures answers { IfOk result (λ answers. AreAnswered S.input empty_story calls.items answers.items) }
     ensures truth { IfOk result (λ answers. AreTrue S.input W.taken empty_past calls.items answers.items) }
-    ensures few { IfOk result
-        (λ answers. HasFewStepsAlong by_answers S.input W.taken empty_past calls.items answers.items) }
 {
     let mut solver: Solver<W, A> = Solver::new_in(*calls.allocator());
     let answers = run(&mut solver, calls);

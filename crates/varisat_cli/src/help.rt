@@ -24,7 +24,8 @@ options of solve, in any order, each at most once:
     --check          have each step of the search checked
     --max-steps N    give up after N steps
     --heap BYTES     give the solver so many bytes of memory
-    --no-simplify    search the formula as it is
+    --simplify       simplify the formula first, however short it is
+    --no-simplify    search the formula as it is, however long it is
     --progress       show on standard error how far the search is
 
 FILE and CNF are DIMACS CNF, and - stands for standard input. PROOF is DRAT. ./varisat and the installed
@@ -39,8 +40,8 @@ exit codes:
 /// The command `solve`.
 pub const SOLVE_HELP: &str = "varisat solve FILE [OPTION ..]
 
-Decides the DIMACS CNF text in FILE, or on standard input where FILE is -. Its formula is simplified first.
-Prints one of
+Decides the DIMACS CNF text in FILE, or on standard input where FILE is -. A formula of 2000 literals or
+more is simplified first, a shorter one is searched as it is. Prints one of
 
     s SATISFIABLE      exit code 10; a line v with the literals of a model and 0 follows
     s UNSATISFIABLE    exit code 20
@@ -57,7 +58,8 @@ Options, in any order, each at most once:
     --max-steps N    make at most N steps, of which each ends with a conflict or an answer
     --heap BYTES     give the solver a heap of so many bytes, from 4096, and no other memory; where it is
                      full: error: Out of memory, exit code 2
-    --no-simplify    search the formula as it is; it is so too with --marked
+    --simplify       simplify the formula first, however short it is; not with --no-simplify or --marked
+    --no-simplify    search the formula as it is, however long it is; --marked does so too
     --progress       show on standard error how many clauses simplifying left, and in how many milliseconds;
                      then, every 10000 steps and at the end: steps, conflicts, decisions,
                      propagations and restarts so far; variables that are not fixed; clauses of two

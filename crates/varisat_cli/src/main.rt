@@ -27,7 +27,7 @@ use varisat::program::{
 };
 use varisat::proof::ProofFormat;
 use varisat::solver::SolverError;
-use varisat_solve::program::{ProgramOptions, solve_lines};
+use varisat_solve::program::{ProgramOptions, Simplification, solve_lines};
 
 fn main(rt: HostRuntime) -> ExitCode {
     ExitCode::from(run(&rt))
@@ -176,7 +176,7 @@ const PROGRESS_INTERVAL: u64 = 10_000;
 const LEAST_HEAP: u64 = 4096;
 
 // The options of `solve`: where a proof goes, whether it is binary or marked, whether the search is checked, whether it is
-// reported how far it is, whether nothing is simplified, a limit of steps, and the size of the solver's heap.
+// reported how far it is, whether the formula is simplified, a limit of steps, and the size of the solver's heap.
 #[derive(Drop)]
 struct SolveWords<'a> {
     proof: Option<&'a str>,
@@ -184,7 +184,7 @@ struct SolveWords<'a> {
     is_marked: bool,
     is_checked: bool,
     is_shown: bool,
-    is_plain: bool,
+    simplification: Option<Simplification>,
     max_steps: Option<u64>,
     heap: Option<usize>,
 }
@@ -203,6 +203,15 @@ impl<'a> SolveWords<'a> {
         Some(())
     }
 
+    // Whether options are among them that exclude each other, or a format of a proof that is not asked for.
+    fn is_contradictory(&self) -> bool {
+        let is_named = self.is_binary || self.is_marked;
+        let is_simplified = matches!(self.simplification, Some(Simplification::Always));
+        (self.is_binary && self.is_marked)
+            || (is_named && self.proof.is_none())
+            || (self.is_marked && is_simplified)
+    }
+
     // What they ask of the command.
     fn options(&self) -> ProgramOptions {
         ProgramOptions {
@@ -212,7 +221,7 @@ impl<'a> SolveWords<'a> {
                 progress: self.is_shown.then_some(PROGRESS_INTERVAL),
                 format: proof_format(self.is_binary, self.is_marked),
             },
-            simplify: !self.is_plain,
+            simplification: self.simplification.unwrap_or(Simplification::IfLong),
         }
     }
 }
@@ -239,8 +248,9 @@ fn proof_format(is_binary: bool, is_marked: bool) -> ProofFormat
     }
 }
 
-// Reads the options of `solve`, in any order, each at most once, `--binary` and `--marked` only with `--proof`, and not
-// both.
+// Reads the options of `solve`, in any order, each at most once, `--binary` and `--marked` only with `--proof`. Not both of
+// these are taken, and not both of `--simplify` and `--no-simplify`. Under `--marked` nothing is simplified, and so
+// `--simplify` is not taken.
 fn solve_words(words: &[String]) -> Option<SolveWords<'_>> {
     let mut found = SolveWords {
         proof: None,
@@ -248,7 +258,7 @@ fn solve_words(words: &[String]) -> Option<SolveWords<'_>> {
         is_marked: false,
         is_checked: false,
         is_shown: false,
-        is_plain: false,
+        simplification: None,
         max_steps: None,
         heap: None,
     };
@@ -265,15 +275,16 @@ fn solve_words(words: &[String]) -> Option<SolveWords<'_>> {
             None if word == "--marked" && !found.is_marked => found.is_marked = true,
             None if word == "--check" && !found.is_checked => found.is_checked = true,
             None if word == "--progress" && !found.is_shown => found.is_shown = true,
-            None if word == "--no-simplify" && !found.is_plain => found.is_plain = true,
+            None if word == "--simplify" && found.simplification.is_none() => {
+                found.simplification = Some(Simplification::Always);
+            }
+            None if word == "--no-simplify" && found.simplification.is_none() => {
+                found.simplification = Some(Simplification::Never);
+            }
             None => option = Some(word),
         }
     }
-    let is_named = found.is_binary || found.is_marked;
-    if option.is_some()
-        || (found.is_binary && found.is_marked)
-        || (is_named && found.proof.is_none())
-    {
+    if option.is_some() || found.is_contradictory() {
         return None;
     }
     Some(found)

@@ -1,4 +1,4 @@
--- What a new solver concludes of the clauses that a text's formula was made into, as a conclusion for the text.
+-- What a new solver concludes of the clauses of a text's formula, or of those that this was made into, as a conclusion for the text.
 use Rattle.std.proofs.Common.{◌≡◌, ℕ, ◌^◌, ◌<◌, List, [], ◌∷◌, Bool, true, false, refl, sym, ap, ◌∙◌, subst, length, inl, inr, arith, Option, Some, None, Ok, Err}
 use Rattle.varisat_theory.specs.promises.Membership.{◌∈◌}
 use Rattle.varisat_theory.specs.promises.Literals.{Literal, Clause}
@@ -21,13 +21,13 @@ use Rattle.varisat_solver.specs.promises.Calls.{by_state}
 use Rattle.varisat_solver.specs.promises.ClauseCalls.{AddsFormula, AddsDimacs}
 use Rattle.varisat_solver.specs.promises.OpenProofs.{opened_state}
 use Rattle.varisat_solver.specs.promises.ProofCalls.{IsProofIfOpen}
-use Rattle.varisat.specs.promises.Decided.{Conclusion, Decided, Unknown, IsConclusion, allowed_steps}
+use Rattle.varisat.specs.promises.Decided.{Conclusion, IsConclusion, allowed_steps}
 use Rattle.varisat.specs.promises.Proven.{prepared, Concludes, Reports, IsProvenIf, DecidesProven}
 use Rattle.varisat_solver.specs.declared.solver.SolverError.{SolverError}
 use Rattle.varisat_solver.specs.declared.solver.SolverError.TheVariants.{Interrupted, ProofIoError, OutOfMemory, Invalid, ClauseStoreFull, WitnessVar, VariableLimit, AssumedVar, ClauseAfterSolve, ProofOpen, ProofTooLate, ConfigOutOfRange, Dimacs}
 use Rattle.varisat.proofs.ProgramProves.{proven}
-use Rattle.varisat_solve.specs.inside.Extending.{named_count, conclusion_of_all}
-use Rattle.varisat_solve.specs.promises.Solving.{TakesLead, AreLow, Concluded, SpendsOver, FailsOver, AsSearched, AsListed}
+use Rattle.varisat_solve.specs.promises.Extending.{named_count, conclusion_of_all}
+use Rattle.varisat_solve.specs.promises.Solving.{TakesLead, AreLow, Concluded, FailsOver, AsSearched, AsListed}
 use Rattle.varisat_solve.proofs.TextLiterals.{text-low}
 use Rattle.varisat_solve.proofs.LeadBehind.{proven-behind}
 use Rattle.varisat_solve.proofs.ExtendedModels.{concludes-all, none-of-all}
@@ -97,11 +97,21 @@ led-proven taken format f g stack lines c d (Some target) (Some led) (Some back)
     proven-behind format f g stack lines c d (taken target) (taken led) (taken back) plain low made
     (λ n. none-of-all stack (named_count f.clauses) c (sym e ∙ n)) h p
 
-pub decides-text : {W : Type 0} (taken : W → Taken) (format : ProofFormat) (max_steps : ℕ) (old new : Input) (f g : Formula) (stack : List Clause)
-    (lines : List Line) (c d : Conclusion) (target led back : Option W) → has_marks format ≡ false → Parses old (Ok f) new →
-    IsMadeOf f g stack lines → d ≡ conclusion_of_all stack (named_count f.clauses) c → TakesLead taken format target lines (Ok tt) led →
-    Concluded taken format max_steps g.clauses led back c → DecidesProven taken format max_steps old new target back d
-decides-text taken format max_steps old new f g stack lines c d target led back plain p made e takes k =
+pub concluded-made : {W : Type 0} (taken : W → Taken) (format : ProofFormat) (max_steps : ℕ) (f g : Formula) (stack : List Clause) (lines : List Line)
+    (n : ℕ) (c d : Conclusion) (target led back : Option W) → has_marks format ≡ false → AreLow f.clauses → IsMadeOf f g stack lines →
+    n ≡ named_count f.clauses → d ≡ conclusion_of_all stack n c → TakesLead taken format target lines (Ok tt) led →
+    Concluded taken format max_steps g.clauses led back c → Concluded taken format max_steps f.clauses target back d
+concluded-made taken format max_steps f g stack lines n c d target led back plain low made is all takes k =
+    let e = all ∙ ap (λ m. conclusion_of_all stack m c) is in
+    record {
+      found = subst (IsConclusion max_steps f.clauses) (sym e) (concludes-all max_steps f g stack lines c made k.found);
+      proven = led-proven taken format f g stack lines c d target led back plain low made e takes k.proven;
+    }
+
+pub decides-parsed : {W : Type 0} (taken : W → Taken) (format : ProofFormat) (max_steps : ℕ) (old new : Input) (f : Formula) (c : Conclusion)
+    (target back : Option W) → Parses old (Ok f) new → Concluded taken format max_steps f.clauses target back c →
+    DecidesProven taken format max_steps old new target back c
+decides-parsed taken format max_steps old new f c target back p k =
     let w = gives_whole old new p.reading p.gives p.tells.1 in
     let same : f.clauses ≡ (dimacs w.text).clauses = ap (λ (x : Formula). x.clauses) p.tells.0 ∙ ap (λ (x : Reading). x.clauses) w.is in
     record {
@@ -111,18 +121,12 @@ decides-text taken format max_steps old new f g stack lines c d target led back 
         ended = w.ended;
         quiet = w.quiet;
         fine = ap (λ (x : Reading). x.fault) (sym w.is) ∙ p.tells.1;
-        found = subst (λ Q. IsConclusion max_steps Q d) same
-            (subst (IsConclusion max_steps f.clauses) (sym e) (concludes-all max_steps f g stack lines c made k.found));
+        found = subst (λ Q. IsConclusion max_steps Q c) same k.found;
       };
-      proven = subst (λ Q. IsProvenIf taken format Q d target back) same
-          (led-proven taken format f g stack lines c d target led back plain (parsed-low old new f p) made e takes k.proven);
+      proven = subst (λ Q. IsProvenIf taken format Q c target back) same k.proven;
     }
 
--- 4. Steps that are spent, and errors.
-pub spends-over : (s : State) (P : List Clause) (c : Conclusion) (t u : State) → AddsFormula s P (Ok tt) t → Concludes t c u → SpendsOver s P c
-spends-over s P (Decided outcome) t u a f = tt
-spends-over s P Unknown t u a f = (t, u, a, f)
-
+-- 4. Errors.
 pub fails-reported : (A : Type 0) {W : Type 0} (taken : W → Taken) (s : State) (P : List Clause) (t u : State) (e : SolverError) →
     AddsFormula s P (Ok tt) t → Reports {A = A} t (Err e) u → FailsOver taken s P e
 fails-reported A taken s P t u OutOfMemory a (inl f) = AsSearched t u a f (λ e. cc)

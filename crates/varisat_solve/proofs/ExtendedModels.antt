@@ -14,9 +14,9 @@ use Rattle.varisat_simplify.specs.promises.Simplified.{IsMadeOf}
 use Rattle.varisat_rules.proofs.ExtendLemmas.{extended_length}
 use Rattle.varisat_solver.specs.promises.States.{join_counted}
 use Rattle.varisat_solver.specs.promises.Models.{IsRising}
-use Rattle.varisat.specs.promises.Decided.{IsUpToHighest, IsModel, named_variables, Conclusion, Decided, Unknown, IsConclusion}
+use Rattle.varisat.specs.promises.Decided.{IsUpToHighest, IsModel, named_variables, StepsSpent, Conclusion, Decided, Unknown, IsConclusion}
 use Rattle.varisat_solver.proofs.calls.Counted.{join-more, join-has, join-only, join-once}
-use Rattle.varisat_solve.specs.inside.Extending.{named_count, model_of_all, conclusion_of_all}
+use Rattle.varisat_solve.specs.promises.Extending.{named_count, model_of_all, conclusion_of_all}
 
 pub length-all : (stack : List Clause) (model : List Literal) (n : ℕ) → length (extended stack (model_values n model)) ≡ n
 length-all stack model n = extended_length stack (model_values n model) ∙ length-model n model
@@ -164,7 +164,7 @@ pub concludes-all : (max_steps : ℕ) (f g : Formula) (stack : List Clause) (lin
     IsConclusion max_steps g.clauses c → IsConclusion max_steps f.clauses (conclusion_of_all stack (named_count f.clauses) c)
 concludes-all max_steps f g stack lines (Decided None) made h = λ (a, s). h (a, made.keeps a s)
 concludes-all max_steps f g stack lines (Decided (Some model)) made h = model-of-all f g stack lines model made h
-concludes-all max_steps f g stack lines Unknown made h =
+concludes-all max_steps f g stack lines (Unknown StepsSpent) made h =
     let fewer = fewer-named f g stack lines made in
     let power : 2 ^ (2 * length (named_variables [] g.clauses) + 3) ≤ 2 ^ (2 * length (named_variables [] f.clauses) + 3) =
     pow_mono (omega (arith, fewer)) in
@@ -173,4 +173,4 @@ concludes-all max_steps f g stack lines Unknown made h =
 pub none-of-all : (stack : List Clause) (n : ℕ) (c : Conclusion) → conclusion_of_all stack n c ≡ Decided None → c ≡ Decided None
 none-of-all stack n (Decided None) e = refl
 none-of-all stack n (Decided (Some model)) e = absurd cc
-none-of-all stack n Unknown e = absurd cc
+none-of-all stack n (Unknown reason) e = absurd cc

@@ -1,5 +1,5 @@
 -- A proof of what a formula was made into, behind the lines that lead to it, is a proof of the formula.
-use Rattle.std.proofs.Common.{◌≡◌, ◌^◌, ◌<◌, List, [], ◌∷◌, ◌++◌, true, false, refl, sym, ap, ◌∙◌, subst, append_assoc, ◌⊎◌, inl, inr, ⊎_elim, None}
+use Rattle.std.proofs.Common.{◌≡◌, ◌^◌, ◌<◌, List, [], ◌∷◌, ◌++◌, true, false, refl, sym, ap, ◌∙◌, subst, append_assoc, inl, inr, ⊎_elim, None}
 use Rattle.std.proofs.lemmas.List.{append-nil, map-append}
 use Rattle.std.specs.Prelude.{length}
 use Rattle.varisat_theory.specs.promises.Membership.{◌∈◌}

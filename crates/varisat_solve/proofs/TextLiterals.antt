@@ -1,5 +1,5 @@
 -- The literals of a text's clauses are below the limit.
-use Rattle.std.proofs.Common.{◌≡◌, ℕ, zero, suc, ◌+◌, ◌-◌, ◌/◌, ◌^◌, ◌<◌, ◌≤◌, List, [], ◌∷◌, ◌++◌, Bool, true, false, ◌==◌, nat_lt, if◌then◌else◌, refl, sym, subst, max, ◌⊎◌, ⊎_elim, arith, rules, Option, Some, None}
+use Rattle.std.proofs.Common.{◌≡◌, ℕ, zero, suc, ◌+◌, ◌-◌, ◌/◌, ◌^◌, ◌<◌, ◌≤◌, List, [], ◌∷◌, ◌++◌, Bool, true, false, ◌==◌, nat_lt, if◌then◌else◌, refl, sym, subst, max, ⊎_elim, arith, rules, Option, Some, None}
 use Rattle.varisat_theory.specs.promises.Literals.{Literal, Clause, literal_of}
 use Rattle.varisat_theory.specs.promises.Membership.{◌∈◌}
 use Rattle.varisat_theory.proofs.clauses.Members.{∈-append_cases}

@@ -1,4 +1,4 @@
-//! How a text is decided whose formula is simplified first.
+//! How the program decides a text, whose formula it may simplify before it searches.
 ghost use Rattle.std.specs.Prelude.{◌≡◌, ◌-◌, ◌^◌, ◌<◌, ◌≤◌, ℕ, List, length, true, false, Some, Ok, Err, IfOk, IfErr, IsSome};
 ghost use Rattle.varisat_lines.specs.promises.Lines.{has_marks};
 ghost use Rattle.varisat_simplify.specs.promises.Simplified.{IsMadeOf};
@@ -6,11 +6,12 @@ ghost use Rattle.varisat_solver.specs.promises.States.{new_state};
 ghost use Rattle.varisat_solver.specs.inside.Representations.{Represents};
 ghost use Rattle.varisat.specs.promises.Decided.{Decided, concluded, allowed_steps};
 ghost use Rattle.varisat.specs.promises.Proven.{CanCountFault, prepared, DecidesBy};
-ghost use Rattle.varisat_solve.specs.inside.Extending.{conclusion_of_all};
-ghost use Rattle.varisat_solve.specs.promises.Solving.{AreLow, Concluded, line_refusal, TakesLead, SpendsOver, SpendsSimplified, is_simplified, SpendsFirst, FailsOver, FailsSimplified, FailsFirst};
+ghost use Rattle.varisat_solve.specs.promises.Extending.{conclusion_of_all};
+ghost use Rattle.varisat_solve.specs.promises.Solving.{AreLow, Concluded, line_refusal, TakesLead, SearchesOver, SearchesSimplified, SearchesFirst, FailsOver, FailsSimplified, FailsFirst};
 
 use crate::lines::write_history;
 use crate::models::{extend_model, named_count};
+use crate::options::{ProgramOptions, is_simplified, may_simplify};
 use std::alloc::Allocator;
 use std::io::{self, Write};
 use std::mem::forget;
@@ -27,23 +28,7 @@ use varisat_simplify::clauses::ClauseList;
 use varisat_simplify::history::History;
 use varisat_simplify::simplify::{Simplified, simplify};
 
-/// What the program's `solve` keeps to.
-#[derive(Clone, Copy, Debug)]
-pub struct ProgramOptions {
-    /// What the search keeps to.
-    pub search: SolveOptions,
-    /// Whether the text's formula is simplified before it is searched.
-    pub simplify: bool,
-}
-
-/// Whether the formula is simplified first: that is wanted, and no proof is written as marked text.
-fn is_simplified(options: ProgramOptions) -> bool
-    ensures { result ≡ is_simplified options }
-{
-    options.simplify && !matches!(options.search.format, ProofFormat::Marked)
-}
-
-/// Decides a DIMACS CNF text, whose formula is simplified first where that is wanted, unless a proof is written as marked text.
+/// Decides a DIMACS CNF text. Its formula may be simplified before it is searched: the options say which formulas are.
 pub fn decide<W: ProofTarget, A: Allocator + Copy, S: ByteSource, E: Write, C: Clock>(
     alloc: A,
     cnf: &mut S,
@@ -57,16 +42,23 @@ pub fn decide<W: ProofTarget, A: Allocator + Copy, S: ByteSource, E: Write, C: C
     ensures decided { IfOk result
         (λ report.
         DecidesBy W.taken options.search (S.input cnf.old) (S.input cnf.new) target.old target.new (concluded report)) }
-    ensures spent { IfOk result
+    ensures searched { IfOk result
         (λ report.
-        SpendsFirst W.taken options target.old (S.input cnf.old) (S.input cnf.new) (concluded report)) }
+        SearchesFirst W.taken options target.old (S.input cnf.old) (S.input cnf.new) (concluded report)) }
     ensures fails { IfErr result
         (λ error. FailsFirst W.taken options target.old (S.input cnf.old) (S.input cnf.new) error) }
 {
-    if is_simplified(options) {
-        decide_simplified(alloc, cnf, target, options.search, clock, err)
+    if !may_simplify(options) {
+        return decide_text(alloc, cnf, target, options.search, err);
+    }
+    let formula = match DimacsParser::parse(alloc, cnf) {
+        Ok(formula) => formula,
+        Err(fault) => return Err(SolverError::from_text(fault)),
+    };
+    if is_simplified(options, &formula) {
+        decide_simplified(alloc, formula, target, options.search, clock, err)
     } else {
-        decide_text(alloc, cnf, target, options.search, err)
+        decide_formula(alloc, formula, target, options.search, err)
     }
 }
 
@@ -80,31 +72,27 @@ fn refuse_line(fault: WriteError) -> SolverError
     }
 }
 
-/// Decides a text whose formula is simplified first. The lines that lead to what that is made into come before those of the search.
-fn decide_simplified<W: ProofTarget, A: Allocator + Copy, S: ByteSource, E: Write, C: Clock>(
+/// Decides a text's formula, which is simplified first. The lines that lead to what it is made into come before those of the
+/// search.
+fn decide_simplified<W: ProofTarget, A: Allocator + Copy, E: Write, C: Clock>(
     alloc: A,
-    cnf: &mut S,
+    formula: CnfFormula<A>,
     target: &mut Option<W>,
     options: SolveOptions,
     clock: &C,
     err: &mut E,
 ) -> Result<Report<A>, SolverError>
-    requires faults { (S.input cnf.old).faults < 2 ^ 64 - 1 }
     requires room { CanCountFault W.taken target.old }
     requires plain { has_marks options.format ≡ false }
+    requires low { AreLow formula.clauses }
     ensures decided { IfOk result
         (λ report.
-        DecidesBy W.taken options (S.input cnf.old) (S.input cnf.new) target.old target.new (concluded report)) }
-    ensures spent { IfOk result
-        (λ report.
-        SpendsSimplified W.taken options target.old (S.input cnf.old) (S.input cnf.new) (concluded report)) }
-    ensures fails { IfErr result
-        (λ error. FailsSimplified W.taken options target.old (S.input cnf.old) (S.input cnf.new) error) }
+        Concluded W.taken options.format (allowed_steps options.max_steps) formula.clauses target.old target.new
+        (concluded report)) }
+    ensures searched { IfOk result
+        (λ report. SearchesSimplified W.taken options target.old formula (concluded report)) }
+    ensures fails { IfErr result (λ error. FailsSimplified W.taken options target.old formula error) }
 {
-    let formula = match DimacsParser::parse(alloc, cnf) {
-        Ok(formula) => formula,
-        Err(fault) => return Err(SolverError::from_text(fault)),
-    };
     let count = named_count(&formula);
     let made = simplify_reporting(alloc, formula, options.progress.is_some(), clock, err)?;
     let Simplified {
@@ -127,7 +115,6 @@ fn simplify_reporting<A: Allocator + Copy, E: Write, C: Clock>(
     err: &mut E,
 ) -> Result<Simplified<A>, SolverError>
     ensures made { IfOk result (λ s. IsMadeOf formula s.formula s.stack s.history.lines) }
-    ensures few { IfOk result (λ s. length s.formula.clauses < 2 ^ 64) }
     ensures memory { IfErr result (λ error. error ≡ SolverError.OutOfMemory) }
 {
     let clauses = formula.len();
@@ -201,7 +188,14 @@ fn write_lead<W: ProofTarget, A: Allocator + Copy>(
     }
 }
 
-/// Decides a formula by a new solver. Where all went well the solver's memory is kept, as by `decide_text`.
+/// Counts nothing when it runs. Its contract says that a formula has fewer than 2^64 clauses.
+fn prove_few<A: Allocator + Copy>(formula: &CnfFormula<A>)
+    ensures { length formula.now.clauses < 2 ^ 64 }
+{
+    let _count = formula.len();
+}
+
+/// Decides a formula as it is, by a new solver. If all went well the solver's memory is kept, as by `decide_text`.
 fn decide_formula<W: ProofTarget, A: Allocator + Copy, E: Write>(
     alloc: A,
     formula: CnfFormula<A>,
@@ -211,20 +205,20 @@ fn decide_formula<W: ProofTarget, A: Allocator + Copy, E: Write>(
 ) -> Result<Report<A>, SolverError>
     requires room { CanCountFault W.taken target.old }
     requires low { AreLow formula.clauses }
-    requires few { length formula.clauses < 2 ^ 64 }
     ensures decided { IfOk result
         (λ report.
         Concluded W.taken options.format (allowed_steps options.max_steps) formula.clauses target.old target.new
         (concluded report)) }
-    ensures spent { IfOk result
+    ensures searched { IfOk result
         (λ report.
-        SpendsOver
+        SearchesOver
         (prepared W.taken options.format options.check options.max_steps target.old) formula.clauses (concluded report)) }
     ensures fails { IfErr result
         (λ error.
         FailsOver W.taken
         (prepared W.taken options.format options.check options.max_steps target.old) formula.clauses error) }
 {
+    prove_few(&formula);
     let mut solver: Solver<W, A> = new_solver(alloc, options.check);
     let report = decide_in(&mut solver, formula, target, options, err);
     match report {
@@ -239,7 +233,7 @@ fn decide_formula<W: ProofTarget, A: Allocator + Copy, E: Write>(
     }
 }
 
-/// The same in a new solver, inside which a checker runs where that is wanted.
+/// Decides a formula by the solver, which is new, and inside which a checker runs if the options ask for one.
 fn decide_in<W: ProofTarget, A: Allocator + Copy, E: Write>(
     solver: &mut Solver<W, A>,
     formula: CnfFormula<A>,
@@ -256,9 +250,9 @@ fn decide_in<W: ProofTarget, A: Allocator + Copy, E: Write>(
         (λ report.
         Concluded W.taken options.format (allowed_steps options.max_steps) formula.clauses target.old target.new
         (concluded report)) }
-    ensures spent { IfOk result
+    ensures searched { IfOk result
         (λ report.
-        SpendsOver
+        SearchesOver
         (prepared W.taken options.format options.check options.max_steps target.old) formula.clauses (concluded report)) }
     ensures fails { IfErr result
         (λ error.

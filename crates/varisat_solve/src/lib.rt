@@ -1,7 +1,8 @@
-//! The command `solve`, which simplifies a text's formula before it is searched.
+//! The command `solve`, which simplifies a text's formula, if it is long, before it searches.
 #![tactic(auto)]
 
 pub mod deciding;
 pub mod lines;
 pub mod models;
+pub mod options;
 pub mod program;

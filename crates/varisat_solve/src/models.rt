@@ -1,7 +1,7 @@
 //! Models of what a formula was made into, as models of the formula.
 ghost use Rattle.std.specs.Prelude.{◌≡◌, ◌≤◌, ◌^◌, IfOk, max};
 ghost use Rattle.varisat_formula.specs.promises.Formulas.{variables_of};
-ghost use Rattle.varisat_solve.specs.inside.Extending.{named_count, model_of_all};
+ghost use Rattle.varisat_solve.specs.promises.Extending.{named_count, model_of_all};
 
 use std::alloc::{AllocError, Allocator};
 use varisat::{CnfFormula, Lit};

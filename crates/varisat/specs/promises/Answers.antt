@@ -165,6 +165,7 @@ IsAnswered seen s (call.HideVar u) (answer.HideVar r) t =
 IsAnswered seen s call.ObserveInternalVars (answer.ObserveInternalVars r) t =
     Outcome (λ us x. (m : Naming) × AreShown us.items s.naming m × (x ≡ with_names m s)) s r t
 IsAnswered seen s (call.Config u) (answer.Config r) t = Outcome (λ _ x. x ≡ s) s r t
+IsAnswered seen s (call.SetMaxSteps n) answer.SetMaxSteps t = t ≡ s
 IsAnswered seen s call.Steps (answer.Steps n) t = t ≡ s
 IsAnswered seen s call.StepsSinceChange (answer.StepsSinceChange n) t = t ≡ s
 IsAnswered seen s call.IsValid (answer.IsValid b) t = (b ≡ s.valid) × (t ≡ s)

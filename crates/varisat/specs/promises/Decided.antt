@@ -34,15 +34,19 @@ abbrev pub IsOutcome : List Clause → Option (List Literal) → Type 0
 IsOutcome P None = IsSatisfiable P → ⊥
 IsOutcome P (Some model) = IsModel P model
 
--- What `solve` comes to for a text: an outcome for its clauses; or none, where the steps were spent before.
+-- Why a search may stop before it has found out whether the clauses have a model: it made all steps that it was allowed.
+pub data StopReason : Type 0 where
+  StepsSpent : StopReason
+
+-- What `solve` concludes of a text: an outcome for its clauses; or that it stopped before it had one, and why.
 pub data Conclusion : Type 0 where
   Decided : Option (List Literal) → Conclusion
-  Unknown : Conclusion
+  Unknown : StopReason → Conclusion
 
--- the same, with the literals of a list that was made
+-- the conclusion that a report gives, with the literals of a list that was made
 abbrev pub concluded : {A : Type 0} → Report A → Conclusion
 concluded (report.Decided outcome) = Decided (listed outcome)
-concluded report.Unknown = Unknown
+concluded report.Unknown = Unknown StepsSpent
 
 -- how many steps may be made where they are limited, and where not
 abbrev pub allowed_steps : Option ℕ → ℕ
@@ -57,7 +61,7 @@ named_variables known (c ∷ P) = named_variables (join_counted known (map varia
 -- are fewer than a call may come to.
 abbrev pub IsConclusion : ℕ → List Clause → Conclusion → Type 0
 IsConclusion max_steps P (Decided outcome) = IsOutcome P outcome
-IsConclusion max_steps P Unknown = min max_steps (2 ^ 64 - 1) < 2 ^ (2 * length (named_variables [] P) + 3)
+IsConclusion max_steps P (Unknown StepsSpent) = min max_steps (2 ^ 64 - 1) < 2 ^ (2 * length (named_variables [] P) + 3)
 
 -- What a source gave in a call, up to its end and without a failed call, is a text without a fault, and this is the conclusion for its
 -- clauses.
@@ -83,15 +87,15 @@ abbrev pub outcome_status : Option (List Literal) → ℕ
 outcome_status None = 20
 outcome_status (Some model) = 10
 
--- the same of a conclusion
+-- what is printed for a conclusion
 abbrev pub conclusion_text : Conclusion → List ℕ
 conclusion_text (Decided outcome) = outcome_text outcome
-conclusion_text Unknown = codes "s UNKNOWN\n"
+conclusion_text (Unknown reason) = codes "s UNKNOWN\n"
 
 -- the status of the program for it
 abbrev pub conclusion_status : Conclusion → ℕ
 conclusion_status (Decided outcome) = outcome_status outcome
-conclusion_status Unknown = 0
+conclusion_status (Unknown reason) = 0
 
 -- What a status says of the text that the source gave since, whatever is known of the source: 10 only at the end of a text
 -- without a fault whose clauses some assignment satisfies, 20 only of one whose clauses none does; neither behind a failed call.

@@ -228,6 +228,7 @@ answer_text (answer.Solve solved) = solved_text solved
 answer_text (answer.Model list) = list_text (returned_list list)
 answer_text (answer.FailedCore list) = list_text (returned_list list)
 answer_text (answer.Config done) = done_text done
+answer_text answer.SetMaxSteps = codes "ok"
 answer_text (answer.Steps steps) = count_text steps
 answer_text (answer.StepsSinceChange steps) = count_text steps
 answer_text (answer.IsValid b) = truth_text b

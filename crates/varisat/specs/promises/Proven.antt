@@ -24,7 +24,7 @@ use Rattle.varisat_solver.specs.declared.solver.SolverError.{SolverError}
 use Rattle.varisat_solver.specs.declared.solver.SolverError.TheVariants.{Interrupted, OutOfMemory}
 use Rattle.varisat.specs.declared.deciding.Report.{Report}
 use Rattle.varisat.specs.declared.deciding.SolveOptions.{SolveOptions}
-use Rattle.varisat.specs.promises.Decided.{Conclusion, Decided, Unknown, concluded, allowed_steps, Decides, conclusion_text, conclusion_status}
+use Rattle.varisat.specs.promises.Decided.{StopReason, StepsSpent, Conclusion, Decided, Unknown, concluded, allowed_steps, Decides, conclusion_text, conclusion_status}
 
 -- what a target over a writer took
 abbrev pub taken_by_writer : Output → Taken
@@ -55,9 +55,13 @@ prepared taken format check limit None = configured check limit
 prepared taken format check limit (Some target) =
     count_anew (with_proof (Some (first_proof format (taken target))) (configured check limit))
 
--- What a solver in the state s comes to as it is asked: a model that it returns, that there is none, or that its steps are spent.
+-- how the search of a solver in the state s stops for the reason: it returns Interrupted where its steps are spent
+abbrev pub Stops : StopReason → State → State → Type 0
+Stops StepsSpent s t = Solves by_state s (Err Interrupted) t
+
+-- What a solver in the state s concludes as it is asked: a model that it returns, that there is none, or a reason why it stopped before.
 abbrev pub Concludes : State → Conclusion → State → Type 0
-Concludes s Unknown t = Solves by_state s (Err Interrupted) t
+Concludes s (Unknown reason) t = Stops reason s t
 Concludes s (Decided None) t = Solves by_state s (Ok false) t
 Concludes s (Decided (Some model)) t =
     Solves by_state s (Ok true) t × ReturnsList (by_state.model t) t (Ok (Some model)) t
@@ -121,13 +125,12 @@ abbrev pub DecidesBy : {W : Type 0} → (W → Taken) → SolveOptions → Input
 DecidesBy taken o old new target back conclusion =
     DecidesProven taken o.format (allowed_steps o.max_steps) old new target back conclusion
 
--- Nothing is found out only where the search of the text's clauses made all its steps, in a new solver that has settings, a checker and a
--- proof as the options ask.
-abbrev pub SpendsSteps : {W : Type 0} → (W → Taken) → SolveOptions → Option W → Input → Input → Conclusion → Type 0
-SpendsSteps taken o target old new (Decided outcome) = Unit {0}
-SpendsSteps taken o target old new Unknown =
+-- The conclusion is that of a search of the text's clauses by a new solver, which has settings, a limit of steps, a checker and a proof as
+-- the options ask: also what it found out was found within the limit, and under the checker.
+abbrev pub SearchesText : {W : Type 0} → (W → Taken) → SolveOptions → Option W → Input → Input → Conclusion → Type 0
+SearchesText taken o target old new conclusion =
     (t : State) × (u : State) × AddsDimacs (prepared taken o.format o.check o.max_steps target) old (Ok tt) new t
-    × Solves by_state t (Err Interrupted) u
+    × Concludes t conclusion u
 
 -- deciding the text fails with the error, by a new solver that has settings, a checker and a proof as the options ask
 abbrev pub FailsBy : {W : Type 0} → (W → Taken) → SolveOptions → Option W → Input → Input → SolverError → Type 0
@@ -138,11 +141,11 @@ abbrev pub Prints : Conclusion → ℕ → Taken → Taken → Type 0
 Prints conclusion status before printed =
     EndsPrinting (conclusion_status conclusion) (conclusion_text conclusion) status before printed
 
--- What the program's `solve` comes to: deciding fails, nothing is printed, and the status is that of a fault; or the text is decided, and
--- the conclusion is printed.
+-- What the program's `solve` does: deciding fails, nothing is printed, and the status is that of a fault; or the text is searched as the
+-- options ask, and the conclusion is one for its clauses, and is printed.
 abbrev pub SolvesText : {W : Type 0} → (W → Taken) → SolveOptions → Input → Input → Option W → Option W →
     Taken → Taken → ℕ → Type 0
 SolvesText taken o old new target back before printed status =
     ((error : SolverError) × FailsBy taken o target old new error × (status ≡ fault_status) × (printed ≡ before))
     ⊎ ((conclusion : Conclusion) × DecidesBy taken o old new target back conclusion
-    × SpendsSteps taken o target old new conclusion × Prints conclusion status before printed)
+    × SearchesText taken o target old new conclusion × Prints conclusion status before printed)

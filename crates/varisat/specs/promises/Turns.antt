@@ -3,7 +3,7 @@ use Rattle.std.specs.Prelude.{◌≡◌, List, [], ◌∷◌}
 use Rattle.varisat_formula.specs.promises.Streams.{Input, Taken}
 use Rattle.varisat_solver.specs.promises.States.{Known}
 use Rattle.varisat_solver.specs.promises.Names.{Sample, Witness}
-use Rattle.varisat_solver.specs.promises.Calls.{Verdicts, TakesOne, TakesList, MakesVar, Solves, ReturnsList, Configures, ReturnsSteps, ReturnsSince, ReturnsValid}
+use Rattle.varisat_solver.specs.promises.Calls.{Verdicts, TakesOne, TakesList, MakesVar, Solves, ReturnsList, Configures, with_max_steps, ReturnsSteps, ReturnsSince, ReturnsValid}
 use Rattle.varisat_solver.specs.promises.ProofCalls.{OpensProof, EnablesChecking, Closes}
 use Rattle.varisat_solver.specs.promises.Additions.{AddsList, AddsText}
 use Rattle.varisat_solver.specs.promises.Usage.{SetsMode, HidesVar, Observes}
@@ -32,6 +32,7 @@ module _ {V : Type 0} (by : Verdicts V) where
   Makes seen taken s call.Model (answer.Model r) t = ReturnsList (by.model s) s (returned_list r) t
   Makes seen taken s call.FailedCore (answer.FailedCore r) t = ReturnsList (by.core s) s (returned_list r) t
   Makes seen taken s (call.Config u) (answer.Config r) t = Configures s u r t
+  Makes seen taken s (call.SetMaxSteps n) answer.SetMaxSteps t = t ≡ with_max_steps n s
   Makes seen taken s call.Steps (answer.Steps n) t = ReturnsSteps s n t
   Makes seen taken s call.StepsSinceChange (answer.StepsSinceChange n) t = ReturnsSince s n t
   Makes seen taken s call.IsValid (answer.IsValid b) t = ReturnsValid s b t

@@ -5,7 +5,7 @@ use Rattle.varisat_solver.specs.inside.Representations.{Represents}
 use Rattle.varisat.specs.promises.Decided.{concluded}
 use Rattle.varisat.specs.promises.Proven.{prepared, Fails, AsRead, AsClosed}
 use Rattle.varisat_steps.proofs.Broken.{passed-on}
-use Rattle.varisat.proofs.ProgramProves.{fails-reported, finds-valid, proven, spends}
+use Rattle.varisat.proofs.ProgramProves.{fails-reported, finds-valid, proven}
 use Rattle.varisat_solver.proofs.entries.LoggedJournals.{proof-of}
 use Rattle.varisat.proofs.deciding.decide_in.Goals as goal
 
@@ -58,11 +58,11 @@ returns-clause-decided g c =
     let ok = ap (λ (l : Ledger). l.valid) (sym z.ledger) ∙ valid in
     proven taken format check limit _ _ c.args.target.now c.in_ok-back.back t u report _ a f (proof-of _ u z ok) z.same c.in_ok-back.ensures.handed
 
-pub returns-clause-spent : goal.returns-clause-spent
-returns-clause-spent g c =
+pub returns-clause-searched : goal.returns-clause-searched
+returns-clause-searched g c =
     let taken = g.W.ProofTarget.taken in
     let o = c.args.options in
     let x = subst (λ t. Represents c.prepare.new.solver (prepared taken o.format o.check o.max_steps t)) c.take.ensures.value c.prepare.ensures in
     let (t, a, y) = (c.in_ok-add_dimacs_cnf.ensures {u = tt}).call (prepared taken o.format o.check o.max_steps c.args.target.now) x in
     let (u, f, z) = c.in_ok-report.ensures {u = tt} t y in
-    spends taken o c.args.target.now _ _ (concluded c.in_ok-report.report) t u a f
+    (t, u, a, f)

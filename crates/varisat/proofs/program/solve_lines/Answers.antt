@@ -14,7 +14,7 @@ returns-in-Ok-print_report-clause-outcome g c =
     inr (
       found,
       c.in-Ok.ensures.decided,
-      c.in-Ok.ensures.spent,
+      c.in-Ok.ensures.searched,
       ends-printed (conclusion_status found) (conclusion_text found) (conclusion_text found) _ _ _ refl
           c.status_of.ensures c.in-Ok-print_report.ensures,
     )

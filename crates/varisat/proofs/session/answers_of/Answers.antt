@@ -3,7 +3,6 @@ use Rattle.varisat_solver.specs.promises.States.{Ledger, empty_state}
 use Rattle.varisat_solver.proofs.entries.LoggedJournals.{journal-of}
 use Rattle.varisat.proofs.RunsLogged.{run-counts}
 use Rattle.varisat.proofs.Histories.{of-ok, run-is-true}
-use Rattle.varisat.proofs.FewSteps.{answers-stay-few}
 use Rattle.varisat.proofs.session.answers_of.Goals as goal
 
 pub returns-clause-run : goal.returns-clause-run
@@ -18,7 +17,3 @@ returns-clause-answers g c = of-ok c.run-answers.result _ _ (λ answers h. h emp
 pub returns-clause-truth : goal.returns-clause-truth
 returns-clause-truth g c = of-ok c.run-answers.result _ _
     (λ answers h. let (t, r, q) = h empty_state c.new_in-solver.ensures in run-is-true _ _ c.args.calls.items answers.items t r) c.run-answers.ensures.run
-
-pub returns-clause-few : goal.returns-clause-few
-returns-clause-few g c = of-ok c.run-answers.result _ _
-    (λ answers h. answers-stay-few g.S.ByteSource.input g.W.ProofTarget.taken c.args.calls.items answers.items) c.run-answers.ensures.run

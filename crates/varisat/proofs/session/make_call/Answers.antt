@@ -1,5 +1,5 @@
-use Rattle.std.proofs.Common.{List, ℕ, subst}
-use Rattle.varisat_solver.specs.promises.Calls.{AddsClause, Assumes}
+use Rattle.std.proofs.Common.{List, ℕ, refl, subst}
+use Rattle.varisat_solver.specs.promises.Calls.{AddsClause, Assumes, with_max_steps}
 use Rattle.varisat.proofs.session.make_call.Goals as goal
 
 pub returns-in-AddClause : goal.returns-in-AddClause
@@ -47,6 +47,10 @@ returns-in-FailedCore g c s st = rw c.in-FailedCore.is (c.copy_core.ensures s st
 
 pub returns-in-Config : goal.returns-in-Config
 returns-in-Config g c s st = rw c.in-Config.is (c.config.ensures s st)
+
+pub returns-in-SetMaxSteps : goal.returns-in-SetMaxSteps
+returns-in-SetMaxSteps g c s st =
+    rw c.in-SetMaxSteps.is (with_max_steps c.in-SetMaxSteps.max_steps s, refl, c.set_max_steps.ensures s st)
 
 pub returns-in-Steps : goal.returns-in-Steps
 returns-in-Steps g c s st = rw c.in-Steps.is (c.steps.ensures s st)

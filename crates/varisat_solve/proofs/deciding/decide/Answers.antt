@@ -1,6 +1,10 @@
--- How the way that the options ask for fails, or spends its steps, is how the program's does.
-use Rattle.std.proofs.Common.{◌≡◌, ◌&&◌, ◌∙◌, Bool, true, false, not, Result, Ok, Err, MatchBool, refl, sym}
+-- How the way that the options ask for fails, or what it concludes, is how the program's does.
+use Rattle.std.proofs.Common.{◌∙◌, Result, Ok, Err, sym}
 use Rattle.std.specs.Result.{IfOk, IfErr}
+use Rattle.varisat.specs.promises.Decided.{allowed_steps, concluded}
+use Rattle.varisat_solve.specs.promises.Solving.{SearchesAsIs, SearchesMade, FailsParsing, FailsAsIs, FailsMade}
+use Rattle.varisat_solve.proofs.DecidedBehind.{parsed-low, decides-parsed}
+use Rattle.varisat_solve.proofs.SimplifiedTexts.{unmarked, never-simplified, searched-as-is, searches-parsed, fails-parsed}
 use Rattle.varisat_solve.proofs.deciding.decide.Goals as goal
 
 by-error : {X E : Type 0} (r : Result X E) (P Q : E → Type 0) → ((e : E) → P e → Q e) → IfErr r P → IfErr r Q
@@ -11,39 +15,60 @@ by-ok : {X E : Type 0} (r : Result X E) (P Q : X → Type 0) → ((x : X) → P 
 by-ok (Ok x) P Q f p = f x p
 by-ok (Err e) P Q f p = tt
 
-when-true : (b : Bool) (P Q : Type 0) → b ≡ true → P → MatchBool b P Q
-when-true true P Q e p = p
-when-true false P Q e p = absurd (cc)
+pub returns-then-not-may_simplify-clause-searched : goal.returns-then-not-may_simplify-clause-searched
+returns-then-not-may_simplify-clause-searched g c =
+    by-ok c.decide_text.result _ _
+    (λ r s. SearchesAsIs (never-simplified c.args.options _ _ (sym c.may_simplify.ensures ∙ c.if-not-may_simplify.true)) s) c.decide_text.ensures.searched
 
-when-false : (b : Bool) (P Q : Type 0) → b ≡ false → Q → MatchBool b P Q
-when-false true P Q e q = absurd (cc)
-when-false false P Q e q = q
+pub returns-then-not-may_simplify-clause-fails : goal.returns-then-not-may_simplify-clause-fails
+returns-then-not-may_simplify-clause-fails g c =
+    by-error c.decide_text.result _ _
+    (λ e f. FailsAsIs (never-simplified c.args.options _ _ (sym c.may_simplify.ensures ∙ c.if-not-may_simplify.true)) f) c.decide_text.ensures.fails
 
--- what is simplified has no marks in its proof
-unmarked : (b m : Bool) → (b && not m) ≡ true → m ≡ false
-unmarked true true e = absurd (cc)
-unmarked true false e = refl
-unmarked false m e = absurd (cc)
+pub returns-in-Err-clause-fails : goal.returns-in-Err-clause-fails
+returns-in-Err-clause-fails g c = FailsParsing c.in-Err.fault c.in-Err.ensures c.from_text.ensures
 
 pub decide_simplified-requires-clause-plain : goal.decide_simplified-requires-clause-plain
 decide_simplified-requires-clause-plain g c = unmarked _ _ (sym c.is_simplified.ensures ∙ c.if-is_simplified.true)
 
+pub decide_simplified-requires-clause-low : goal.decide_simplified-requires-clause-low
+decide_simplified-requires-clause-low g c = parsed-low _ _ c.in-Ok.formula c.in-Ok.ensures
+
+pub returns-then-is_simplified-clause-decided : goal.returns-then-is_simplified-clause-decided
+returns-then-is_simplified-clause-decided g c =
+    by-ok c.decide_simplified.result _ _
+    (λ r k. decides-parsed g.W.ProofTarget.taken c.args.options.search.format (allowed_steps c.args.options.search.max_steps) _ _ c.in-Ok.formula
+    (concluded r) c.args.target.now c.decide_simplified.new.target c.in-Ok.ensures k) c.decide_simplified.ensures.decided
+
+pub returns-then-is_simplified-clause-searched : goal.returns-then-is_simplified-clause-searched
+returns-then-is_simplified-clause-searched g c =
+    by-ok c.decide_simplified.result _ _
+    (λ r s. SearchesMade c.in-Ok.formula c.in-Ok.ensures (sym c.is_simplified.ensures ∙ c.if-is_simplified.true) s) c.decide_simplified.ensures.searched
+
 pub returns-then-is_simplified-clause-fails : goal.returns-then-is_simplified-clause-fails
 returns-then-is_simplified-clause-fails g c =
-    by-error c.decide_simplified.result _ _ (λ e f. when-true _ _ _ (sym c.is_simplified.ensures ∙ c.if-is_simplified.true) f)
-    c.decide_simplified.ensures.fails
+    by-error c.decide_simplified.result _ _
+    (λ e f. FailsMade c.in-Ok.formula c.in-Ok.ensures (sym c.is_simplified.ensures ∙ c.if-is_simplified.true) f) c.decide_simplified.ensures.fails
+
+pub decide_formula-requires-clause-low : goal.decide_formula-requires-clause-low
+decide_formula-requires-clause-low g c = parsed-low _ _ c.in-Ok.formula c.in-Ok.ensures
+
+pub returns-else-is_simplified-clause-decided : goal.returns-else-is_simplified-clause-decided
+returns-else-is_simplified-clause-decided g c =
+    by-ok c.decide_formula.result _ _
+    (λ r k. decides-parsed g.W.ProofTarget.taken c.args.options.search.format (allowed_steps c.args.options.search.max_steps) _ _ c.in-Ok.formula
+    (concluded r) c.args.target.now c.decide_formula.new.target c.in-Ok.ensures k) c.decide_formula.ensures.decided
+
+pub returns-else-is_simplified-clause-searched : goal.returns-else-is_simplified-clause-searched
+returns-else-is_simplified-clause-searched g c =
+    by-ok c.decide_formula.result _ _
+    (λ r s. SearchesAsIs (searched-as-is c.args.options _ _ c.in-Ok.formula c.in-Ok.ensures (sym c.is_simplified.ensures ∙ c.if-is_simplified.false))
+    (searches-parsed g.W.ProofTarget.taken c.args.options.search c.args.target.now _ _ c.in-Ok.formula (concluded r) c.in-Ok.ensures s))
+    c.decide_formula.ensures.searched
 
 pub returns-else-is_simplified-clause-fails : goal.returns-else-is_simplified-clause-fails
 returns-else-is_simplified-clause-fails g c =
-    by-error c.decide_text.result _ _ (λ e f. when-false _ _ _ (sym c.is_simplified.ensures ∙ c.if-is_simplified.false) f)
-    c.decide_text.ensures.fails
-
-pub returns-then-is_simplified-clause-spent : goal.returns-then-is_simplified-clause-spent
-returns-then-is_simplified-clause-spent g c =
-    by-ok c.decide_simplified.result _ _ (λ r s. when-true _ _ _ (sym c.is_simplified.ensures ∙ c.if-is_simplified.true) s)
-    c.decide_simplified.ensures.spent
-
-pub returns-else-is_simplified-clause-spent : goal.returns-else-is_simplified-clause-spent
-returns-else-is_simplified-clause-spent g c =
-    by-ok c.decide_text.result _ _ (λ r s. when-false _ _ _ (sym c.is_simplified.ensures ∙ c.if-is_simplified.false) s)
-    c.decide_text.ensures.spent
+    by-error c.decide_formula.result _ _
+    (λ e f. FailsAsIs (searched-as-is c.args.options _ _ c.in-Ok.formula c.in-Ok.ensures (sym c.is_simplified.ensures ∙ c.if-is_simplified.false))
+    (fails-parsed g.W.ProofTarget.taken c.args.options.search c.args.target.now _ _ c.in-Ok.formula e c.in-Ok.ensures f))
+    c.decide_formula.ensures.fails

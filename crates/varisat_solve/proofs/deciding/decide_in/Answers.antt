@@ -8,7 +8,7 @@ use Rattle.varisat_steps.proofs.Broken.{passed-on}
 use Rattle.varisat.proofs.ProgramProves.{finds-valid}
 use Rattle.varisat_solver.proofs.entries.LoggedJournals.{proof-of}
 use Rattle.varisat_solve.specs.promises.Solving.{FailsOver, AsAdded, AsClosed}
-use Rattle.varisat_solve.proofs.DecidedBehind.{concluded-of, spends-over, fails-reported}
+use Rattle.varisat_solve.proofs.DecidedBehind.{concluded-of, fails-reported}
 use Rattle.varisat_solve.proofs.deciding.decide_in.Goals as goal
 
 pub returns-in_err-add_formula-clause-fails : goal.returns-in_err-add_formula-clause-fails
@@ -61,11 +61,11 @@ returns-clause-decided g c =
     concluded-of taken format check limit _ c.args.target.now c.in_ok-back.back t u report _ c.requires.low c.requires.few a f (proof-of _ u z ok) z.same
     c.in_ok-back.ensures.handed
 
-pub returns-clause-spent : goal.returns-clause-spent
-returns-clause-spent g c =
+pub returns-clause-searched : goal.returns-clause-searched
+returns-clause-searched g c =
     let taken = g.W.ProofTarget.taken in
     let o = c.args.options in
     let x = subst (λ t. Represents c.prepare.new.solver (prepared taken o.format o.check o.max_steps t)) c.take.ensures.value c.prepare.ensures in
     let (t, a, y) = (c.in_ok-add_formula.ensures {u = tt}).call (prepared taken o.format o.check o.max_steps c.args.target.now) x in
     let (u, f, z) = c.in_ok-report.ensures {u = tt} t y in
-    spends-over _ _ (concluded c.in_ok-report.report) t u a f
+    (t, u, a, f)

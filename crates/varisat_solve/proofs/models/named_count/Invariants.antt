@@ -1,5 +1,5 @@
 use Rattle.std.proofs.Common.{◌≡◌, ◌≤◌, ◌^◌, max}
-use Rattle.varisat_solve.specs.inside.Extending.{named_count}
+use Rattle.varisat_solve.specs.promises.Extending.{named_count}
 use Rattle.varisat_solve.proofs.models.named_count.Given as goal
 
 abbrev pub invariant-loop-clause : goal.invariant-loop-clause

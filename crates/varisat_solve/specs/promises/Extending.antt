@@ -19,4 +19,4 @@ model_of_all stack model n = literals_from 0 (extended stack (model_values n mod
 abbrev pub conclusion_of_all : List Clause → ℕ → Conclusion → Conclusion
 conclusion_of_all stack n (Decided None) = Decided None
 conclusion_of_all stack n (Decided (Some model)) = Decided (Some (model_of_all stack model n))
-conclusion_of_all stack n Unknown = Unknown
+conclusion_of_all stack n (Unknown reason) = Unknown reason

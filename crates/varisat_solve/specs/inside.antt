@@ -1,2 +1,0 @@
--- What contracts inside of the program cite. No promise to users rests on these definitions.
-pub mod Extending

@@ -1,0 +1,71 @@
+//! What the program's `solve` is asked for, and which formulas it simplifies before it searches.
+ghost use Rattle.std.specs.Prelude.{◌≡◌, nat_le};
+ghost use Rattle.varisat_simplify.specs.promises.Simplified.{literal_count};
+ghost use Rattle.varisat_solve.specs.promises.Solving.{is_simplified, may_simplify};
+
+use std::alloc::Allocator;
+use varisat::CnfFormula;
+use varisat::deciding::SolveOptions;
+use varisat::proof::ProofFormat;
+
+/// A formula with so many literals or more is long. By default the program simplifies such a formula before it searches.
+pub const LONG_FROM: usize = 2000;
+
+/// Which formulas are simplified before they are searched.
+#[derive(Clone, Copy, Debug)]
+pub enum Simplification {
+    /// Every formula is simplified.
+    Always,
+    /// No formula is simplified.
+    Never,
+    /// A formula is simplified if it has at least `LONG_FROM` literals.
+    IfLong,
+}
+
+/// What the program's `solve` is asked for.
+#[derive(Clone, Copy, Debug)]
+pub struct ProgramOptions {
+    /// The limits of the search, and the format of the proof.
+    pub search: SolveOptions,
+    /// Which formulas are simplified before they are searched. If the proof is marked text, none is.
+    pub simplification: Simplification,
+}
+
+/// Whether these options let any formula be simplified: they do not ask for none, and not for a proof as marked text.
+pub fn may_simplify(options: ProgramOptions) -> bool
+    ensures { result ≡ may_simplify options }
+{
+    match options.simplification {
+        Simplification::Never => false,
+        Simplification::Always | Simplification::IfLong => {
+            !matches!(options.search.format, ProofFormat::Marked)
+        }
+    }
+}
+
+/// Whether the formula is simplified before it is searched.
+pub fn is_simplified<A: Allocator + Copy>(options: ProgramOptions, formula: &CnfFormula<A>) -> bool
+    ensures { result ≡ is_simplified options formula.now.clauses }
+{
+    let is_asked = match options.simplification {
+        Simplification::Always => true,
+        Simplification::Never => false,
+        Simplification::IfLong => has_literals(formula, LONG_FROM),
+    };
+    is_asked && !matches!(options.search.format, ProofFormat::Marked)
+}
+
+/// Whether the formula's clauses have at least so many literals. A literal that a clause names twice counts twice.
+fn has_literals<A: Allocator + Copy>(formula: &CnfFormula<A>, least: usize) -> bool
+    ensures { result ≡ nat_le least (literal_count formula.now.clauses) }
+{
+    // Nothing is summed up, since no type says that the sum is below 2^64.
+    let mut missing = least;
+    for clause in formula.iter() {
+        if missing <= clause.len() {
+            return true;
+        }
+        missing -= clause.len();
+    }
+    missing == 0
+}

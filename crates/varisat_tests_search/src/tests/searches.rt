@@ -166,7 +166,7 @@ pub fn step<A: Allocator + Copy>(ctx: &mut Context<A>) -> Result<(), StepError>
 }
 
 /// Makes this the value that each variable without one had last.
-fn prefer_value<A: Allocator + Copy>(assignment: &mut Assignment<A>, value: bool)
+pub fn prefer_value<A: Allocator + Copy>(assignment: &mut Assignment<A>, value: bool)
     requires { length assignment.old.current ≤ variable_limit }
     ensures { assignment.new.current ≡ assignment.old.current }
 {

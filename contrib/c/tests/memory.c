@@ -1,5 +1,5 @@
 /* Makes calls with the n-th allocation refused, and all after it, for each n: none crashes, and no answer is wrong. Link it with
- * -Wl,--wrap=realloc,--wrap=calloc. */
+ * -Wl,--wrap=malloc,--wrap=realloc,--wrap=calloc: compilers make malloc of a realloc of nothing. */
 #include "../varisat.h"
 
 #include <stdio.h>
@@ -8,6 +8,7 @@
 
 #define CHECK(it) ((it) ? (void)0 : (printf("%s:%d: %s\n", __FILE__, __LINE__, #it), exit(1)))
 
+void *__real_malloc(size_t size);
 void *__real_realloc(void *at, size_t size);
 void *__real_calloc(size_t count, size_t size);
 
@@ -16,6 +17,10 @@ static long left = -1;
 
 static int is_refused(void) {
     return left == 0 || (left > 0 && left-- == 0);
+}
+
+void *__wrap_malloc(size_t size) {
+    return is_refused() ? NULL : __real_malloc(size);
 }
 
 void *__wrap_realloc(void *at, size_t size) {
@@ -126,8 +131,8 @@ int main(void) {
         if (answered) break;
         refused++;
     }
-    CHECK(unopened > 0 && refused > 20);
+    CHECK(unopened > 0 && refused > 70);
     int simplifiers = refuse_simplifiers();
-    CHECK(simplifiers > 15);
+    CHECK(simplifiers > 35);
     printf("%d refusals passed\n", unopened + refused + simplifiers);
 }

@@ -47,7 +47,8 @@ def pigeons(n):
 
 
 def load_tests(loader, tests, pattern):
-    """Adds the examples of the docstrings."""
+    """Adds the examples of the docstrings and of README.md."""
+    tests.addTests(doctest.DocFileSuite("README.md"))
     for name in ("", "._library", "._simplifier", "._solver", ".formula", ".pycosat"):
         tests.addTests(doctest.DocTestSuite(importlib.import_module("varisat" + name)))
     return tests

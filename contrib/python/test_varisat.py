@@ -510,6 +510,22 @@ class Formulas(unittest.TestCase):
                 formula.from_string(text)
             self.assertEqual((formula.nv, formula.hard), (0, []))
 
+    def test_texts_as_the_solver_reads_them(self):
+        rng, taken = random.Random(7), 0
+        words = ["p cnf ", "1", "2", "0", " ", "\n", "-1", "-2", " 0\n", "c x\n", "c", "p", "cnf", "p cnf 2 2\n", "p cnf 2 1\n", "\t", "\r\n", " c\n", " p cnf 2 1\n"]
+        for _ in range(3000):
+            text = "".join(rng.choice(words) for _ in range(rng.randint(0, 9)))
+            with Solver() as solver:
+                try:
+                    formula = CNF(from_string=text)
+                except ValueError:
+                    self.assertRaises(VarisatError, solver.read_dimacs, io.BytesIO(text.encode()))
+                    continue
+                taken += 1
+                solver.read_dimacs(io.BytesIO(text.encode()))
+                self.assertEqual((solver.nof_vars(), solver.solve()), (formula.nv, Solver(formula).solve()), text)
+        self.assertGreater(taken, 500)
+
     def test_wcnf(self):
         formula = WCNF(from_string="c here\np wcnf 5 4 10\n10 1 2 0\n3 -1 0\n11 0\n9 -2 1 0\n")
         self.assertEqual((formula.nv, formula.hard, formula.soft, formula.wght), (5, [[1, 2], []], [[-1], [-2, 1]], [3, 9]))

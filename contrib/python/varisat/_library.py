@@ -116,7 +116,7 @@ def version() -> str:
     >>> version().split(",")[0].startswith("varisat ")
     True
     """
-    return library.varisat_version().decode()
+    return str(library.varisat_version().decode())
 
 
 def error_of(number: int, text: str = "", place: Optional[int] = None) -> Exception:
@@ -141,7 +141,7 @@ def check_proof(text: bytes, proof: bytes, format: str = "drat") -> bool:
     number, text, proof, place = format_number(format), bytes_of(text), bytes_of(proof), ctypes.c_uint64()
     answer = library.varisat_check_proof(number, text, len(text), proof, len(proof), ctypes.byref(place))
     if answer >= 0:
-        return answer == UNSATISFIABLE
+        return bool(answer == UNSATISFIABLE)
     places = {
         ErrorNumber.DIMACS: f"line {place.value} of the text is wrong",
         ErrorNumber.WRONG_PROOF: f"step or byte {place.value} of the proof is wrong",

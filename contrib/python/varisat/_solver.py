@@ -100,7 +100,8 @@ class Solver:
         # The call that is under way, if one is.
         self._calls: Dict[str, object] = {}
         self._kept = io.BytesIO() if with_proof else None
-        self._target, self._written = self._kept if with_proof else proof, None
+        self._target: Optional[Writer] = self._kept if with_proof else proof
+        self._written: Any = None
         # How many of the bytes that are written the target took.
         self._handed = 0
         self._status: Optional[bool] = None
@@ -272,7 +273,7 @@ class Solver:
                 return answer
 
     def _count(self, name: str) -> int:
-        return library.varisat_count(self._solver, COUNTERS.index(name))
+        return int(library.varisat_count(self._solver, COUNTERS.index(name)))
 
     def _set_budget(self, name: str, budget: int) -> None:
         self._budgets.pop(name, None)

@@ -7,24 +7,24 @@ import io
 import lzma
 import operator
 import re
-from typing import Any, Callable, Dict, IO, Iterable, Iterator, List, Optional, Sequence, TextIO, Tuple
+from typing import Any, Callable, Dict, Iterable, Iterator, List, Optional, Sequence, TextIO, Tuple, cast
 
 __all__ = ["CNF", "WCNF"]
 
-_OPENERS: Dict[str, Callable[..., IO[Any]]] = {".gz": gzip.open, ".bz2": bz2.open, ".xz": lzma.open, ".lzma": lzma.open}
-_COMPRESSIONS = {"gzip": gzip.open, "bzip2": bz2.open, "lzma": lzma.open, None: open}
+# Each opens a file by its name, a mode and the words of a text.
+_COMPRESSIONS: Dict[Optional[str], Callable[..., Any]] = {"gzip": gzip.open, "bzip2": bz2.open, "lzma": lzma.open, None: open}
+_ENDS = {".gz": "gzip", ".bz2": "bzip2", ".xz": "lzma", ".lzma": "lzma"}
 
 
 def _open(name: str, mode: str, compression: Optional[str]) -> TextIO:
     """Opens a text, compressed by its name's end for "use_ext", and otherwise by gzip, bzip2, lzma or None."""
     if compression == "use_ext":
-        opener = next((opener for end, opener in _OPENERS.items() if name.endswith(end)), open)
-    elif compression in _COMPRESSIONS:
-        opener = _COMPRESSIONS[compression]
-    else:
+        compression = next((it for end, it in _ENDS.items() if name.endswith(end)), None)
+    elif compression not in _COMPRESSIONS:
         raise ValueError(f"there is no compression {compression}: there are use_ext, gzip, bzip2, lzma and None")
     # Comments may be in any encoding.
-    return opener(name, mode + "t", encoding="utf-8", errors="surrogateescape", newline=None if mode == "r" else "\n")
+    file = _COMPRESSIONS[compression](name, mode + "t", encoding="utf-8", errors="surrogateescape", newline=None if mode == "r" else "\n")
+    return cast(TextIO, file)
 
 
 def _clause(literals: Iterable[int]) -> List[int]:
@@ -55,9 +55,14 @@ class _Text:
     """What the two formats share: a text of lines, of which some are comments."""
     nv: int
     comments: List[str]
+    # Whether blanks may come before a comment or a header.
+    _indented = False
 
     def _clear(self) -> None:
         self.nv, self.comments = 0, []
+
+    def _read_header(self, words: List[str]) -> None:
+        raise NotImplementedError
 
     def _read_line(self, words: List[str]) -> None:
         raise NotImplementedError
@@ -83,10 +88,12 @@ class _Text:
         number = 0
         try:
             for number, line in enumerate(file_pointer, 1):
-                words = line.split()
-                if words and words[0][0] in comment_lead:
+                begin = line.lstrip() if self._indented else line
+                if begin and begin[0] in comment_lead:
                     self.comments.append(line.strip())
-                elif words:
+                elif begin.startswith("p"):
+                    self._read_header(line.split())
+                elif words := line.split():
                     self._read_line(words)
             self._end()
         except ValueError as error:
@@ -119,7 +126,7 @@ class _Text:
         return "".join(line + "\n" for line in [*self.comments, *self._lines()])
 
     def _count(self, clause: List[int]) -> List[int]:
-        self.nv = max([self.nv, *map(abs, clause)])
+        self.nv = max(self.nv, *clause, *(-literal for literal in clause), 0)
         return clause
 
     def __repr__(self) -> str:
@@ -128,7 +135,7 @@ class _Text:
 
 def _header(words: List[str], kind: str, begun: bool, most: int) -> List[int]:
     """The numbers of a header, which comes once, before the clauses."""
-    if begun or words[:2] != ["p", kind] or not 4 <= len(words) <= most:
+    if begun or words[:2] != ["p", kind] or not 4 <= len(words) <= most or any(word.startswith("-") for word in words):
         raise ValueError(f"a header 'p {kind} VARIABLES CLAUSES{' TOP' if most > 4 else ''}' comes once, before the clauses")
     return _numbers(words[2:])
 
@@ -163,10 +170,10 @@ class CNF(_Text):
         # The clause of a text that no 0 ended yet.
         self._open: List[int] = []
 
+    def _read_header(self, words: List[str]) -> None:
+        self._header = _header(words, "cnf", bool(self._header or self.clauses or self._open), 4)
+
     def _read_line(self, words: List[str]) -> None:
-        if words[0] == "p":
-            self._header = _header(words, "cnf", bool(self._header or self.clauses or self._open), 4)
-            return
         for number in _numbers(words):
             if self._header and abs(number) > self._header[0]:
                 raise ValueError(f"the header names {self._header[0]} variables, and {number} is another one")
@@ -246,6 +253,8 @@ class WCNF(_Text):
     ([[1, 2]], [[-3]], [7], 3)
     """
 
+    _indented = True
+
     def __init__(self, from_file: Optional[str] = None, from_fp: Optional[TextIO] = None, from_string: Optional[str] = None,
                  comment_lead: Sequence[str] = ("c",)):
         self._start(from_file, from_fp, from_string, comment_lead)
@@ -259,11 +268,11 @@ class WCNF(_Text):
         # Of a text in the old format: the weight from which on a clause is hard.
         self._header: Optional[Tuple[int, Optional[int]]] = None
 
+    def _read_header(self, words: List[str]) -> None:
+        numbers = _header(words, "wcnf", bool(self._header or self.hard or self.soft), 5)
+        self._header = numbers[0], numbers[2] if len(numbers) > 2 else None
+
     def _read_line(self, words: List[str]) -> None:
-        if words[0] == "p":
-            variables, _, *top = _header(words, "wcnf", bool(self._header or self.hard or self.soft), 5)
-            self._header = variables, top[0] if top else None
-            return
         *clause, end = _numbers(words[1:]) or [1]
         if end:
             raise ValueError("a clause ends with 0, and so does its line")

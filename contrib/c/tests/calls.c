@@ -102,9 +102,6 @@ static void errors_in_words(void) {
     for (int error = VARISAT_READ_FAILED - 1; error <= VARISAT_PROOF_IO; error++)
         for (int other = VARISAT_READ_FAILED; other < error; other++) CHECK(strcmp(varisat_strerror(error), varisat_strerror(other)));
     CHECK(!strcmp(varisat_strerror(VARISAT_READ_FAILED - 1), unknown) && strstr(varisat_strerror(VARISAT_SIMPLIFIED), "simplified already"));
-    char version[40];
-    sprintf(version, "varisat %d.%d.%d", VARISAT_VERSION_MAJOR, VARISAT_VERSION_MINOR, VARISAT_VERSION_PATCH);
-    CHECK(!strncmp(varisat_version(), version, strlen(version)) && strchr(",", varisat_version()[strlen(version)]));
 }
 
 /* The highest variable, behind each call that names or returns one. */

@@ -109,6 +109,8 @@ class Calls(unittest.TestCase):
                 self.assertEqual((solver.nof_clauses(), solver.solve(), solver.get_model()), (2, True, [-1, 2]))
         self.assertRaises(TypeError, Solver, [[1]], [[2]])
         self.assertRaises(TypeError, Solver, [[1]], bootstrap_with=[[2]])
+        for file in ("formula.cnf", "formula.cnf.gz", "/tmp/formula", "../formula"):
+            self.assertRaisesRegex(ValueError, "from_file", Solver, file)
         for words in ({}, {"name": "g4"}, {"bootstrap_with": None}):
             self.assertEqual(Solver(**words).nof_clauses(), 0)
         solver = Solver("g4", [[1], [-1]], vsids_decay=900)

@@ -329,8 +329,18 @@ class Calls(unittest.TestCase):
             solver.set_terminate()
             # A shell has what it starts in the background ignore Ctrl-C, and Python then raises nothing.
             signal.signal(signal.SIGINT, signal.default_int_handler)
-            threading.Timer(0.2, os.kill, (os.getpid(), signal.SIGINT)).start()
-            self.assertRaises(KeyboardInterrupt, solver.solve)
+            begun = threading.Event()
+
+            def press():
+                begun.wait()
+                time.sleep(0.2)
+                os.kill(os.getpid(), signal.SIGINT)
+
+            # The thread is there before, as its start may take long on a busy machine.
+            threading.Thread(target=press).start()
+            with self.assertRaises(KeyboardInterrupt):
+                begun.set()
+                solver.solve()
             self.assertFalse(solver.solve(assumptions=[1, 12]))
             solver.interrupt()
             solver.clear_interrupt()

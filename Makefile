@@ -1,6 +1,6 @@
 # make                      the proved program and library, in half an hour the first time; with UNPROVED=1 without proofs, in four minutes
 # make install              the program, its page for man, and what bash completes; the library for C, its headers, what pkg-config tells
-#                           of it, and the module for Python; PREFIX and DESTDIR as usual
+#                           of it, and the package for Python; PREFIX and DESTDIR as usual
 # make uninstall            takes out what install put there
 # PARTS=program             the program alone; PARTS=library the other
 UNPROVED =

@@ -86,12 +86,14 @@ static int end(struct user *user, int answer) {
 
 /* Solvers. */
 
-enum { MOST_STEPS = 1000, PIECE = 1 << 14, TEXT = 200 };
+enum { MOST_STEPS = 1000, PIECE = 1 << 14, TEXT = 200, HIGHEST_VARIABLE = 1 << 28 };
 
 struct varisat {
     struct handle handle;
     struct user user;
     atomic_int interrupted;
+    /* The highest variable that was named or returned. */
+    int32_t highest;
     int error;
     char text[TEXT];
     int (*terminate)(void *);
@@ -110,17 +112,48 @@ const char *varisat_version(void) {
 #endif
 }
 
-/* The text of an error, and NULL for those that the library names. */
-static const char *text_of(int error) {
+const char *varisat_strerror(int error) {
     switch (error) {
     case VARISAT_PROOF_IO: return "Error writing proof file";
     case VARISAT_OUT_OF_MEMORY: return "Out of memory";
     case VARISAT_INVALID: return "The solver is invalid after an unrecoverable error";
-    case VARISAT_BAD_ARGUMENT: return "No solver, list, setting, format or variable, clauses that no 0 ends, or the literal 0";
-    case VARISAT_NOTHING: return "There is no model, core or proof, or the model has no such variable";
-    default: return NULL;
+    case VARISAT_STORE_FULL: return "The store of clauses is full";
+    case VARISAT_WITNESS_VAR: return "A witness variable cannot be constrained";
+    case VARISAT_VARIABLE_LIMIT: return "The variable limit is passed";
+    case VARISAT_ASSUMED_VAR: return "The mode of an assumed variable cannot change";
+    case VARISAT_CLAUSE_AFTER_SOLVE: return "A clause cannot be added after solve under an open proof";
+    case VARISAT_PROOF_OPEN: return "A proof is open";
+    case VARISAT_PROOF_TOO_LATE: return "A proof must begin before any clause, variable or assumption";
+    case VARISAT_OUT_OF_RANGE: return "The value is out of its setting's range";
+    case VARISAT_DIMACS: return "Error in DIMACS input";
+    case VARISAT_BAD_ARGUMENT: return "No solver, list, setting, counter, format or variable, clauses that no 0 ends, or the literal 0";
+    case VARISAT_NOTHING: return "There is no model, core or proof, the model has no such variable, or the clauses are not simplified yet";
+    case VARISAT_WRONG_PROOF: return "A line of the proof is wrong";
+    case VARISAT_OTHER_CLAUSE: return "The proof was given a clause that the text has not";
+    case VARISAT_BUSY: return "Another call of this solver or simplifier is under way";
+    case VARISAT_SIMPLIFIED: return "The clauses are simplified already";
+    case VARISAT_READ_FAILED: return "Error reading the file";
+    default: return error < 0 ? "No error has this number" : "No error";
     }
 }
+
+/* Whether the library has a text for a refusal by this number, which names the variable, the setting or the line. */
+static bool has_details(int error) {
+    switch (error) {
+    case VARISAT_PROOF_IO:
+    case VARISAT_OUT_OF_MEMORY:
+    case VARISAT_INVALID:
+    case VARISAT_BAD_ARGUMENT:
+    case VARISAT_NOTHING:
+    case VARISAT_READ_FAILED: return false;
+    default: return true;
+    }
+}
+
+/* What varisat_last_error returns. */
+static _Thread_local int last_error;
+
+int varisat_last_error(void) { return last_error; }
 
 static bool is_valid(varisat *solver) { return caller_is_valid(&solver->handle) && !solver->proof_failed; }
 
@@ -128,17 +161,16 @@ static bool is_valid(varisat *solver) { return caller_is_valid(&solver->handle) 
 static int leave(varisat *solver, int answer) {
     /* What made the solver invalid is returned from then on. */
     if (answer < 0 && !solver->is_lost) {
-        const char *text = text_of(answer);
         memset(solver->text, 0, TEXT);
-        if (!text) {
+        if (has_details(answer)) {
             /* Without the limit, which may leave no room for a text. */
             charged = NULL;
             caller_refusal_copy(&solver->handle, (uint8_t *)solver->text, TEXT - 1);
             charged = &solver->user.account;
-            text = "Refused, and there is no memory for the reason";
         }
+        /* There may have been no memory for that text. */
         if (!solver->text[0])
-            strncpy(solver->text, text, TEXT - 1);
+            strncpy(solver->text, varisat_strerror(answer), TEXT - 1);
         solver->error = answer;
         solver->is_lost = !is_valid(solver);
     }
@@ -186,16 +218,43 @@ static int changed(varisat *solver, int number) {
     return leave(solver, written(solver, -number));
 }
 
+/* Notes that these variables were named or returned. */
+static void note(varisat *solver, const int32_t *literals, size_t count) {
+    for (size_t i = 0; i < count; i++) {
+        int64_t variable = literals[i] < 0 ? -(int64_t)literals[i] : literals[i];
+        if (variable > solver->highest && variable <= HIGHEST_VARIABLE)
+            solver->highest = (int32_t)variable;
+    }
+}
+
+/* Ends a call that names these literals, as `changed` does. */
+static int named(varisat *solver, const int32_t *literals, size_t count, int number) {
+    if (number != -VARISAT_BAD_ARGUMENT)
+        note(solver, literals, count);
+    return changed(solver, number);
+}
+
+/* Ends a call that returns a variable, or an error. */
+static int returned(varisat *solver, ptrdiff_t answer) {
+    int32_t variable = (int32_t)answer;
+    if (variable > 0)
+        note(solver, &variable, 1);
+    return leave(solver, written(solver, variable));
+}
+
 varisat *varisat_new(size_t heap_limit) {
     varisat *solver = calloc(1, sizeof *solver);
+    last_error = VARISAT_OUT_OF_MEMORY;
     if (!solver)
         return NULL;
     set_limit(&solver->user, heap_limit);
     enter(solver, true);
     bool is_open = caller_open(&solver->handle);
     leave(solver, 0);
-    if (is_open)
+    if (is_open) {
+        last_error = 0;
         return solver;
+    }
     free(solver);
     return NULL;
 }
@@ -212,7 +271,7 @@ int varisat_free(varisat *solver) {
 
 int varisat_error(varisat *solver) { return solver ? solver->error : VARISAT_BAD_ARGUMENT; }
 
-const char *varisat_error_text(varisat *solver) { return solver ? solver->text : text_of(VARISAT_BAD_ARGUMENT); }
+const char *varisat_error_text(varisat *solver) { return solver ? solver->text : varisat_strerror(VARISAT_BAD_ARGUMENT); }
 
 int varisat_is_valid(varisat *solver) {
     BEGIN(enter(solver, true));
@@ -234,7 +293,7 @@ static const void *slice(const void *at) {
 
 int varisat_add_clause(varisat *solver, const int32_t *literals, size_t count) {
     BEGIN(enter_change(solver, are_numbers(literals, count)));
-    return changed(solver, caller_add_clause(&solver->handle, slice(literals), count));
+    return named(solver, literals, count, caller_add_clause(&solver->handle, slice(literals), count));
 }
 
 static bool are_clauses(const int32_t *numbers, size_t count) { return are_numbers(numbers, count) && (!count || !numbers[count - 1]); }
@@ -252,12 +311,12 @@ static int add_each(uint8_t (*add)(struct handle *, const int32_t *, size_t), st
 
 int varisat_add_clauses(varisat *solver, const int32_t *numbers, size_t count) {
     BEGIN(enter_change(solver, are_clauses(numbers, count)));
-    return changed(solver, add_each(caller_add_clause, &solver->handle, numbers, count));
+    return named(solver, numbers, count, add_each(caller_add_clause, &solver->handle, numbers, count));
 }
 
 int varisat_add(varisat *solver, int32_t literal) {
     BEGIN(enter_change(solver, true));
-    return changed(solver, caller_add(&solver->handle, literal));
+    return named(solver, &literal, 1, caller_add(&solver->handle, literal));
 }
 
 int varisat_read_dimacs(varisat *solver, const char *piece, size_t size) {
@@ -267,7 +326,32 @@ int varisat_read_dimacs(varisat *solver, const char *piece, size_t size) {
 
 int varisat_end_dimacs(varisat *solver) {
     BEGIN(enter_change(solver, true));
-    return leave(solver, written(solver, (int)caller_end_text(&solver->handle)));
+    return returned(solver, caller_end_text(&solver->handle));
+}
+
+/* Reads a piece, as read does, also where a signal comes first. */
+static ssize_t read_piece(int fd, uint8_t *piece) {
+    ssize_t size;
+    do
+        size = read(fd, piece, PIECE);
+    while (size < 0 && errno == EINTR);
+    return size;
+}
+
+int varisat_read_dimacs_fd(varisat *solver, int fd) {
+    BEGIN(enter_change(solver, true));
+    uint8_t piece[PIECE];
+    ssize_t size;
+    while ((size = read_piece(fd, piece)) > 0) {
+        int answer = written(solver, -caller_feed(&solver->handle, piece, (size_t)size));
+        if (answer)
+            return leave(solver, answer);
+    }
+    int fault = errno;
+    ptrdiff_t highest = caller_end_text(&solver->handle);
+    int answer = returned(solver, size < 0 ? VARISAT_READ_FAILED : highest);
+    errno = fault;
+    return answer;
 }
 
 /* Searches. */
@@ -276,7 +360,7 @@ int varisat_assume(varisat *solver, const int32_t *literals, size_t count) {
     BEGIN(enter_change(solver, are_numbers(literals, count)));
     int number = caller_assume(&solver->handle, slice(literals), count);
     /* Under a proof that bars assumptions none are made, so that the empty list is assumed already. */
-    return changed(solver, number == -VARISAT_PROOF_OPEN && !count ? 0 : number);
+    return named(solver, literals, count, number == -VARISAT_PROOF_OPEN && !count ? 0 : number);
 }
 
 int varisat_solve(varisat *solver) { return varisat_solve_steps(solver, UINT64_MAX); }
@@ -319,7 +403,10 @@ static int list(varisat *solver, int number, int32_t *numbers, size_t room) {
     int32_t none;
     if (number)
         return leave(solver, -number);
-    caller_list_copy(&solver->handle, numbers ? numbers : &none, room);
+    size_t copied = caller_list_copy(&solver->handle, numbers ? numbers : &none, room);
+    /* Variables come in increasing order, and those of a core were named. */
+    if (copied)
+        note(solver, &numbers[copied - 1], 1);
     return leave(solver, (int)caller_list_len(&solver->handle));
 }
 
@@ -349,25 +436,58 @@ static int look_up(varisat *solver, uint8_t (*call)(struct handle *, int32_t), i
 }
 
 int varisat_value(varisat *solver, int32_t literal) { return look_up(solver, caller_value, literal); }
+
+int32_t varisat_val(varisat *solver, int32_t literal) {
+    int answer = varisat_value(solver, literal);
+    last_error = answer < 0 ? answer : 0;
+    return answer < 0 ? 0 : answer ? literal : -literal;
+}
+
 int varisat_is_failed(varisat *solver, int32_t literal) { return look_up(solver, caller_is_failed, literal); }
 
 /* Variables. */
 
 int varisat_new_var(varisat *solver) {
     BEGIN(enter_change(solver, true));
-    return leave(solver, written(solver, (int)caller_new_var(&solver->handle)));
+    return returned(solver, caller_new_var(&solver->handle));
 }
 
 static int set_mode(varisat *solver, int32_t variable, uint8_t mode) {
     BEGIN(enter_change(solver, true));
-    return changed(solver, caller_set_mode(&solver->handle, variable, mode));
+    return named(solver, &variable, 1, caller_set_mode(&solver->handle, variable, mode));
 }
 
 int varisat_sample_var(varisat *solver, int32_t variable) { return set_mode(solver, variable, 0); }
 int varisat_witness_var(varisat *solver, int32_t variable) { return set_mode(solver, variable, 1); }
 int varisat_hide_var(varisat *solver, int32_t variable) { return set_mode(solver, variable, 2); }
 
+int varisat_var_count(varisat *solver) {
+    BEGIN(enter(solver, true));
+    return leave(solver, solver->highest);
+}
+
 /* Settings and counters. */
+
+static const char *const setting_names[] = {
+    [VARISAT_VSIDS_DECAY] = "vsids_decay",
+    [VARISAT_CLAUSE_ACTIVITY_DECAY] = "clause_activity_decay",
+    [VARISAT_REDUCE_LOCALS_INTERVAL] = "reduce_locals_interval",
+    [VARISAT_REDUCE_MIDS_INTERVAL] = "reduce_mids_interval",
+    [VARISAT_LUBY_RESTART_INTERVAL_SCALE] = "luby_restart_interval_scale",
+    [VARISAT_RESTART_GLUE] = "restart_glue",
+};
+
+const char *varisat_setting_name(int setting) {
+    return setting >= 0 && setting <= VARISAT_RESTART_GLUE ? setting_names[setting] : NULL;
+}
+
+int varisat_set_named(varisat *solver, const char *name, uint64_t value) {
+    int setting = 0;
+    while (name && setting <= VARISAT_RESTART_GLUE && strcmp(name, setting_names[setting]))
+        setting++;
+    BEGIN(enter_change(solver, name && setting <= VARISAT_RESTART_GLUE));
+    return leave(solver, -caller_config(&solver->handle, (uint8_t)setting, value));
+}
 
 int varisat_set(varisat *solver, enum varisat_setting setting, uint64_t value) {
     BEGIN(enter_change(solver, setting <= VARISAT_RESTART_GLUE));
@@ -381,12 +501,12 @@ int varisat_set_for_file(varisat *solver) {
 }
 
 uint64_t varisat_count(varisat *solver, enum varisat_counter counter) {
-    if (enter(solver, true))
+    last_error = enter(solver, counter <= VARISAT_BYTES);
+    if (last_error)
         return 0;
     uint64_t count = counter == VARISAT_BYTES   ? sizeof *solver + solver->user.account.used
                      : counter == VARISAT_STEPS ? caller_steps(&solver->handle)
-                     : counter < VARISAT_STEPS  ? caller_counter(&solver->handle, (uint8_t)counter)
-                                                : 0;
+                                                : caller_counter(&solver->handle, (uint8_t)counter);
     leave(solver, 0);
     return count;
 }
@@ -462,12 +582,15 @@ static int enter_simplifier(varisat_simplifier *simplifier, bool is_right) {
 
 varisat_simplifier *varisat_simplifier_new(size_t heap_limit) {
     varisat_simplifier *simplifier = calloc(1, sizeof *simplifier);
+    last_error = VARISAT_OUT_OF_MEMORY;
     if (!simplifier)
         return NULL;
     set_limit(&simplifier->user, heap_limit);
     begin(&simplifier->user);
-    if (end(&simplifier->user, simplifier_open(&simplifier->handle)))
+    if (end(&simplifier->user, simplifier_open(&simplifier->handle))) {
+        last_error = 0;
         return simplifier;
+    }
     free(simplifier);
     return NULL;
 }

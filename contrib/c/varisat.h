@@ -21,6 +21,11 @@
 extern "C" {
 #endif
 
+/* The version of this header. varisat_version returns that of the library. */
+#define VARISAT_VERSION_MAJOR 1
+#define VARISAT_VERSION_MINOR 0
+#define VARISAT_VERSION_PATCH 0
+
 typedef struct varisat varisat;
 
 /* What varisat_solve found out. */
@@ -48,8 +53,17 @@ enum {
     VARISAT_WRONG_PROOF = -16,       /* a line of a proof is wrong */
     VARISAT_OTHER_CLAUSE = -17,      /* a marked proof was given a clause that the text has not */
     VARISAT_BUSY = -18,              /* another call of this solver is under way */
-    VARISAT_SIMPLIFIED = -19         /* the simplifier has simplified its clauses */
+    VARISAT_SIMPLIFIED = -19,        /* the simplifier has simplified its clauses */
+    VARISAT_READ_FAILED = -20        /* a file cannot be read further, and errno says why; the clauses before stay */
 };
+
+/* An error in words, also one of a simplifier or of a check. Each number has a text, which lasts. varisat_error_text says more, such as
+ * which line of a text or which variable it was. */
+const char *varisat_strerror(int error);
+
+/* The error of the last call in this thread of varisat_new, varisat_simplifier_new, varisat_val or varisat_count, which return none: 0 if
+ * that call succeeded, or if there was none. */
+int varisat_last_error(void);
 
 /* The name and the version. */
 const char *varisat_version(void);
@@ -86,6 +100,10 @@ int varisat_read_dimacs(varisat *solver, const char *piece, size_t size);
 /* Ends the text. Returns the highest variable of its header and its literals. */
 int varisat_end_dimacs(varisat *solver);
 
+/* Reads the rest of a text from the file that is open under this number, up to its end, ends the text, and returns as varisat_end_dimacs
+ * does. The file stays open. Where it cannot be read further (VARISAT_READ_FAILED) the text is ended too. */
+int varisat_read_dimacs_fd(varisat *solver, int fd);
+
 /* Searches. */
 
 /* Assumes these literals in all searches, until others replace them. Under a DRAT proof none can be assumed, and the empty list is 0. */
@@ -108,6 +126,10 @@ int varisat_model(varisat *solver, int32_t *literals, size_t room);
 
 /* Whether the literal is true in this model, 1 or 0. A variable that is not in use is VARISAT_NOTHING, which is not 0. */
 int varisat_value(varisat *solver, int32_t literal);
+
+/* The literal if it is true in this model, its opposite if it is false, and 0 if neither is known, as IPASIR's ipasir_val: there is no
+ * model, it has no such variable, or the call is refused. varisat_last_error returns which error of varisat_value that was. */
+int32_t varisat_val(varisat *solver, int32_t literal);
 
 /* Some of the assumptions which fail together with the clauses, if the last thing that was found out is that they do. */
 int varisat_failed_core(varisat *solver, int32_t *literals, size_t room);
@@ -135,6 +157,11 @@ int varisat_hide_var(varisat *solver, int32_t variable);
  * the same, and the next model lists them. */
 int varisat_observe_internal_vars(varisat *solver, int32_t *variables, size_t room);
 
+/* The highest variable that the calls of this solver named or returned, 0 if there is none. A call that was refused counts, unless as
+ * VARISAT_BAD_ARGUMENT, VARISAT_INVALID or VARISAT_BUSY, and so does a list as far as there was room for it; a text counts once it ended
+ * without a fault. */
+int varisat_var_count(varisat *solver);
+
 /* Settings and counters. */
 
 enum varisat_setting {
@@ -146,6 +173,12 @@ enum varisat_setting {
     VARISAT_RESTART_GLUE                 /* 0 to 1000, in hundredths; 0: each due restart is made */
 };
 int varisat_set(varisat *solver, enum varisat_setting setting, uint64_t value);
+
+/* Sets the setting of this name, such as "vsids_decay". VARISAT_BAD_ARGUMENT if there is none. */
+int varisat_set_named(varisat *solver, const char *name, uint64_t value);
+
+/* The name of the setting with this number, and NULL if there is none: they are numbered from 0. No call returns a setting's value. */
+const char *varisat_setting_name(int setting);
 
 /* Settings for one formula as in a file: locals 2000, restarts 1, glue 110. */
 int varisat_set_for_file(varisat *solver);
@@ -161,7 +194,7 @@ enum varisat_counter {
     VARISAT_STEPS,
     VARISAT_BYTES /* of memory in use */
 };
-/* 0 where there is no such counter, or the solver is busy. */
+/* 0 also if there is no such counter, or the solver is busy: varisat_last_error then returns why. */
 uint64_t varisat_count(varisat *solver, enum varisat_counter counter);
 
 /* Proofs. */

@@ -1,6 +1,8 @@
 /* Each call, used rightly and wrongly. */
 #include "../varisat.h"
 
+#include <errno.h>
+#include <fcntl.h>
 #include <pthread.h>
 #include <stdatomic.h>
 #include <stdbool.h>
@@ -73,6 +75,63 @@ static void lists(void) {
     CHECK(varisat_free(s) == 0);
 }
 
+/* Answers without an error number, and where their errors are. */
+static void signs(void) {
+    varisat *s = varisat_new(0);
+    CHECK(varisat_last_error() == 0);
+    CHECK(varisat_val(s, 1) == 0 && varisat_last_error() == VARISAT_NOTHING && varisat_error(s) == VARISAT_NOTHING);
+    CHECK(varisat_count(s, VARISAT_STEPS) == 0 && varisat_last_error() == 0);
+    CHECK(varisat_count(s, VARISAT_BYTES + 1) == 0 && varisat_last_error() == VARISAT_BAD_ARGUMENT && varisat_error(s) == VARISAT_BAD_ARGUMENT);
+    CHECK(varisat_count(NULL, VARISAT_STEPS) == 0 && varisat_last_error() == VARISAT_BAD_ARGUMENT);
+    CHECK(varisat_add_clauses(s, LITS(1, 0, -2, 0)) == 0 && varisat_solve(s) == VARISAT_SATISFIABLE);
+    CHECK(varisat_val(s, 1) == 1 && varisat_val(s, -1) == 1 && varisat_val(s, 2) == -2 && varisat_val(s, -2) == -2 && varisat_last_error() == 0);
+    CHECK(varisat_val(s, 3) == 0 && varisat_last_error() == VARISAT_NOTHING && varisat_val(s, 2) == -2 && varisat_last_error() == 0);
+    CHECK(varisat_val(s, 0) == 0 && varisat_last_error() == VARISAT_BAD_ARGUMENT);
+    CHECK(varisat_val(s, INT32_MIN) == 0 && varisat_last_error() == VARISAT_NOTHING && varisat_val(s, INT32_MAX) == 0);
+    CHECK(varisat_val(NULL, 1) == 0 && varisat_last_error() == VARISAT_BAD_ARGUMENT);
+    CHECK(varisat_assume(s, LITS(2)) == 0 && varisat_solve(s) == VARISAT_UNSATISFIABLE && varisat_val(s, 1) == 0 && varisat_val(s, 2) == 0);
+    CHECK(varisat_free(s) == 0);
+    /* a solver for which there is no memory, behind one for which there is */
+    CHECK(!varisat_new(1) && varisat_last_error() == VARISAT_OUT_OF_MEMORY && !varisat_simplifier_new(1));
+    CHECK(varisat_last_error() == VARISAT_OUT_OF_MEMORY && (s = varisat_new(0)) && varisat_last_error() == 0 && varisat_free(s) == 0);
+}
+
+static void errors_in_words(void) {
+    const char *nothing = varisat_strerror(0), *unknown = varisat_strerror(-1);
+    CHECK(!strcmp(nothing, varisat_strerror(10)) && !strcmp(unknown, varisat_strerror(INT32_MIN)) && strcmp(nothing, unknown));
+    for (int error = VARISAT_READ_FAILED - 1; error <= VARISAT_PROOF_IO; error++)
+        for (int other = VARISAT_READ_FAILED; other < error; other++) CHECK(strcmp(varisat_strerror(error), varisat_strerror(other)));
+    CHECK(!strcmp(varisat_strerror(VARISAT_READ_FAILED - 1), unknown) && strstr(varisat_strerror(VARISAT_SIMPLIFIED), "simplified already"));
+}
+
+/* The highest variable, behind each call that names or returns one. */
+static void highest_variables(void) {
+    varisat *s = varisat_new(0);
+    CHECK(varisat_var_count(s) == 0 && varisat_var_count(NULL) == VARISAT_BAD_ARGUMENT);
+    CHECK(varisat_add_clause(s, LITS(2, -4)) == 0 && varisat_var_count(s) == 4 && varisat_add_clause(s, LITS(-1)) == 0 && varisat_var_count(s) == 4);
+    CHECK(varisat_add_clauses(s, LITS(5, 0, -6, 0)) == 0 && varisat_var_count(s) == 6 && varisat_new_var(s) == 7 && varisat_var_count(s) == 7);
+    CHECK(varisat_assume(s, LITS(-8)) == 0 && varisat_var_count(s) == 8 && varisat_hide_var(s, 9) == 0 && varisat_var_count(s) == 9);
+    CHECK(varisat_add(s, 10) == 0 && varisat_var_count(s) == 10 && varisat_add(s, 0) == 0);
+    CHECK(varisat_read_dimacs(s, "p cnf 12 1\n11 0", 15) == 0 && varisat_var_count(s) == 10 && varisat_end_dimacs(s) == 12 && varisat_var_count(s) == 12);
+    /* What is refused: a witness counts, what is no literal and no variable does not. */
+    CHECK(varisat_witness_var(s, 13) == 0 && varisat_var_count(s) == 13 && varisat_add_clause(s, LITS(13, 14)) == VARISAT_WITNESS_VAR);
+    CHECK(varisat_var_count(s) == 14 && varisat_add_clause(s, LITS(15, 0)) == VARISAT_BAD_ARGUMENT && varisat_var_count(s) == 14);
+    CHECK(varisat_add_clauses(s, LITS(15)) == VARISAT_BAD_ARGUMENT && varisat_hide_var(s, -15) == VARISAT_BAD_ARGUMENT && varisat_var_count(s) == 14);
+    CHECK(varisat_add_clause(s, LITS(0x10000001)) == VARISAT_VARIABLE_LIMIT && varisat_assume(s, LITS(INT32_MIN)) == VARISAT_VARIABLE_LIMIT);
+    CHECK(varisat_var_count(s) == 14);
+    /* A text with a fault does not, until a model is read. */
+    CHECK(varisat_read_dimacs(s, "16 0 x ", 7) == VARISAT_DIMACS && varisat_var_count(s) == 14);
+    CHECK(varisat_solve(s) == VARISAT_SATISFIABLE && varisat_model(s, list, 2) == 15 && varisat_var_count(s) == 14);
+    int32_t model[16];
+    CHECK(varisat_last_list(s, model, 16) == 15 && model[14] == 16 && varisat_var_count(s) == 16);
+    CHECK(varisat_free(s) == 0);
+    /* Those that come back. */
+    s = varisat_new(0);
+    CHECK(varisat_add_clause(s, LITS(1, 2)) == 0 && varisat_hide_var(s, 2) == 0 && varisat_add_clause(s, LITS(-2)) == 0);
+    CHECK(varisat_observe_internal_vars(s, list, ROOM) == 1 && list[0] == 3 && varisat_var_count(s) == 3);
+    CHECK(varisat_free(s) == 0);
+}
+
 static void modes(void) {
     varisat *s = varisat_new(0);
     CHECK(varisat_add_clauses(s, LITS(1, 2, 0)) == 0);
@@ -115,6 +174,16 @@ static void wrong_calls(void) {
     CHECK(strstr(varisat_error_text(s), "vsids_decay"));
     CHECK(varisat_set(s, VARISAT_RESTART_GLUE, 1001) == VARISAT_OUT_OF_RANGE && varisat_set(s, VARISAT_RESTART_GLUE, 125) == 0);
     CHECK(varisat_set(s, VARISAT_RESTART_GLUE + 1, 1) == VARISAT_BAD_ARGUMENT);
+    for (int setting = 0; setting <= VARISAT_RESTART_GLUE; setting++) {
+        CHECK(varisat_set_named(s, varisat_setting_name(setting), 1000000) == (setting == VARISAT_REDUCE_LOCALS_INTERVAL ||
+              setting == VARISAT_REDUCE_MIDS_INTERVAL || setting == VARISAT_LUBY_RESTART_INTERVAL_SCALE ? 0 : VARISAT_OUT_OF_RANGE));
+        if (varisat_error(s) == VARISAT_OUT_OF_RANGE && setting < VARISAT_REDUCE_LOCALS_INTERVAL)
+            CHECK(strstr(varisat_error_text(s), varisat_setting_name(setting)));
+    }
+    CHECK(strstr(varisat_error_text(s), "restart_glue") && varisat_set_named(s, "restart_glue", 1000) == 0);
+    CHECK(!varisat_setting_name(-1) && !varisat_setting_name(VARISAT_RESTART_GLUE + 1));
+    CHECK(varisat_set_named(s, "restart", 1) == VARISAT_BAD_ARGUMENT && varisat_set_named(s, NULL, 1) == VARISAT_BAD_ARGUMENT);
+    CHECK(varisat_set_named(NULL, "restart_glue", 1) == VARISAT_BAD_ARGUMENT);
     CHECK(varisat_add_clause(s, LITS(0x10000001)) == VARISAT_VARIABLE_LIMIT && varisat_add_clause(s, LITS(INT32_MIN)) == VARISAT_VARIABLE_LIMIT);
     CHECK(varisat_hide_var(s, INT32_MAX) == VARISAT_VARIABLE_LIMIT);
     CHECK(varisat_close_proof(s) == VARISAT_NOTHING);
@@ -136,6 +205,38 @@ static void texts(void) {
     CHECK(varisat_free(s) == 0);
 }
 
+/* A file that has this text. */
+static int file_of(const char *text) {
+    FILE *file = tmpfile();
+    CHECK(file && fputs(text, file) >= 0 && !fflush(file));
+    int fd = dup(fileno(file));
+    fclose(file);
+    CHECK(fd >= 0 && !lseek(fd, 0, SEEK_SET));
+    return fd;
+}
+
+static void files(void) {
+    varisat *s = varisat_new(0);
+    int fd = file_of("p cnf 5 2\n1 -5 0\n2 0");
+    CHECK(varisat_read_dimacs_fd(s, fd) == 5 && varisat_var_count(s) == 5 && varisat_solve(s) == VARISAT_SATISFIABLE && varisat_val(s, 2) == 2);
+    /* It is at its end, and stays open. */
+    CHECK(varisat_read_dimacs_fd(s, fd) == 0 && !close(fd));
+    /* It goes on with a text that was begun. */
+    CHECK(varisat_read_dimacs(s, "-2 3", 4) == 0 && varisat_read_dimacs_fd(s, fd = file_of("0 0\n")) == 30 && !close(fd));
+    CHECK(varisat_free(s) == 0 && (s = varisat_new(0)));
+    CHECK(varisat_read_dimacs_fd(s, fd = file_of("1 0\n2 x 0")) == VARISAT_DIMACS && strstr(varisat_error_text(s), "line 2") && !close(fd));
+    CHECK(varisat_read_dimacs_fd(s, fd = file_of("-1 0\n2")) == VARISAT_DIMACS && !close(fd));
+    CHECK(varisat_solve(s) == VARISAT_UNSATISFIABLE && varisat_free(s) == 0 && (s = varisat_new(0)));
+    /* What cannot be read: no file, and a folder. The text that was begun is over, and the clauses before it stay. */
+    errno = 0;
+    CHECK(varisat_read_dimacs_fd(s, -1) == VARISAT_READ_FAILED && errno == EBADF && strstr(varisat_error_text(s), "reading"));
+    CHECK(varisat_read_dimacs(s, "1 0 2 ", 6) == 0 && (fd = open("/", O_RDONLY)) >= 0);
+    CHECK(varisat_read_dimacs_fd(s, fd) == VARISAT_READ_FAILED && errno == EISDIR && varisat_is_valid(s) == 1 && !close(fd));
+    CHECK(varisat_read_dimacs(s, "-3 0", 4) == 0 && varisat_end_dimacs(s) == 3 && varisat_solve(s) == VARISAT_SATISFIABLE);
+    CHECK(varisat_val(s, 1) == 1 && varisat_val(s, 3) == -3 && varisat_read_dimacs_fd(NULL, 0) == VARISAT_BAD_ARGUMENT);
+    CHECK(varisat_free(s) == 0);
+}
+
 struct sink {
     varisat *solver;
     char bytes[1 << 20];
@@ -151,6 +252,9 @@ static int take(void *data, const void *bytes, size_t size) {
     if (sink->solver) {
         CHECK(varisat_solve(sink->solver) == VARISAT_BUSY && varisat_free(sink->solver) == VARISAT_BUSY);
         CHECK(varisat_add(sink->solver, 1) == VARISAT_BUSY && varisat_count(sink->solver, VARISAT_STEPS) == 0);
+        CHECK(varisat_last_error() == VARISAT_BUSY && varisat_val(sink->solver, 1) == 0 && varisat_last_error() == VARISAT_BUSY);
+        CHECK(varisat_var_count(sink->solver) == VARISAT_BUSY && varisat_read_dimacs_fd(sink->solver, 0) == VARISAT_BUSY);
+        CHECK(varisat_set_named(sink->solver, "restart_glue", 1) == VARISAT_BUSY);
         /* Those of another solver are fine. */
         varisat *other = varisat_new(0);
         CHECK(varisat_add_clause(other, LITS(1)) == 0 && varisat_solve(other) == 10 && varisat_free(other) == 0);
@@ -207,6 +311,7 @@ static void proofs(void) {
     CHECK(varisat_solve(s) == VARISAT_PROOF_IO && varisat_is_valid(s) == 0);
     CHECK(varisat_solve(s) == VARISAT_INVALID && varisat_add_clause(s, LITS(1)) == VARISAT_INVALID && varisat_value(s, 1) == VARISAT_NOTHING);
     CHECK(varisat_set(s, VARISAT_VSIDS_DECAY, 900) == VARISAT_INVALID && varisat_error(s) == VARISAT_PROOF_IO);
+    CHECK(varisat_set_named(s, "vsids_decay", 900) == VARISAT_INVALID && varisat_read_dimacs_fd(s, 0) == VARISAT_INVALID && varisat_var_count(s) == 42);
     CHECK(varisat_free(s) == 0);
     /* a file */
     int ends[2];
@@ -348,6 +453,6 @@ static void simplifiers(void) {
 }
 
 int main(void) {
-    right_calls(), lists(), modes(), wrong_calls(), texts(), proofs(), heaps(), interrupts(), threads(), checking(), simplifiers();
+    right_calls(), lists(), signs(), errors_in_words(), highest_variables(), modes(), wrong_calls(), texts(), files(), proofs(), heaps(), interrupts(), threads(), checking(), simplifiers();
     puts("all passed");
 }

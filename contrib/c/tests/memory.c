@@ -1,12 +1,14 @@
 /* Makes calls with the n-th allocation refused, and all after it, for each n: none crashes, and no answer is wrong. Link it with
- * -Wl,--wrap=realloc,--wrap=calloc. */
+ * -Wl,--wrap=malloc,--wrap=realloc,--wrap=calloc: compilers make malloc of a realloc of nothing. */
 #include "../varisat.h"
 
 #include <stdio.h>
 #include <stdlib.h>
+#include <unistd.h>
 
 #define CHECK(it) ((it) ? (void)0 : (printf("%s:%d: %s\n", __FILE__, __LINE__, #it), exit(1)))
 
+void *__real_malloc(size_t size);
 void *__real_realloc(void *at, size_t size);
 void *__real_calloc(size_t count, size_t size);
 
@@ -15,6 +17,10 @@ static long left = -1;
 
 static int is_refused(void) {
     return left == 0 || (left > 0 && left-- == 0);
+}
+
+void *__wrap_malloc(size_t size) {
+    return is_refused() ? NULL : __real_malloc(size);
 }
 
 void *__wrap_realloc(void *at, size_t size) {
@@ -29,6 +35,15 @@ static int take(void *data, const void *bytes, size_t size) {
     (void)bytes;
     *(size_t *)data += size;
     return 0;
+}
+
+/* Reads a text through a pipe. */
+static int read_text(varisat *solver) {
+    int ends[2];
+    CHECK(!pipe(ends) && write(ends[1], "-6 7 0\n6 -7 0\n", 14) == 14 && !close(ends[1]));
+    int answer = varisat_read_dimacs_fd(solver, ends[0]);
+    CHECK(!close(ends[0]));
+    return answer;
 }
 
 /* Whether the answer came, or memory ran out. */
@@ -49,7 +64,9 @@ static int is_answered(varisat *solver, size_t *bytes) {
     if (all) all &= is_there(varisat_failed_core(solver, list, 8), 2) && is_there(varisat_is_failed(solver, 1), 1);
     if (all) all &= is_there(varisat_assume(solver, NULL, 0), 0) && is_there(varisat_solve(solver), VARISAT_SATISFIABLE);
     if (all) all &= is_there(varisat_model(solver, list, 8), 5) && is_there(varisat_value(solver, 5), 1);
+    if (all) all &= is_there(varisat_val(solver, -5), 5) && is_there(varisat_last_error(), 0) && is_there(varisat_var_count(solver), 5);
     if (all) all &= is_there(varisat_new_var(solver), 6) && is_there(varisat_hide_var(solver, 6), 0);
+    if (all) all &= is_there(read_text(solver), 7) && is_there(varisat_var_count(solver), 7) && is_there(varisat_set_named(solver, "vsids_decay", 900), 0);
     if (all) all &= is_there(varisat_add(solver, 1), 0) && is_there(varisat_add(solver, 0), 0);
     if (all) all &= is_there(varisat_assume(solver, none, 2), 0) && is_there(varisat_solve(solver), VARISAT_UNSATISFIABLE);
     if (all) all &= is_there(varisat_close_proof(solver), 0);
@@ -89,6 +106,7 @@ static int refuse_simplifiers(void) {
     for (long most = 0;; most++) {
         left = most;
         varisat_simplifier *simplifier = varisat_simplifier_new(0);
+        CHECK(varisat_last_error() == (simplifier ? 0 : VARISAT_OUT_OF_MEMORY));
         int more = simplifier ? count_refused(simplifier) : 1;
         CHECK(varisat_simplifier_free(simplifier) == 0);
         if (!more) return refused;
@@ -102,6 +120,7 @@ int main(void) {
         size_t bytes = 0;
         left = most;
         varisat *solver = varisat_new(0);
+        CHECK(varisat_last_error() == (solver ? 0 : VARISAT_OUT_OF_MEMORY));
         if (!solver) {
             unopened++;
             continue;
@@ -112,8 +131,8 @@ int main(void) {
         if (answered) break;
         refused++;
     }
-    CHECK(unopened > 0 && refused > 20);
+    CHECK(unopened > 0 && refused > 70);
     int simplifiers = refuse_simplifiers();
-    CHECK(simplifiers > 15);
+    CHECK(simplifiers > 35);
     printf("%d refusals passed\n", unopened + refused + simplifiers);
 }

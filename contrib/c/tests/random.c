@@ -3,6 +3,7 @@
 
 #include <stdio.h>
 #include <stdlib.h>
+#include <unistd.h>
 
 #define CHECK(it) ((it) ? (void)0 : (printf("%s:%d: round %ld: %s\n", __FILE__, __LINE__, round_number, #it), exit(1)))
 
@@ -61,6 +62,7 @@ static void check_model(varisat *solver, int variables) {
     for (int i = 0; i < count; i++) {
         CHECK(i == 0 || abs(model[i - 1]) < abs(model[i]));
         CHECK(varisat_value(solver, model[i]) == 1 && varisat_value(solver, -model[i]) == 0);
+        CHECK(varisat_val(solver, model[i]) == model[i] && varisat_val(solver, -model[i]) == model[i] && varisat_last_error() == 0);
         if (abs(model[i]) <= variables && model[i] > 0) values |= 1u << (model[i] - 1);
     }
     CHECK(satisfies(values));
@@ -86,10 +88,18 @@ static void check_core(varisat *solver, int variables) {
     CHECK(varisat_model(solver, core, ROOM) == VARISAT_NOTHING);
 }
 
-/* Gives the clause in one of three ways. */
+/* Gives the text through a pipe. */
+static void add_file(varisat *solver, const char *text, size_t size) {
+    int ends[2];
+    CHECK(!pipe(ends) && write(ends[1], text, size) == (ssize_t)size && !close(ends[1]));
+    CHECK(varisat_read_dimacs_fd(solver, ends[0]) >= 0 && !close(ends[0]));
+}
+
+/* Gives the clause in one of four ways. */
 static void add(varisat *solver, const struct clause *clause) {
     char text[100], *end = text;
-    switch (draw(3)) {
+    int way = draw(4);
+    switch (way) {
     case 0: CHECK(varisat_add_clause(solver, clause->literals, clause->count) == 0); break;
     case 1:
         for (size_t i = 0; i < clause->count; i++) CHECK(varisat_add(solver, clause->literals[i]) == 0);
@@ -98,7 +108,8 @@ static void add(varisat *solver, const struct clause *clause) {
     default:
         for (size_t i = 0; i < clause->count; i++) end += sprintf(end, "%d ", clause->literals[i]);
         end += sprintf(end, "0\n");
-        CHECK(varisat_read_dimacs(solver, text, (size_t)(end - text)) == 0 && varisat_end_dimacs(solver) >= 0);
+        if (way == 2) add_file(solver, text, (size_t)(end - text));
+        else CHECK(varisat_read_dimacs(solver, text, (size_t)(end - text)) == 0 && varisat_end_dimacs(solver) >= 0);
     }
 }
 

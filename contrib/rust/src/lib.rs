@@ -12,6 +12,30 @@ pub mod solver;
 pub use solver::{ProofFormat, Solver};
 pub use varisat_formula::{cnf, lit, CnfFormula, ExtendFormula, Lit, Var};
 
+use anyhow::Error;
+
+/// An error of this text.
+fn error(text: String) -> Error {
+    Error::msg(text)
+}
+
+// What the original has besides, and the package in plain/ has not.
+impl<'a> Solver<'a> {
+    /// Reads and adds a formula in DIMACS CNF format.
+    pub fn add_dimacs_cnf(&mut self, input: impl std::io::Read) -> Result<(), Error> {
+        varisat_dimacs::DimacsParser::parse_incremental(input, |parser| {
+            self.add_formula(&parser.take_formula());
+            Ok(())
+        })?;
+        Ok(())
+    }
+
+    /// Generate a proof and process it using a [`checker::ProofProcessor`]: this solver has no such call, and panics.
+    pub fn add_proof_processor(&mut self, _processor: &'a mut dyn varisat_checker::ProofProcessor) {
+        panic!("proof processors are not offered by this solver");
+    }
+}
+
 pub mod dimacs {
     //! DIMACS CNF parser and writer.
     pub use varisat_dimacs::*;

@@ -16,6 +16,8 @@ pub const ASSUMED_VAR: c_int = -8;
 pub const CLAUSE_AFTER_SOLVE: c_int = -9;
 pub const PROOF_OPEN: c_int = -10;
 pub const PROOF_TOO_LATE: c_int = -11;
+#[allow(dead_code)]
+pub const DIMACS: c_int = -13;
 pub const NOTHING: c_int = -15;
 
 #[repr(C)]
@@ -32,6 +34,8 @@ extern "C" {
     fn varisat_free(solver: Handle) -> c_int;
     fn varisat_error_text(solver: Handle) -> *const c_char;
     fn varisat_add_clause(solver: Handle, literals: *const i32, count: usize) -> c_int;
+    fn varisat_read_dimacs(solver: Handle, piece: *const c_char, size: usize) -> c_int;
+    fn varisat_end_dimacs(solver: Handle) -> c_int;
     fn varisat_assume(solver: Handle, literals: *const i32, count: usize) -> c_int;
     fn varisat_solve(solver: Handle) -> c_int;
     fn varisat_model(solver: Handle, literals: *mut i32, room: usize) -> c_int;
@@ -87,6 +91,18 @@ impl<'a> Library<'a> {
 
     pub fn add_clause(&mut self, literals: &[i32]) -> c_int {
         unsafe { varisat_add_clause(self.at.as_ptr(), literals.as_ptr(), literals.len()) }
+    }
+
+    /// Reads a piece of a text.
+    // The package in plain/ calls it, and the next one; here texts are read by the crate varisat-dimacs.
+    #[allow(dead_code)]
+    pub fn read_dimacs(&mut self, piece: &[u8]) -> c_int {
+        unsafe { varisat_read_dimacs(self.at.as_ptr(), piece.as_ptr() as *const c_char, piece.len()) }
+    }
+
+    #[allow(dead_code)]
+    pub fn end_dimacs(&mut self) -> c_int {
+        unsafe { varisat_end_dimacs(self.at.as_ptr()) }
     }
 
     pub fn assume(&mut self, literals: &[i32]) -> c_int {

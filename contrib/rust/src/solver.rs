@@ -1,17 +1,12 @@
 //! Boolean satisfiability solver.
+// The package in plain/ has this file too, over types of its own.
 use std::cell::OnceCell;
 use std::ffi::c_int;
-use std::io;
-
-use anyhow::Error;
-use thiserror::Error;
-
-use varisat_checker::ProofProcessor;
-use varisat_dimacs::DimacsParser;
-use varisat_formula::{CnfFormula, ExtendFormula, Lit, Var};
+use std::{error, fmt, io};
 
 use crate::config::{SolverConfig, SolverConfigUpdate};
 use crate::library::*;
+use crate::{CnfFormula, Error, ExtendFormula, Lit, Var};
 
 /// Proof formats that can be generated during solving.
 #[derive(Copy, Clone, Eq, PartialEq, Debug)]
@@ -23,21 +18,32 @@ pub enum ProofFormat {
 }
 
 /// Possible errors while solving a formula.
-#[derive(Debug, Error)]
+#[derive(Debug)]
 #[non_exhaustive]
 pub enum SolverError {
-    #[error("The solver was interrupted")]
     Interrupted,
-    #[error("Error in proof processor: {}", cause)]
-    ProofProcessorError {
-        #[source]
-        cause: Error,
-    },
-    #[error("Error writing proof file: {}", cause)]
-    ProofIoError {
-        #[source]
-        cause: io::Error,
-    },
+    ProofProcessorError { cause: Error },
+    ProofIoError { cause: io::Error },
+}
+
+impl fmt::Display for SolverError {
+    fn fmt(&self, out: &mut fmt::Formatter<'_>) -> fmt::Result {
+        match self {
+            SolverError::Interrupted => write!(out, "The solver was interrupted"),
+            SolverError::ProofProcessorError { cause } => write!(out, "Error in proof processor: {cause}"),
+            SolverError::ProofIoError { cause } => write!(out, "Error writing proof file: {cause}"),
+        }
+    }
+}
+
+impl error::Error for SolverError {
+    fn source(&self) -> Option<&(dyn error::Error + 'static)> {
+        match self {
+            SolverError::Interrupted => None,
+            SolverError::ProofProcessorError { cause } => Some(&**cause),
+            SolverError::ProofIoError { cause } => Some(cause),
+        }
+    }
 }
 
 impl SolverError {
@@ -49,7 +55,7 @@ impl SolverError {
 
 /// A boolean satisfiability solver.
 pub struct Solver<'a> {
-    library: Library<'a>,
+    pub(crate) library: Library<'a>,
     config: SolverConfig,
     numbers: Vec<i32>,
     // What `failed_core` lends, until the solver changes.
@@ -89,8 +95,9 @@ impl<'a> Solver<'a> {
         ];
         for (setting, value) in values.into_iter().enumerate() {
             if let Some(value) = value {
-                let answer = self.library.set(setting as c_int, value);
-                anyhow::ensure!(answer == 0, "{}", self.library.error_text());
+                if self.library.set(setting as c_int, value) != 0 {
+                    return Err(crate::error(self.library.error_text()));
+                }
             }
         }
         Ok(())
@@ -101,15 +108,6 @@ impl<'a> Solver<'a> {
         for clause in formula.iter() {
             self.add_clause(clause);
         }
-    }
-
-    /// Reads and adds a formula in DIMACS CNF format.
-    pub fn add_dimacs_cnf(&mut self, input: impl io::Read) -> Result<(), Error> {
-        DimacsParser::parse_incremental(input, |parser| {
-            self.add_formula(&parser.take_formula());
-            Ok(())
-        })?;
-        Ok(())
     }
 
     /// Sets the "witness" sampling mode for a variable.
@@ -202,13 +200,8 @@ impl<'a> Solver<'a> {
         self.changed(answer);
     }
 
-    /// Generate a proof and process it using a [`ProofProcessor`]: this solver has no such call, and panics.
-    pub fn add_proof_processor(&mut self, _processor: &'a mut dyn ProofProcessor) {
-        panic!("proof processors are not offered by this solver");
-    }
-
     /// Ends a call that changes the solver. Wrong calls panic, as in the original; so do memory and limits that are spent.
-    fn changed(&mut self, answer: c_int) {
+    pub(crate) fn changed(&mut self, answer: c_int) {
         self.core = OnceCell::new();
         match answer {
             PROOF_IO | 0.. => {}

@@ -131,17 +131,24 @@ def choose(formula, condition, one, other):
     return -formula.both(-formula.both(condition, one), -formula.both(-condition, other))
 
 
+def is_odd(formula, literals):
+    """A new variable that is true where an odd number of the literals is."""
+    result = formula.new_variable()
+    formula.clauses += formulas.odd([-result, *literals])
+    return result
+
+
 def add_sum(formula, one, other, carry):
     """Adds two numbers of equally many digits and a carry, and gives the digits of the sum, and what is carried out of them."""
     total = []
     for here, there in zip(one, other):
-        half = formula.differ(here, there)
-        total.append(formula.differ(half, carry))
+        total.append(is_odd(formula, [here, there, carry]))
         carry = formula.most(here, there, carry)
     return total, carry
 
 
-def constant(formula, value, bits, false):
+def constant(value, bits, false):
+    """The digits of a value, by the variable that is false."""
     return [-false if value >> place & 1 else false for place in range(bits)]
 
 
@@ -309,7 +316,7 @@ def least_used(count, steps, bits):
     formula = formulas.Formula()
     false = formula.new_variable()
     formula.clauses.append([-false])
-    listed = [constant(formula, place, bits, false) for place in range(count)]
+    listed = [constant(place, bits, false) for place in range(count)]
     lines = [list(line) for line in listed]
     later = {pair: -false for pair in itertools.combinations(range(count), 2)}
     differing = []
@@ -324,7 +331,7 @@ def least_used(count, steps, bits):
 
 def reduced(formula, number, modulus, false):
     """The number, which is less than twice the modulus, less the modulus where that is not above it, with a digit less."""
-    less, fits = add_sum(formula, number, constant(formula, ~modulus, len(number), false), -false)
+    less, fits = add_sum(formula, number, constant(~modulus, len(number), false), -false)
     return [choose(formula, fits, one, other) for one, other in zip(less, number)][:-1]
 
 
@@ -345,7 +352,7 @@ def modular(bits, modulus):
     formula.clauses.append([-false])
     one, other = formulas.two_numbers(formula, bits)
     for number in one, other:
-        _, fits = add_sum(formula, number, constant(formula, ~modulus, bits, false), -false)
+        _, fits = add_sum(formula, number, constant(~modulus, bits, false), -false)
         formula.clauses.append([-fits])
     products = zip(add_modular(formula, one, other, modulus, false), add_modular(formula, other, one, modulus, false))
     formula.clauses.append([formula.differ(here, there) for here, there in products])

@@ -51,9 +51,13 @@ def build_library(root=programs.ROOT, is_unproved=False):
 def compile_client(folder, source):
     """The object file of the client, in C or C++."""
     compiled = f"{folder}/client.o"
-    compiler = ["g++"] if source.endswith(".cc") else ["gcc", "-std=c11", "-D_POSIX_C_SOURCE=200809L"]
-    must_run([*compiler, "-O2", "-c", f"{SOURCES}/{source}", "-o", compiled])
+    dialect = [] if source.endswith(".cc") else ["-std=c11", "-D_POSIX_C_SOURCE=200809L"]
+    must_run([compiler_of(source), *dialect, "-O2", "-c", f"{SOURCES}/{source}", "-o", compiled])
     return compiled
+
+
+def compiler_of(source):
+    return "g++" if source.endswith(".cc") else "gcc"
 
 
 def build(folder, source, arguments):
@@ -61,7 +65,8 @@ def build(folder, source, arguments):
     ours = {"varisat": programs.ROOT, **({programs.AGAINST: arguments.against} if arguments.against else {})}
     libraries = {name: build_library(root, arguments.unproved) for name, root in ours.items()}
     compiled = compile_client(folder, source)
-    linked = {name: ["g++", compiled, library] for name, library in libraries.items()}
+    # Ours needs no library of C++, which would take memory.
+    linked = {name: [compiler_of(source), compiled, library] for name, library in libraries.items()}
     if os.path.exists(MINISAT):
         linked["minisat"] = ["g++", "-w", "-D__STDC_LIMIT_MACROS", "-D__STDC_FORMAT_MACROS", compiled, f"{SOURCES}/minisat.cc", MINISAT]
     linked.update({name: ["g++", compiled, library] for name, library in programs.cadical_libraries().items()})

@@ -191,7 +191,7 @@ def print_against(ratios, memory=None):
     """Prints the geometric mean of the ratios of our times to those of the other checkout, and the ratio of memories, and gives the status."""
     mean = statistics.geometric_mean(ratios)
     told = "" if memory is None else f"; memory {memory:.2f}"
-    print(f"\nours / {AGAINST}: {mean:.2f} of the time, at most {SLOWER}{told}")
+    print(f"\nours / {AGAINST}: {mean:.3f} of the time, at most {SLOWER}: {'slower' if mean > SLOWER else 'not slower'}{told}")
     return int(mean > SLOWER)
 
 

@@ -73,7 +73,7 @@ def run(arguments):
 
 
 def print_against(turns):
-    """Compares the calls that are timed first and last of ours, in the mean of the turns, with those of the other checkout."""
+    """Compares our calls with those of the other checkout, at the three points at which they are timed, in the mean of the turns."""
     ours, theirs = (list(zip(*solver)) for solver in list(zip(*turns))[:2])
     times = [[statistics.mean(one.taken for one in point) for point in points] for points in (ours, theirs)]
     memory = [max(one.memory for one in points[-1]) for points in (ours, theirs)]

@@ -127,12 +127,12 @@ def cube(turns, moves, seed):
 
 
 def choose(formula, condition, one, other):
-    """A new variable that is the one where the condition is true, and else the other."""
+    """A literal that is equal to the one if the condition is true, and else to the other."""
     return -formula.both(-formula.both(condition, one), -formula.both(-condition, other))
 
 
 def is_odd(formula, literals):
-    """A new variable that is true where an odd number of the literals is."""
+    """A new variable that is true if an odd number of the literals is."""
     result = formula.new_variable()
     formula.clauses += formulas.odd([-result, *literals])
     return result
@@ -153,7 +153,7 @@ def constant(value, bits, false):
 
 
 def divide_by_trying(formula, number, divisor, false):
-    """The digits of the quotient and of the rest: the divisor is taken off at each place where it fits."""
+    """The digits of the quotient and of the rest, by a divider that subtracts the divisor at each place at which it fits."""
     rest, quotient = [false] * (len(divisor) + 1), []
     taken = [-digit for digit in [*divisor, false]]
     for digit in reversed(number):
@@ -165,7 +165,8 @@ def divide_by_trying(formula, number, divisor, false):
 
 
 def divide_by_signs(formula, number, divisor, false):
-    """The same, but what is left may be negative, and the divisor is then added at the next place."""
+    """The digits of the quotient and of the rest, by a divider that lets the rest become negative, and then adds the divisor at the next
+    place."""
     wide = [*divisor, false, false]
     rest, quotient, negative = [false] * len(wide), [], false
     for digit in reversed(number):
@@ -272,7 +273,7 @@ def not_isotopic():
 
 
 def is_equal(formula, one, other):
-    """A new variable that is true where the numbers are equal."""
+    """A literal that is true if the numbers are equal."""
     equal = None
     for here, there in zip(one, other):
         same = -formula.differ(here, there)
@@ -281,7 +282,7 @@ def is_equal(formula, one, other):
 
 
 def any_of(formula, literals):
-    """A literal that is true where one of these is."""
+    """A literal that is true if one of these is."""
     found = literals[0]
     for literal in literals[1:]:
         found = -formula.both(-found, -literal)
@@ -299,7 +300,8 @@ def ask_listed(formula, lines, word):
 
 
 def ask_matrix(formula, lines, later, word):
-    """Asks a cache that has, for each two of its lines, which was used later, and gives the same, and that matrix after it."""
+    """Asks a cache that knows, for each two of its lines, which was used later. Gives whether it has the word, and its lines and that
+    knowledge after the request."""
     found = [is_equal(formula, line, word) for line in lines]
     has = any_of(formula, found)
     count = range(len(lines))
@@ -330,7 +332,7 @@ def least_used(count, steps, bits):
 
 
 def reduced(formula, number, modulus, false):
-    """The number, which is less than twice the modulus, less the modulus where that is not above it, with a digit less."""
+    """The number, which is less than twice the modulus, or the number less the modulus if it is not below that; without its last digit."""
     less, fits = add_sum(formula, number, constant(~modulus, len(number), false), -false)
     return [choose(formula, fits, one, other) for one, other in zip(less, number)][:-1]
 

@@ -31,11 +31,11 @@ def add_arguments(command):
     command.add_argument("--limit", type=int, default=120, help="seconds of the processor for a check, after which it is killed (120)")
 
 
-def prove(path, proof):
+def prove(prover, path, proof):
     """Writes the proof of cadical, and gives the seconds of the processor that it took."""
-    status, taken = programs.run_command(["cadical", "-q", "--no-binary", path, proof], subprocess.DEVNULL, subprocess.DEVNULL, None)
+    status, taken = programs.run_command([*prover.command, "-q", "--no-binary", path, proof], subprocess.DEVNULL, subprocess.DEVNULL, None)
     if status != programs.UNSATISFIABLE:
-        programs.stop(f"cadical ended with status {status} on {path}")
+        programs.stop(f"{prover.name} ended with status {status} on {path}")
     return taken.processor
 
 
@@ -65,9 +65,9 @@ def check_in_turn(commands, repetitions, limit):
     return [None if None in taken else statistics.median(taken) for taken in zip(*runs)]
 
 
-def print_row(name, path, proof, repetitions, limit):
+def print_row(name, prover, path, proof, repetitions, limit):
     """Prints what one proof takes, and gives its lines, its seconds, and its memory divided by its bytes."""
-    writing = prove(path, proof)
+    writing = prove(prover, path, proof)
     lines, literals = lines_of(proof)
     size = os.path.getsize(proof)
     commands = [[programs.PROGRAM, "check", path, proof]]
@@ -75,7 +75,7 @@ def print_row(name, path, proof, repetitions, limit):
         commands.append([OTHER, path, proof, "-f"])
     seconds, *others = check_in_turn(commands, repetitions, limit)
     other = others[0] if others else None
-    row = f"{name:14} {lines:8,} {literals / lines:9.1f} {size:11,} {writing:10.2f}"
+    row = f"{name:14} {prover.name:14} {lines:8,} {literals / lines:9.1f} {size:11,} {writing:10.2f}"
     if seconds is None:
         print(f"{row}    > {limit}")
         return None
@@ -91,7 +91,7 @@ def run(arguments):
     programs.build_ours()
     print(programs.machine())
     print(f"the median of {arguments.repetitions} checks; times are the processor's; ratio: ours to {OTHER} -f\n")
-    print(f"{'proof':14} {'lines':>8} {'literals':>9} {'bytes':>11} {'cadical s':>10} {'check s':>8} {'drat-trim s':>12} {'ratio':>6} {'lines a s':>11} {'memory / bytes':>15}")
+    print(f"{'proof of':14} {'by':14} {'lines':>8} {'literals':>9} {'bytes':>11} {'writing s':>10} {'check s':>8} {'drat-trim s':>12} {'ratio':>6} {'lines a s':>11} {'memory / bytes':>15}")
     rows = []
     with tempfile.TemporaryDirectory() as folder:
         for name, make in FORMULAS.items():
@@ -99,7 +99,8 @@ def run(arguments):
                 continue
             path = f"{folder}/{name}.cnf"
             formulas.write(path, make())
-            rows.append(print_row(name, path, f"{folder}/{name}.drat", arguments.repetitions, arguments.limit))
+            for prover in programs.cadicals():
+                rows.append(print_row(name, prover, path, f"{folder}/{name}.drat", arguments.repetitions, arguments.limit))
     if None in rows:
         return 1
     slowest = max(seconds * LINES / lines for lines, seconds, _ in rows)

@@ -89,8 +89,7 @@ def fault(done, variables, hard, soft):
 
 
 def run(arguments):
-    optimum.build(arguments)
-    program = arguments.program or optimum.MAXSAT
+    program = arguments.program or optimum.build_ours()
     counts = {}
     with tempfile.TemporaryDirectory() as folder:
         path = f"{folder}/problem.wcnf"

@@ -6,7 +6,7 @@ import signal
 import statistics
 import subprocess
 import tempfile
-from dataclasses import dataclass
+from dataclasses import dataclass, replace
 from typing import Optional
 
 import check
@@ -67,7 +67,7 @@ class Checked:
 def add_arguments(command):
     command.add_argument("folder", metavar="FOLDER", help="texts, of which each name ends with .cnf, or with .cnf.xz where xz is there")
     command.add_argument("--only", action="append", metavar="FORMULA", help="this formula alone, without .cnf; may be repeated")
-    command.add_argument("--solver", action="append", choices=list(SOLVERS), help="this solver alone; may be repeated")
+    command.add_argument("--solver", action="append", choices=list(SOLVERS), help="this solver alone, in each version; may be repeated")
     command.add_argument("--limit", type=learning.positive, default=30, help="seconds of the processor for a solver (30)")
     command.add_argument("--bytes", type=learning.positive, default=200_000_000, help="longer proofs are passed over (200000000)")
     command.add_argument("--program", metavar="FILE", help="our program, in place of the proved one, which else is built where that is due")
@@ -78,10 +78,9 @@ def name_of(path):
 
 
 def versioned(solver):
-    """The solver's name with its version, the last word of the first line that it tells of that, and its options."""
+    """The solver's name with its version and its options."""
     program = solver.command[0]
-    told = subprocess.run([program, "--version"], stdout=subprocess.PIPE, text=True, check=True).stdout
-    return f"{program} {told.splitlines()[0].split()[-1]}{solver.options}"
+    return f"{os.path.basename(program)} {programs.version(program)}{solver.options}"
 
 
 def leave_ids_out(frat, proof):
@@ -219,6 +218,19 @@ def texts(arguments, folder):
     return paths
 
 
+def solvers_of(names):
+    """The solvers of these names that the PATH has, and those of bench/peers."""
+    found = []
+    for solver in (SOLVERS[name] for name in names):
+        tool, *options = solver.command
+        files = dict.fromkeys([shutil.which(tool), programs.peer(tool)])
+        found += [replace(solver, command=[file, *options]) for file in files if file and os.path.exists(file)]
+    for solver in found:
+        if os.path.basename(solver.command[0]) == "kissat":
+            programs.check_kissat(solver.command[0])
+    return found
+
+
 def run_all(solvers, arguments):
     """The rows of each solver."""
     rows = {name: [] for name in solvers}
@@ -237,7 +249,7 @@ def run(arguments):
     programs.check_tools("/usr/bin/time")
     if not shutil.which(CHECKER):
         programs.stop(f"missing: {CHECKER}")
-    chosen = [solver for name, solver in SOLVERS.items() if name in (arguments.solver or SOLVERS) and shutil.which(solver.command[0])]
+    chosen = solvers_of(arguments.solver or SOLVERS)
     if not chosen:
         programs.stop("there is no such solver")
     programs.take_ours(arguments.program)

@@ -2,6 +2,7 @@
 import os
 
 import clients
+import families
 import formulas
 import puzzles
 
@@ -49,13 +50,15 @@ SHORTER = {
 def add_arguments(command):
     command.add_argument("folder", metavar="FOLDER", help="where to write them, each as a text of its name")
     command.add_argument("--shorter", action="store_true", help="write some that take a few seconds too")
-    command.add_argument("--only", action="append", choices=[*FORMULAS, *SHORTER], metavar="NAME", help="this formula alone; may be given several times")
+    command.add_argument("--families", action="store_true", help="write those that show how a search decides, and no others")
+    command.add_argument("--only", action="append", choices=[*FORMULAS, *SHORTER, *families.FORMULAS], metavar="NAME", help="this formula alone; may be given several times")
 
 
 def run(arguments):
     os.makedirs(arguments.folder, exist_ok=True)
-    known = {**FORMULAS, **SHORTER}
-    for name in arguments.only or (known if arguments.shorter else FORMULAS):
+    known = {**FORMULAS, **SHORTER, **families.FORMULAS}
+    wanted = families.FORMULAS if arguments.families else {**FORMULAS, **SHORTER} if arguments.shorter else FORMULAS
+    for name in arguments.only or wanted:
         try:
             formula = known[name]()
         except clients.NotMade as reason:

@@ -44,14 +44,14 @@ FORMULAS = {
 }
 PICTURE = f"{programs.ROOT}/bench/learning.svg"
 VERDICTS = {programs.SATISFIABLE: "sat", programs.UNSATISFIABLE: "unsat"}
-# The columns of a row: what stands above each, in two lines, and where it is aligned.
-COLUMNS = [
+# The columns of a row: what stands above each, in two lines, and where it is aligned. Between them are the times of the peers.
+FIRST_COLUMNS = [
     ("", "formula", "<19"),
     ("", "verdict", ">7"),
     ("ms", "varisat", ">10"),
     ("", "defaults", ">10"),
-    ("", "minisat", ">10"),
-    ("", "cadical", ">10"),
+]
+LAST_COLUMNS = [
     ("conflicts", "varisat", ">10"),
     ("", "defaults", ">9"),
     ("", "minisat", ">9"),
@@ -154,16 +154,21 @@ def verdicts_told(verdicts):
     return "/".join(sorted({VERDICTS[verdict] for verdict in verdicts if verdict is not None})) or "-"
 
 
-def print_formula(name, results, defaults, limit):
-    """Prints the row of a formula, from the results of our program, minisat and cadical, and ours by default."""
-    ours, minisat, cadical = results[:3]
+def columns_of(every):
+    """The columns for the programs, of which the first is ours."""
+    return [*FIRST_COLUMNS, *(("", program.name, f">{max(10, 1 + len(program.name))}") for program in every[1:]), *LAST_COLUMNS]
+
+
+def print_formula(name, every, results, defaults, limit):
+    """Prints the row of a formula, from the result of each program, of which the first is ours and the second minisat, and ours by default."""
+    ours, minisat, *others = results
     cells = [name, verdicts_told(result.verdict for result in results)]
-    cells += [f"> {limit} s" if result.time is None else f"{result.time * 1e3:,.1f}" for result in (ours, defaults, minisat, cadical)]
+    cells += [f"> {limit} s" if result.time is None else f"{result.time * 1e3:,.1f}" for result in (ours, defaults, minisat, *others)]
     cells += [number_told(result.conflicts, ",") for result in (ours, defaults, minisat)]
     cells += [number_told(result.time_per_conflict(), ",.1f", 1e6) for result in (ours, minisat)]
     cells += [number_told(result.memory, ",.1f", 1 / 1024) for result in (ours, minisat)]
     cells += [number_told(ratio_of(ours, minisat, part), ",.2f") for _, part, _ in RATIOS]
-    print_row(COLUMNS, cells)
+    print_row(columns_of(every), cells)
 
 
 def print_mean(title, ratios, after=""):
@@ -172,22 +177,23 @@ def print_mean(title, ratios, after=""):
     print(f"{title}: {mean} over {len(known)} of {len(ratios)} formulas{after}")
 
 
-def print_means(every, defaults):
+def print_means(programs_run, every, defaults):
     """Prints the geometric means of the ratios, for the results of each formula."""
     print("\ngeometric means")
     for title, part, aim in RATIOS:
         ratios = [ratio_of(ours, minisat, part) for ours, minisat, *_ in every]
         print_mean(f"  {title}, ours / minisat's", ratios, f", aim at most {aim:.1f}")
     title, part, _ = RATIOS[0]
-    print_mean(f"  {title}, ours / cadical's", [ratio_of(ours, cadical, part) for ours, _, cadical, *_ in every])
+    for place, program in enumerate(programs_run[2:], start=2):
+        print_mean(f"  {title}, ours / {program.name}'s", [ratio_of(results[0], results[place], part) for results in every])
     print_mean(f"  {title}, ours / ours by default", [ratio_of(ours, default, part) for (ours, *_), default in zip(every, defaults)])
 
 
-def differing(name, verdicts):
-    """Whether two verdicts on the formula differ, which is told."""
+def differing(name, every, verdicts):
+    """Whether two verdicts on the formula differ, which is told. The last one is that of our session."""
     if len({*verdicts} - {None}) < 2:
         return False
-    told = zip(["varisat session", "varisat", "minisat", "cadical", "varisat in Rust"], verdicts)
+    told = zip([*(program.name for program in every), "varisat session"], verdicts)
     print(f"bench: {name}: {', '.join(f'{who} says {VERDICTS.get(verdict)}' for who, verdict in told)}", file=sys.stderr)
     return True
 
@@ -201,25 +207,25 @@ def draw(every, all_results):
 def run(arguments):
     programs.check_tools("minisat", "cadical", "/usr/bin/time", *(programs.DRAWING if arguments.plot else ()))
     programs.build_ours()
-    every = [programs.ours(), programs.learning_minisat(), programs.cadical()]
-    # The table is of the first three.
+    compared = [programs.ours(), programs.learning_minisat(), *map(programs.quiet, [*programs.cadicals(), *programs.kissats()])]
+    # It is in the picture alone.
     crate = programs.rust_crate() if arguments.plot else None
-    every += [crate] if crate else []
+    every = [*compared, *([crate] if crate else [])]
     print(f"{datetime.date.today()}, {programs.machine()}")
     print(f"the median of {arguments.repetitions} runs, or of one where a run takes {SHORT:.0f} s; times are the processor's; minisat runs with -no-pre\n")
-    print_heads(COLUMNS)
+    print_heads(columns_of(compared))
     all_results, all_defaults, status = [], [], 0
     with tempfile.TemporaryDirectory() as folder:
         for name in (name for name in FORMULAS if not arguments.only or name in arguments.only):
             formula, path = FORMULAS[name](), f"{folder}/{name}.cnf"
             formulas.write(path, formula)
             results, defaults = measure_formula(every, path, formula.clauses, arguments)
-            print_formula(name, results, defaults, arguments.limit)
+            print_formula(name, compared, results[: len(compared)], defaults, arguments.limit)
             all_results.append(results)
             all_defaults.append(defaults)
-            if differing(name, [result.verdict for result in (*results, defaults)]):
+            if differing(name, every, [result.verdict for result in (*results, defaults)]):
                 status = 1
-    print_means(all_results, all_defaults)
+    print_means(compared, all_results, all_defaults)
     if arguments.plot:
         draw(every, all_results)
     return status

@@ -5,11 +5,12 @@ import re
 import resource
 import shutil
 import signal
+import statistics
 import subprocess
 import sys
 import tempfile
 import time
-from dataclasses import dataclass
+from dataclasses import dataclass, replace
 from typing import Callable, Optional
 
 ROOT = os.path.dirname(os.path.dirname(os.path.abspath(__file__)))
@@ -18,9 +19,16 @@ PROGRAM = f"{ROOT}/crates/varisat_cli/out/varisat_cli"
 CRATE = f"{ROOT}/bench/crate/target/release/varisat-in-rust"
 CRATE_SESSION = f"{CRATE}-session"
 # Each tool that is not ours, and the Debian package that has it.
-PACKAGES = {"minisat": "minisat", "cadical": "cadical", "/usr/bin/time": "time", "gcc": "gcc", "g++": "g++"}
+PACKAGES = {"minisat": "minisat", "cadical": "cadical", "/usr/bin/time": "time", "gcc": "gcc", "g++": "g++", "yosys": "yosys"}
 # The one that draws.
 DRAWING = {"gnuplot": "gnuplot-nox"}
+# The name of our build of another checkout, and how much of its time this checkout's may take.
+AGAINST = "--against"
+SLOWER = 1.05
+# The folder that bench/peers made, or None.
+PEERS = None
+# Debian's library of cadical.
+CADICAL_LIBRARY = "/usr/lib/x86_64-linux-gnu/libcadical.a"
 SATISFIABLE = 10
 UNSATISFIABLE = 20
 
@@ -76,16 +84,115 @@ def check_tools(*tools):
         stop(f"missing: {', '.join(missing)}. On Debian: apt-get update; apt-get install -y {' '.join(missing)}")
 
 
+def add_peers(command):
+    command.add_argument("--peers", metavar="DIR", help="compare with the solvers that bench/peers made in DIR too")
+
+
+def take_peers(folder):
+    """Has later calls find the solvers that bench/peers made in the folder, and prints the versions of all peers that are there."""
+    global PEERS
+    PEERS = os.path.abspath(folder) if folder else None
+    if folder and not os.path.exists(f"{PEERS}/bin/kissat"):
+        stop(f"{folder} has no solvers: run bench/peers {folder}")
+    files = [*(shutil.which(name) for name in ("minisat", "cadical", "kissat", "clasp")), peer("cadical"), peer("kissat")]
+    print("peers: " + ", ".join(f"{os.path.basename(file)} {version(file)}" for file in files if file), flush=True)
+    if folder:
+        # For what else is there, as drat-trim, if the PATH has none.
+        os.environ["PATH"] += f":{PEERS}/bin"
+
+
+def peer(name):
+    """The program of this name that bench/peers made, or None."""
+    return f"{PEERS}/bin/{name}" if PEERS else None
+
+
+def output_of(*command):
+    """What the command prints on standard output; nothing if it is not there or fails."""
+    if not shutil.which(command[0]):
+        return ""
+    return subprocess.run(command, stdin=subprocess.DEVNULL, stdout=subprocess.PIPE, stderr=subprocess.DEVNULL, text=True).stdout
+
+
+def version(file):
+    """The version of the program's Debian package, or else the last word of the first line that the program prints of its version."""
+    package = output_of("dpkg", "--search", os.path.realpath(file)).partition(":")[0]
+    if package:
+        return output_of("dpkg-query", "--show", "--showformat=${Version}", package)
+    return (output_of(file, "--version").split("\n", 1)[0].split() or ["of no known version"])[-1]
+
+
+def check_kissat(file):
+    """Stops if the program is a build of kissat with assertions, as that in Debian's package of 4.0.4 is: it takes a multiple of the time."""
+    if "-DNDEBUG" not in output_of(file, "--build"):
+        stop(f"{file} is a build of kissat with assertions, so that its times say nothing: bench/peers DIR makes one without")
+
+
+def kissats(file=None):
+    """Kissat of the file, or else of the PATH, if it is there; and kissat of bench/peers, whose name has its version."""
+    first = file or shutil.which("kissat")
+    found = [Program("kissat", [first])] if first and first != peer("kissat") else []
+    if PEERS:
+        found.append(Program(f"kissat-{version(peer('kissat'))}", [peer("kissat")]))
+    for program in found:
+        check_kissat(*program.command)
+    return found
+
+
+def cadicals():
+    """Cadical of the PATH; and cadical of bench/peers, whose name has its version."""
+    return [Program("cadical", ["cadical"])] + ([Program(f"cadical-{version(peer('cadical'))}", [peer("cadical")])] if PEERS else [])
+
+
+def cadical_libraries():
+    """The file of each library of cadical that is there, by the name that its program has in `cadicals`."""
+    files = [CADICAL_LIBRARY, *([f"{PEERS}/lib/libcadical.a"] if PEERS else [])]
+    return {program.name: file for program, file in zip(cadicals(), files) if os.path.exists(file)}
+
+
+def quiet(program):
+    """The same program, asked to print no statistics."""
+    return replace(program, command=[*program.command, "-q"])
+
+
 def build_ours():
     """Proves and builds our program where that is due, and tells so on standard error."""
     if subprocess.run([f"{ROOT}/varisat", "--prove"], stdin=subprocess.DEVNULL, stdout=sys.stderr).returncode:
         stop("the program was not built")
 
 
-def is_behind_gate(name):
-    """Whether the program of the crate is there, as the gate leaves it, and no source is newer."""
+def is_behind_gate(root, name):
+    """Whether the program of the crate is there, as the gate leaves it in the checkout, and no source is newer."""
     told = 'root=$1; . "$root/install/prove.sh"; is_newest "$root/crates/$2/out/$2" "$2"'
-    return subprocess.run(["bash", "-c", told, "bash", ROOT, name]).returncode == 0
+    return subprocess.run(["bash", "-c", told, "bash", root, name]).returncode == 0
+
+
+def build_unproved(root, crate, folder):
+    """The program of the crate without proofs, as a first start of ./varisat builds its own, from a copy of the checkout's last commit in
+    the folder."""
+    copy = os.path.join(folder, crate)
+    subprocess.run(["git", "clone", "-q", root, copy], check=True)
+    start = f"{copy}/varisat"
+    with open(start, encoding="utf-8") as file:
+        text = file.read().replace("varisat_cli", crate)
+    with open(start, "w", encoding="utf-8") as file:
+        file.write(text)
+    told = subprocess.run([start, "--which"], stdin=subprocess.DEVNULL, stdout=subprocess.PIPE, stderr=subprocess.DEVNULL, text=True)
+    if told.returncode:
+        stop(f"the program of {crate} without proofs was not built")
+    return told.stdout.strip()
+
+
+def add_against(command):
+    command.add_argument("--unproved", action="store_true", help="build ours without proofs, in some minutes")
+    command.add_argument("--against", metavar="CHECKOUT", help=f"time ours of that checkout too, built in the same way, in turn; the status is 1 if this one takes more than {SLOWER} of its time")
+
+
+def print_against(ratios, memory=None):
+    """Prints the geometric mean of the ratios of our times to those of the other checkout, and the ratio of memories, and gives the status."""
+    mean = statistics.geometric_mean(ratios)
+    told = "" if memory is None else f"; memory {memory:.2f}"
+    print(f"\nours / {AGAINST}: {mean:.3f} of the time, at most {SLOWER}: {'slower' if mean > SLOWER else 'not slower'}{told}")
+    return int(mean > SLOWER)
 
 
 def take_ours(file):
@@ -102,10 +209,6 @@ def ours():
     return Program("varisat", [PROGRAM, "solve"], options=("--no-simplify",))
 
 
-def cadical():
-    return Program("cadical", ["cadical", "-q"])
-
-
 def rust_crate():
     """A program over the Rust crate varisat, where it is built, or None."""
     return Program("varisat in Rust", [CRATE]) if os.path.exists(CRATE) else None
@@ -118,7 +221,7 @@ def readers():
         Program("minisat", ["minisat", "-verb=0"]),
         # Without its preprocessing it keeps no lists for that while it reads.
         Program("minisat -no-pre", ["minisat", "-verb=0", "-no-pre"]),
-        cadical(),
+        *map(quiet, [*cadicals(), *kissats()]),
     ]
 
 

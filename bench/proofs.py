@@ -21,7 +21,6 @@ NAMES = [
 ]
 # What a proof in text that is thrown away may cost in the mean.
 AIM = 1.15
-HEADS = f"{'formula':20} {'varisat, ms':>12} {'text':>10} {'binary':>10} {'text / none':>12} {'binary / none':>14} {'cadical, ms':>12} {'text':>10} {'binary':>10} {'text / none':>12} {'binary / none':>14}"
 
 
 def add_arguments(command):
@@ -32,15 +31,18 @@ def add_arguments(command):
 def commands(path):
     """For each program its runs without a proof, with one in text, and with one in the binary format."""
     ours = [programs.PROGRAM, "solve", path, "--no-simplify"]
-    cadical = ["cadical", "-q", path]
-    return [
-        ours,
-        [*ours, "--proof", "/dev/null"],
-        [*ours, "--proof", "/dev/null", "--binary"],
-        cadical,
-        [*cadical, "/dev/null", "--no-binary"],
-        [*cadical, "/dev/null"],
-    ]
+    found = [ours, [*ours, "--proof", "/dev/null"], [*ours, "--proof", "/dev/null", "--binary"]]
+    for program in programs.cadicals():
+        cadical = [*program.command, "-q", path]
+        found += [cadical, [*cadical, "/dev/null", "--no-binary"], [*cadical, "/dev/null"]]
+    return found
+
+
+def print_heads():
+    heads = f"{'formula':20}"
+    for name in ("varisat", *(program.name for program in programs.cadicals())):
+        heads += f" {name + ', ms':>17} {'text':>10} {'binary':>10} {'text / none':>12} {'binary / none':>14}"
+    print(heads)
 
 
 def measure(path, repetitions):
@@ -60,8 +62,8 @@ def measure(path, repetitions):
 def print_row(name, times):
     """Prints the row, and gives what a proof in text and one in the binary format cost us."""
     told = f"{name:20}"
-    for none, text, binary in (times[:3], times[3:]):
-        told += f" {none * 1000:12,.1f} {text * 1000:10,.1f} {binary * 1000:10,.1f} {text / none:12.2f} {binary / none:14.2f}"
+    for none, text, binary in zip(times[::3], times[1::3], times[2::3]):
+        told += f" {none * 1000:17,.1f} {text * 1000:10,.1f} {binary * 1000:10,.1f} {text / none:12.2f} {binary / none:14.2f}"
     print(told, flush=True)
     return times[1] / times[0], times[2] / times[0]
 
@@ -71,7 +73,7 @@ def run(arguments):
     programs.build_ours()
     print(programs.machine())
     print(f"the median of {arguments.repetitions} turns; times are the processor's\n")
-    print(HEADS)
+    print_heads()
     ratios = []
     with tempfile.TemporaryDirectory() as folder:
         for name in arguments.only or NAMES:

@@ -27,7 +27,7 @@ def add_arguments(command):
     command.add_argument("--limit", type=learning.positive, default=30, help="seconds of the processor for a run (30)")
     command.add_argument("--check", action="store_true", help=f"check each proof by {CHECKER}, where it is there, and that of a search without simplification")
     command.add_argument("--program", metavar="FILE", help="our program, in place of the proved one, which else is built where that is due")
-    command.add_argument("--kissat", metavar="FILE", default=shutil.which("kissat"), help="the program kissat (the one on the PATH)")
+    command.add_argument("--kissat", metavar="FILE", help="the program kissat (the one on the PATH)")
     command.add_argument("--at-once", type=learning.positive, default=1, metavar="COUNT", help="runs at a time (1)")
     command.add_argument("--results", metavar="FILE", help="a line of JSON for each run is added to it, and the runs that it has are not made again")
     command.add_argument("--deciding", action="store_true", help="measure no simplifying")
@@ -46,9 +46,8 @@ def solvers(kissat):
         programs.Program("--no-simplify", ours, conflicts_told, ("--progress", "--no-simplify")),
         programs.Program("minisat", ["minisat", "-verb=1"], programs.minisat_conflicts),
         replace(programs.learning_minisat(), name="minisat -no-pre"),
-        programs.Program("cadical", ["cadical"], conflicts_told),
     ]
-    return found + ([programs.Program("kissat", [kissat], conflicts_told)] if kissat else [])
+    return found + [replace(program, conflicts_of=conflicts_told) for program in (*programs.cadicals(), *programs.kissats(kissat))]
 
 
 def unpacked(path, folder):
@@ -235,6 +234,8 @@ def run(arguments):
         programs.stop(f"{arguments.folder} has no formula")
     programs.take_ours(arguments.program)
     print(programs.machine())
+    if arguments.kissat:
+        print(f"kissat is {programs.version(shutil.which(arguments.kissat))}, of {arguments.kissat}")
     decide_all(arguments, names)
     if not arguments.deciding:
         simplify_all(arguments, names)

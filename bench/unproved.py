@@ -1,8 +1,6 @@
 """The program without proofs beside the proved one."""
 import datetime
-import os
 import statistics
-import subprocess
 import tempfile
 from functools import partial
 
@@ -22,20 +20,10 @@ def add_arguments(command):
     command.add_argument("--repetitions", type=learning.positive, default=REPETITIONS, help=f"runs of each program on each formula ({REPETITIONS})")
 
 
-def build_unproved(folder):
-    """The program that a first start builds from a copy of the last commit."""
-    copy = os.path.join(folder, "copy")
-    subprocess.run(["git", "clone", "-q", programs.ROOT, copy], check=True)
-    told = subprocess.run([f"{copy}/varisat", "--which"], stdin=subprocess.DEVNULL, stdout=subprocess.PIPE, stderr=subprocess.DEVNULL, text=True)
-    if told.returncode:
-        programs.stop("the program without proofs was not built")
-    return told.stdout.strip()
-
-
 def run(arguments):
     programs.build_ours()
     with tempfile.TemporaryDirectory() as folder:
-        unproved = build_unproved(folder)
+        unproved = programs.build_unproved(programs.ROOT, "varisat_cli", folder)
         print(f"{datetime.date.today()}, {programs.machine()}")
         print(f"the median of {arguments.repetitions} runs\n")
         print(f"{'formula':<20} {'proved, s':>10} {'unproved, s':>12} {'unproved / proved':>18}")

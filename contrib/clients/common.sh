@@ -66,7 +66,7 @@ source_of() { # PACKAGE RELEASE WORDS..
     lists_of "$release"
     mkdir -p "$folder"
     # No patch of Debian's is needed, so that a mirror may lack what belongs to it.
-    (cd "$folder" && APT_CONFIG=$work/apt-$release/apt.conf apt-get -q source --download-only "$package") >&2 || ls "$folder"/*.orig.tar.* >&2
+    (cd "$folder" && APT_CONFIG=$work/apt-$release/apt.conf apt-get -q source --download-only "$package") >&2 || ls "$folder"/*.orig.tar.* >&2 || return
     for archive in "$folder"/*.orig.tar.*; do tar xf "$archive" -C "$folder" --wildcards "${@:-*}"; done
     touch "$folder/done"
   fi

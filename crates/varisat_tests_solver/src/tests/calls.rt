@@ -43,7 +43,8 @@ fn are_lines(alloc: Global, answers: &[TextAnswer], wanted: &[u8]) -> bool {
     is_written & (out.as_slice() == wanted)
 }
 
-// A clause, a formula, a text that breaks off, the question, the model, and whether the solver is valid.
+// A clause, a formula, a text that breaks off, the question without a step and with some, the model, and whether the solver
+// is valid.
 fn calls(alloc: Global) -> Option<Vec<TextCall>>
     ensures { IfSome result (λ calls. AreReady (λ s. s) (λ t. t) calls.items) }
 {
@@ -54,6 +55,9 @@ fn calls(alloc: Global) -> Option<Vec<TextCall>>
         Call::AddClause(clause),
         Call::AddFormula(formula),
         Call::AddDimacsCnf(ReadSource::new(text)),
+        Call::SetMaxSteps(0),
+        Call::Solve,
+        Call::SetMaxSteps(9),
         Call::Solve,
         Call::Model,
         Call::IsValid,
@@ -61,7 +65,7 @@ fn calls(alloc: Global) -> Option<Vec<TextCall>>
     Vec::from_array(alloc, calls).ok()
 }
 
-const ANSWERS: &[u8] = b"ok\nok\nerr 13\nok true\nok -1 -2 -3 -4 -5 6 0\nok true\n";
+const ANSWERS: &[u8] = b"ok\nok\nerr 13\nok\nerr 1\nok\nok true\nok -1 -2 -3 -4 -5 6 0\nok true\n";
 
 // Whether the solver gives the calls these answers.
 fn runs(solver: &mut Solver<MemoryTarget<Global>, Global>, alloc: Global) -> Option<bool> {

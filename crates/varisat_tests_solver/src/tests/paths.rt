@@ -17,7 +17,8 @@ pub mod io {
 /// Formulas.
 pub mod formula {
     pub use varisat::formula::{
-        CnfFormula, ExtendFormula, FormulaError, Lit, Var, new_lits, new_vars,
+        CnfFormula, ExtendFormula, FormulaError, Lit, Var, cnf, cnf_formula, lit, lits, new_lits,
+        new_vars, var,
     };
 }
 

@@ -8,8 +8,11 @@ use varisat::dimacs::write_dimacs;
 use varisat::formula::CnfFormula;
 use varisat::io::MemoryTarget;
 use varisat::proof::{ProofStep, write_binary_step, write_step};
+use varisat::session::{Call, run};
+use varisat::solver::Solver;
 use varisat_clause::collect::collect_garbage;
 use varisat_formula::cnf_formula;
+use varisat_formula::io::CutSource;
 use varisat_literals::lits;
 use varisat_tests_heap::CutHeap;
 
@@ -38,13 +41,16 @@ enum Example {
     Store,
     /// A formula is written as a text.
     Text,
+    /// A call that takes no memory is run.
+    Run,
 }
 
-const EXAMPLES: [Example; 4] = [
+const EXAMPLES: [Example; 5] = [
     Example::Step(false),
     Example::Step(true),
     Example::Store,
     Example::Text,
+    Example::Run,
 ];
 
 // Writes a step. A target that fails has a beginning of its bytes.
@@ -168,11 +174,31 @@ fn write_text_in<A: Allocator + Copy>(alloc: Global, heap: A) -> Came {
     came
 }
 
+// Where the list of answers is refused the call is not made.
+fn run_calls<A: Allocator + Copy>(solver: &mut Solver<MemoryTarget<A>, A>, heap: A) -> Came {
+    let calls: [Call<MemoryTarget<A>, CutSource<'static>, A>; 1] = [Call::EnableSelfChecking];
+    let Ok(calls) = Vec::from_array(heap, calls) else {
+        return Came::Short;
+    };
+    match run(solver, calls) {
+        Ok(answers) => whole_if(answers.len() == 1 && solver.checker().is_some()),
+        Err(_) => short_if(solver.checker().is_none()),
+    }
+}
+
+fn run_calls_in<A: Allocator + Copy>(heap: A) -> Came {
+    let mut solver = Solver::new_in(heap);
+    let came = run_calls(&mut solver, heap);
+    drop(solver);
+    came
+}
+
 fn come_to<A: Allocator + Copy>(alloc: Global, heap: A, example: Example) -> Came {
     match example {
         Example::Step(is_binary) => write_in(heap, is_binary),
         Example::Store => store_in(heap),
         Example::Text => write_text_in(alloc, heap),
+        Example::Run => run_calls_in(heap),
     }
 }
 

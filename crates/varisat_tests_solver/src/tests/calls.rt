@@ -141,6 +141,11 @@ fn refusals() -> [(SolverError, &'static str); 12] {
     ]
 }
 
+// Whether the solver can be used as before after the refusal, by its number.
+fn is_passing(error: &SolverError) -> bool {
+    !matches!(error.number(), 2..=5)
+}
+
 // Whether the refusal is printed so.
 fn has_text(alloc: Global, error: &SolverError, wanted: &str) -> Result<bool, AllocError> {
     let text = error.to_string(alloc)?;
@@ -154,5 +159,6 @@ fn refusals_have_their_texts(rt: HostRuntime) {
             matches!(has_text(rt.alloc(), error, text), Ok(true)),
             "{text}"
         );
+        assert!(rt; error.is_recoverable() == is_passing(error), "{text}");
     }
 }

@@ -102,11 +102,16 @@ struct varisat {
     bool proof_failed, is_lost;
 };
 
+/* The Makefile gives the number, which is in the file VERSION. */
+#ifndef VARISAT_VERSION
+#define VARISAT_VERSION "of no version"
+#endif
+
 const char *varisat_version(void) {
 #ifdef UNPROVED
-    return "varisat 1.0.0, built without proofs";
+    return "varisat " VARISAT_VERSION ", built without proofs";
 #else
-    return "varisat 1.0.0";
+    return "varisat " VARISAT_VERSION;
 #endif
 }
 

@@ -40,7 +40,8 @@ install-program:
 	@program=$$($(WHICH)) && \
 	install -d '$(DESTDIR)$(BINDIR)' '$(DESTDIR)$(LIBEXEC)' && \
 	install -m 755 "$$program" '$(DESTDIR)$(LIBEXEC)/varisat' && \
-	sh install/command.sh varisat '$(call from,$(BINDIR),$(LIBEXEC))' "$$program" >'$(DESTDIR)$(BINDIR)/varisat.new' && \
+	sh install/command.sh varisat '$(call from,$(BINDIR),$(LIBEXEC))' "$$program" "$$(install/identity)" \
+	  >'$(DESTDIR)$(BINDIR)/varisat.new' && \
 	chmod 755 '$(DESTDIR)$(BINDIR)/varisat.new' && mv '$(DESTDIR)$(BINDIR)/varisat.new' '$(DESTDIR)$(BINDIR)/varisat'
 	@install -d '$(DESTDIR)$(MAN1)' && sed '1s/@VERSION@/$(VERSION)/' install/varisat.1 >'$(DESTDIR)$(MAN1)/varisat.1' && chmod 644 '$(DESTDIR)$(MAN1)/varisat.1'
 	@install -D -m 644 install/completion.bash '$(DESTDIR)$(BASH)/varisat'

@@ -1,8 +1,9 @@
 #!/bin/sh
-# command.sh NAME FOLDER BUILT: prints the command NAME to be installed, which starts the program of that name in FOLDER, a path from the
-# command's own folder, so that both can be moved together. BUILT is the file from which the program was installed.
+# command.sh NAME FOLDER BUILT IDENTITY: prints the command NAME to be installed, which starts the program of that name in FOLDER, a path
+# from the command's own folder, so that both can be moved together. BUILT is the file from which the program was installed, and IDENTITY
+# what `install/identity` prints of its sources.
 set -eu
-name=$1 folder=$2 built=$3
+name=$1 folder=$2 built=$3 identity=$4
 here=$(dirname "$0")
 cat <<TEXT
 #!/bin/sh
@@ -10,10 +11,17 @@ cat <<TEXT
 set -eu
 TEXT
 sed 1d "$here/start.sh"
+cat <<TEXT
+
+# A link to this file may be in another folder.
+self=\$0
+[ ! -L "\$self" ] || self=\$(readlink -f "\$self")
+case \$self in */*) ;; *) self=./\$self ;; esac
+program=\${self%/*}/$folder/$name
+TEXT
 case ${built##*/} in
   unproved-*)
     cat <<TEXT
-
 case \${1-} in
   --version | --help | -h) echo "$name: this program is not proved" >&2 || : ;;
 esac
@@ -21,10 +29,6 @@ TEXT
     ;;
 esac
 cat <<TEXT
-
-# A link to this file may be in another folder.
-self=\$0
-[ ! -L "\$self" ] || self=\$(readlink -f "\$self")
-case \$self in */*) ;; *) self=./\$self ;; esac
-start "\${self%/*}/$folder/$name" "\$@"
+[ "\${1-}:\$#" != --version:1 ] || tell_version "\$program" "$identity"
+start "\$program" "\$@"
 TEXT

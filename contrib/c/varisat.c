@@ -102,17 +102,13 @@ struct varisat {
     bool proof_failed, is_lost;
 };
 
-/* The Makefile gives the number, which is in the file VERSION. */
-#ifndef VARISAT_VERSION
-#define VARISAT_VERSION "of no version"
+/* The Makefile says more: the number of the version, the commit, and whether the library was built without proofs. */
+#ifndef VARISAT_IDENTITY
+#define VARISAT_IDENTITY "of unknown version"
 #endif
 
 const char *varisat_version(void) {
-#ifdef UNPROVED
-    return "varisat " VARISAT_VERSION ", built without proofs";
-#else
-    return "varisat " VARISAT_VERSION;
-#endif
+    return "varisat " VARISAT_IDENTITY;
 }
 
 /* The text of an error, and NULL for those that the library names. */

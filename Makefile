@@ -62,6 +62,9 @@ install-library:
 uninstall-library:
 	+@$(LIBRARY) uninstall
 
+web:
+	+@$(MAKE) -s -C contrib/web UNPROVED='$(UNPROVED)'
+
 # Both would prove the crates below at once.
 .NOTPARALLEL:
-.PHONY: all help test check install uninstall $(PARTS:%=build-%) $(PARTS:%=install-%) $(PARTS:%=uninstall-%)
+.PHONY: all help test check web install uninstall $(PARTS:%=build-%) $(PARTS:%=install-%) $(PARTS:%=uninstall-%)

@@ -79,19 +79,26 @@ public:
         calls->terminate = std::move(function);
     }
 
-    /// Throws an Error with VARISAT_NOTHING, as the next three calls do, unless the last verdict has a model or a core.
-    bool value(int32_t literal) { return done(varisat_value(get(), literal)) == 1; }
-    bool is_failed(int32_t literal) { return done(varisat_is_failed(get(), literal)) == 1; }
+    /// The variables in use with their values. An Error with VARISAT_NOTHING if there is no model.
     std::vector<int32_t> model() { return list(varisat_model(get(), nullptr, 0)); }
+    /// Whether the literal is true in the model. An Error with VARISAT_NOTHING if there is no model, or it has no such variable.
+    bool value(int32_t literal) { return done(varisat_value(get(), literal)) == 1; }
+    /// Some of the assumptions, which fail together with the clauses. An Error with VARISAT_NOTHING if there is no core.
     std::vector<int32_t> failed_core() { return list(varisat_failed_core(get(), nullptr, 0)); }
+    /// Whether the literal is one of the core. An Error with VARISAT_NOTHING if there is no core.
+    bool is_failed(int32_t literal) { return done(varisat_is_failed(get(), literal)) == 1; }
 
+    /// Brings the least free variable into use, and returns it.
     int32_t new_var() { return done(varisat_new_var(get())); }
     void witness_var(int32_t variable) { done(varisat_witness_var(get(), variable)); }
     void sample_var(int32_t variable) { done(varisat_sample_var(get(), variable)); }
     void hide_var(int32_t variable) { done(varisat_hide_var(get(), variable)); }
+    /// Brings hidden variables back as witnesses, and returns their new names.
     std::vector<int32_t> observe_internal_vars() { return list(varisat_observe_internal_vars(get(), nullptr, 0)); }
+    /// The highest variable that a call named or returned.
     int32_t var_count() { return done(varisat_var_count(get())); }
 
+    /// Changes a setting by its name, such as "vsids_decay".
     void set(const std::string &name, uint64_t value) { done(varisat_set_named(get(), name.c_str(), value)); }
     void set_for_file() { done(varisat_set_for_file(get())); }
     uint64_t count(varisat_counter counter) {
@@ -117,7 +124,7 @@ private:
     struct Free {
         void operator()(varisat *solver) const noexcept { varisat_free(solver); }
     };
-    /// At one place while the solver is moved, as the library is given its address.
+    /// It stays at one place while the solver is moved, as the library has its address.
     std::unique_ptr<Calls> calls;
     std::unique_ptr<varisat, Free> solver;
 

@@ -109,6 +109,8 @@ class Calls(unittest.TestCase):
                 self.assertEqual((solver.nof_clauses(), solver.solve(), solver.get_model()), (2, True, [-1, 2]))
         self.assertRaises(TypeError, Solver, [[1]], [[2]])
         self.assertRaises(TypeError, Solver, [[1]], bootstrap_with=[[2]])
+        for file in ("formula.cnf", "formula.cnf.gz", "/tmp/formula", "../formula"):
+            self.assertRaisesRegex(ValueError, "from_file", Solver, file)
         for words in ({}, {"name": "g4"}, {"bootstrap_with": None}):
             self.assertEqual(Solver(**words).nof_clauses(), 0)
         solver = Solver("g4", [[1], [-1]], vsids_decay=900)
@@ -327,8 +329,18 @@ class Calls(unittest.TestCase):
             solver.set_terminate()
             # A shell has what it starts in the background ignore Ctrl-C, and Python then raises nothing.
             signal.signal(signal.SIGINT, signal.default_int_handler)
-            threading.Timer(0.2, os.kill, (os.getpid(), signal.SIGINT)).start()
-            self.assertRaises(KeyboardInterrupt, solver.solve)
+            begun = threading.Event()
+
+            def press():
+                begun.wait()
+                time.sleep(0.2)
+                os.kill(os.getpid(), signal.SIGINT)
+
+            # The thread is there before, as its start may take long on a busy machine.
+            threading.Thread(target=press).start()
+            with self.assertRaises(KeyboardInterrupt):
+                begun.set()
+                solver.solve()
             self.assertFalse(solver.solve(assumptions=[1, 12]))
             solver.interrupt()
             solver.clear_interrupt()

@@ -86,6 +86,9 @@ class Solver:
                  self_check: bool = False, incr: bool = False, warm_start: bool = False, **settings: int):
         if not isinstance(name, str) and bootstrap_with is not None:
             raise TypeError("a name comes before bootstrap_with, or one formula alone")
+        # It would be a solver without clauses.
+        if isinstance(name, str) and ("." in name or "/" in name):
+            raise ValueError(f"{name!r} is no name of a solver: Solver(CNF(from_file=..)) takes the clauses of a file")
         number = format_number(format)
         if proof is not None and not hasattr(proof, "write"):
             raise TypeError("the proof goes to what has a method write, as a file that is open in binary")

@@ -1,25 +1,19 @@
-# make                      the proved program and library, in half an hour the first time; with UNPROVED=1 without proofs, in four minutes
-# make install              the program, its page for man, and what bash completes; the library for C, its headers, what pkg-config tells
-#                           of it, and the package for Python; PREFIX and DESTDIR as usual
-# make uninstall            takes out what install put there
-# PARTS=program             the program alone; PARTS=library the other
+# `make help` says what can be made.
 UNPROVED =
 PREFIX = /usr/local
 DESTDIR =
+include install/places.mk
+LIBEXEC = $(LIBEXECDIR)/varisat
+MAN1 = $(MANDIR)/man1
+BASH = $(DATADIR)/bash-completion/completions
+ZSH = $(DATADIR)/zsh/site-functions
+FISH = $(DATADIR)/fish/vendor_completions.d
 
-# What is installed names its folder to those who are in another one.
-$(if $(filter-out /%,$(firstword $(PREFIX))),$(error PREFIX=$(PREFIX) is no absolute path))
-
-BIN = $(PREFIX)/bin
-LIBEXEC = $(PREFIX)/libexec/varisat
-MAN = $(PREFIX)/share/man/man1
-COMPLETIONS = $(PREFIX)/share/bash-completion/completions
-
-# Prints the file of the program that is to be installed, built where that is due.
+# Prints the file of the program that is to be installed, built if that is due.
 WHICH = ./varisat $(if $(UNPROVED),,--prove) --which
 
 # It works in another folder, where a relative DESTDIR would be another one.
-LIBRARY = $(MAKE) -C contrib/c UNPROVED='$(UNPROVED)' PREFIX='$(PREFIX)' \
+LIBRARY = $(MAKE) -s -C contrib/c UNPROVED='$(UNPROVED)' PREFIX='$(PREFIX)' \
   DESTDIR='$(if $(filter-out /%,$(firstword $(DESTDIR))),$(CURDIR)/)$(DESTDIR)'
 
 # What is installed, each part by a target of its own.
@@ -29,32 +23,48 @@ all: $(PARTS:%=build-%)
 install: $(PARTS:%=install-%)
 uninstall: $(PARTS:%=uninstall-%)
 
-build-program:
-	$(WHICH) >/dev/null
+help:
+	@cat install/help.txt
 
-# The command is a script in front of the program. It tells of a program without proofs what no program can know.
+# The gate, and the tests that take minutes.
+test:
+	@./test
+check:
+	@install/check
+
+build-program:
+	@$(WHICH) >/dev/null
+
+# The command is a script that starts the program. It says of a program without proofs what no program can know.
 install-program:
-	program=$$($(WHICH)) && \
-	install -d '$(DESTDIR)$(BIN)' '$(DESTDIR)$(LIBEXEC)' '$(DESTDIR)$(MAN)' '$(DESTDIR)$(COMPLETIONS)' && \
+	@program=$$($(WHICH)) && \
+	install -d '$(DESTDIR)$(BINDIR)' '$(DESTDIR)$(LIBEXEC)' && \
 	install -m 755 "$$program" '$(DESTDIR)$(LIBEXEC)/varisat' && \
-	sh install/command.sh '$(LIBEXEC)/varisat' "$$program" >'$(DESTDIR)$(BIN)/varisat.new' && \
-	chmod 755 '$(DESTDIR)$(BIN)/varisat.new' && mv '$(DESTDIR)$(BIN)/varisat.new' '$(DESTDIR)$(BIN)/varisat' && \
-	install -m 644 install/varisat.1 '$(DESTDIR)$(MAN)/varisat.1' && \
-	install -m 644 install/completion.bash '$(DESTDIR)$(COMPLETIONS)/varisat'
+	sh install/command.sh varisat '$(call from,$(BINDIR),$(LIBEXEC))' "$$program" "$$(install/identity)" \
+	  >'$(DESTDIR)$(BINDIR)/varisat.new' && \
+	chmod 755 '$(DESTDIR)$(BINDIR)/varisat.new' && mv '$(DESTDIR)$(BINDIR)/varisat.new' '$(DESTDIR)$(BINDIR)/varisat'
+	@install -d '$(DESTDIR)$(MAN1)' && sed '1s/@VERSION@/$(VERSION)/' install/varisat.1 >'$(DESTDIR)$(MAN1)/varisat.1' && chmod 644 '$(DESTDIR)$(MAN1)/varisat.1'
+	@install -D -m 644 install/completion.bash '$(DESTDIR)$(BASH)/varisat'
+	@install -D -m 644 install/completion.zsh '$(DESTDIR)$(ZSH)/_varisat'
+	@install -D -m 644 install/completion.fish '$(DESTDIR)$(FISH)/varisat.fish'
 
 uninstall-program:
-	rm -f '$(DESTDIR)$(BIN)/varisat' '$(DESTDIR)$(LIBEXEC)/varisat' '$(DESTDIR)$(MAN)/varisat.1' '$(DESTDIR)$(COMPLETIONS)/varisat'
-	-rmdir '$(DESTDIR)$(LIBEXEC)'
+	@rm -f '$(DESTDIR)$(BINDIR)/varisat' '$(DESTDIR)$(LIBEXEC)/varisat' '$(DESTDIR)$(MAN1)/varisat.1'
+	@rm -f '$(DESTDIR)$(BASH)/varisat' '$(DESTDIR)$(ZSH)/_varisat' '$(DESTDIR)$(FISH)/varisat.fish'
+	@rmdir '$(DESTDIR)$(LIBEXEC)' 2>/dev/null || true
 
 build-library:
-	+$(LIBRARY) all
+	+@$(LIBRARY) all
 
 install-library:
-	+$(LIBRARY) install
+	+@$(LIBRARY) install
 
 uninstall-library:
-	+$(LIBRARY) uninstall
+	+@$(LIBRARY) uninstall
+
+web:
+	+@$(MAKE) -s -C contrib/web UNPROVED='$(UNPROVED)'
 
 # Both would prove the crates below at once.
 .NOTPARALLEL:
-.PHONY: all install uninstall $(PARTS:%=build-%) $(PARTS:%=install-%) $(PARTS:%=uninstall-%)
+.PHONY: all help test check web install uninstall $(PARTS:%=build-%) $(PARTS:%=install-%) $(PARTS:%=uninstall-%)

@@ -1,18 +1,34 @@
-# Prints the command to be installed: it starts the program $1, which was built as $2.
-cat <<END
 #!/bin/sh
-# Starts the program varisat.
+# command.sh NAME FOLDER BUILT IDENTITY: prints the command NAME to be installed, which starts the program of that name in FOLDER, a path
+# from the command's own folder, so that both can be moved together. BUILT is the file from which the program was installed, and IDENTITY
+# what `install/identity` prints of its sources.
 set -eu
-END
-sed 1d install/start.sh
-case ${2##*/} in
-  unproved-*)
-    cat <<'END'
+name=$1 folder=$2 built=$3 identity=$4
+here=$(dirname "$0")
+cat <<TEXT
+#!/bin/sh
+# Starts the program $name.
+set -eu
+TEXT
+sed 1d "$here/start.sh"
+cat <<TEXT
 
-case ${1-} in
-  --version | --help | -h) echo "varisat: this program is not proved" >&2 || : ;;
+# A link to this file may be in another folder.
+self=\$0
+[ ! -L "\$self" ] || self=\$(readlink -f "\$self")
+case \$self in */*) ;; *) self=./\$self ;; esac
+program=\${self%/*}/$folder/$name
+TEXT
+case ${built##*/} in
+  unproved-*)
+    cat <<TEXT
+case \${1-} in
+  --version | --help | -h) echo "$name: this program is not proved" >&2 || : ;;
 esac
-END
+TEXT
     ;;
 esac
-printf "\nstart '%s' \"\$@\"\n" "$1"
+cat <<TEXT
+[ "\${1-}:\$#" != --version:1 ] || tell_version "\$program" "$identity"
+start "\$program" "\$@"
+TEXT

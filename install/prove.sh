@@ -118,6 +118,13 @@ link_program() {
   "$1/bin/rattle-link" --target x86_64-unknown-linux-gnu --toolchain "$1/toolchain" -o "$2" "$2.o" "$1"/c/lib{os,libc}_c.a
 }
 
+# Makes the folder $2 a toolchain as that of the kit $1, whose clang also leaves the module that it compiles, as the file $3.
+copy_toolchain() {
+  rm -rf "$2" && mkdir -p "$2/bin" && ln -s "$1"/toolchain/bin/* "$2/bin" && ln -s "$1/toolchain/lib" "$2" && rm -f "$2/bin/clang" || return
+  printf '#!/bin/sh\n[ ! -f module.bc ] || cp module.bc "%s"\nexec "%s" "$@"\n' "$3" "$1/toolchain/bin/clang" >"$2/bin/clang"
+  chmod +x "$2/bin/clang"
+}
+
 # Proves the crate $1 of the repository in this folder by $2 processes, over the crates below as they are built in out/, and makes what
 # those above need of it, or the program, or the static library. These are the words with which `rt ci` calls rattle, but for the number
 # of processes: there it is one.
@@ -137,7 +144,8 @@ prove_crate() (
   if [ -f src/main.rt ]; then
     "$kit/bin/rattle" build src/main.rt "${words[@]}" --toolchain "$kit/toolchain" -o "out/$name.o" && link_program "$kit" "out/$name"
   elif [[ $line = *" staticlib:"* ]]; then
-    "$kit/bin/rattle" build src/lib.rt "${words[@]}" --toolchain "$kit/toolchain" --crate-type staticlib -o "out/lib$name.a"
+    copy_toolchain "$kit" "$PWD/out/toolchain" "$PWD/out/$name.bc" &&
+      "$kit/bin/rattle" build src/lib.rt "${words[@]}" --toolchain "$PWD/out/toolchain" --crate-type staticlib -o "out/lib$name.a"
   else
     "$kit/bin/rattle" build src/lib.rt "${words[@]}" --statements -o "out/rlib/$name.rlib"
   fi && echo "rt: $name proved"

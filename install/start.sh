@@ -38,6 +38,12 @@ refuse_proof() { # FORMULA PROOF
   fi
 }
 
+# Prints the version of the program $1, which is a number alone, and the line $2 that says from which commit it was built. Ends.
+tell_version() {
+  "$1" --version && echo "$2" || exit 2
+  exit 0
+}
+
 # Runs the program $1 with the other words as its arguments. It reads the first word behind `solve`, or two behind `check` and its
 # option, as files.
 start() {

@@ -104,12 +104,13 @@ struct varisat {
     bool proof_failed, is_lost;
 };
 
-const char *varisat_version(void) {
-#ifdef UNPROVED
-    return "varisat 1.0.0, built without proofs";
-#else
-    return "varisat 1.0.0";
+/* The Makefile says more: the number of the version, the commit, and whether the library was built without proofs. */
+#ifndef VARISAT_IDENTITY
+#define VARISAT_IDENTITY "of unknown version"
 #endif
+
+const char *varisat_version(void) {
+    return "varisat " VARISAT_IDENTITY;
 }
 
 const char *varisat_strerror(int error) {

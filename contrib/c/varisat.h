@@ -65,7 +65,8 @@ const char *varisat_strerror(int error);
  * that call succeeded, or if there was none. */
 int varisat_last_error(void);
 
-/* The name and the version. */
+/* The name, the version, and the commit of the sources from which the library was built: "varisat 1.0.0, commit 0123456789ab (2026-11-29)".
+ * "modified" is added if a source differed from the commit, and "built without proofs" if the library is not proved. */
 const char *varisat_version(void);
 
 /* A new solver, which takes at most so many bytes of memory; 0 sets no limit. NULL where there is no memory. */

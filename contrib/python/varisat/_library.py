@@ -94,9 +94,9 @@ _NUMBERS = frozenset(map(int, ErrorNumber))
 
 def _load() -> ctypes.CDLL:
     here = os.path.dirname(os.path.abspath(__file__))
-    installed = [os.path.join(here, up, "libvarisat.so.0") for up in (".", "..", "../../..")]
+    installed = [os.path.join(here, up, "libvarisat.so.1") for up in (".", "..", "../../..")]
     found = [place for place in installed if os.path.exists(place)]
-    place = os.environ.get("VARISAT_SO") or (found or [ctypes.util.find_library("varisat") or "libvarisat.so.0"])[0]
+    place = os.environ.get("VARISAT_SO") or (found or [ctypes.util.find_library("varisat") or "libvarisat.so.1"])[0]
     try:
         library = ctypes.CDLL(place)
     except OSError as error:

@@ -1,0 +1,29 @@
+#compdef varisat
+# What zsh completes after varisat.
+_varisat() {
+  local -a commands=(
+    'solve:decide a DIMACS CNF text'
+    'check:check a proof that such a text is unsatisfiable'
+    'session:call a solver line by line'
+  )
+  if (( CURRENT == 2 )); then
+    _describe command commands -- '(--help --version)'
+    _arguments '(- *)--help[print all commands and options]' '(- *)--version[print the version]'
+    return
+  fi
+  case $words[2] in
+    solve)
+      _arguments '--help[print more about solve]' \
+        '--proof[write a DRAT proof to a file]:proof:_files' '(--marked)--binary[write the proof in the binary format]' \
+        '(--binary)--marked[write the proof as marked text]' '--check[have a checker inside the solver check each step]' \
+        '--max-steps[give up after so many steps]:steps:' '--heap[give the solver so many bytes of memory]:bytes:' \
+        '--no-simplify[search the formula as it is]' '--progress[show how far the search is]' '2:formula:_files'
+      ;;
+    check)
+      _arguments '--help[print more about check]' '--drat[take lines that are RAT]' '(--marked)--binary[read the binary format]' \
+        '(--binary)--marked[read marked text]' '2:formula:_files' '3:proof:_files'
+      ;;
+    session) _arguments '--help[print more about session]' ;;
+  esac
+}
+_varisat "$@"

@@ -1,5 +1,6 @@
 """How long a model checker takes that unrolls circuits frame by frame through IPASIR, beside the libraries of minisat and CaDiCaL."""
 import os
+import shutil
 import statistics
 import subprocess
 import tempfile
@@ -14,35 +15,34 @@ SUMMARY = "times bounded model checking of circuits, frame by frame through IPAS
 SOURCES = f"{programs.ROOT}/bench/circuits"
 # Ours divided by the fastest peer: what it is to be at most in the mean, and for each circuit.
 MEAN, EACH = 0.55, 0.8
-# Registers without a value to begin with begin at zero, and what nothing drives is zero.
-DRIVEN = "setundef -zero -undriven -init; "
-# How Yosys turns a circuit into gates of two inputs.
-GATES = "memory_map; opt -full; techmap; opt; async2sync; dffunmap; {driven}simplemap; abc -g AND -fast; opt_clean; write_aiger -zinit out"
+# How Yosys turns a circuit into gates of two inputs: first into registers and small cells. Then what nothing drives is made zero, and so
+# is each first value that is not given, unless the Verilog has assertions, which have to hold of any.
+LOWER = "memory_map; opt -full; techmap; opt; async2sync; dffunmap; "
+ZERO = "setundef -zero -undriven -init; "
+GATES = "simplemap; abc -g AND -fast; opt_clean; write_aiger -zinit out"
 
 
 @dataclass
 class Circuit:
-    """What Yosys reads, the module on top, its parameters, how many frames are asked for at most, and what they come to: so many are
-    unsatisfiable, and then one is satisfiable, or else none."""
+    """The files that Yosys reads, the module on top, its parameters, how many frames are asked for at most, and what they come to: so many
+    are unsatisfiable, and then one is satisfiable, or else none."""
 
-    reads: str
+    sources: list
     top: str
     parameters: dict
     frames: int
     answers: str
-    driven: str = DRIVEN
-
-    def needs_core(self):
-        return "CORE" in self.reads
+    # Whether the bad states are those of the assertions in the Verilog, and what it assumes holds. Else they are those of an output.
+    has_assertions: bool = False
 
 
-# CORE is the Verilog of picorv32.
+# The Verilog of picorv32, which bench/peers fetched, or another file.
+CORE = "picorv32.v"
 CIRCUITS = {
-    # The core's own assertions, over all instructions. What it assumes of its surroundings is in its Verilog.
-    "picorv32-assert": Circuit("-formal CORE", "picorv32", {"ENABLE_COUNTERS": 0, "ENABLE_REGS_16_31": 0}, 20, 20 * "u", driven=""),
-    "picorv32-store": Circuit(f"CORE {SOURCES}/store.v", "store", {}, 30, 16 * "u" + "s"),
-    "queues": Circuit(f"{clients.SOURCES}/queue.v {SOURCES}/queues.v", "queues", {"WIDTH": 4, "BITS": 3}, 12, 12 * "u"),
-    "puzzle": Circuit(f"{SOURCES}/puzzle.v", "puzzle", {"START": "36'h543678021", "GAP": 2}, 30, 18 * "u" + "s"),
+    "picorv32-assert": Circuit([CORE], "picorv32", {"ENABLE_COUNTERS": 0, "ENABLE_REGS_16_31": 0}, 20, 20 * "u", has_assertions=True),
+    "picorv32-store": Circuit([CORE, f"{SOURCES}/store.v"], "store", {}, 30, 16 * "u" + "s"),
+    "queues": Circuit([f"{clients.SOURCES}/queue.v", f"{SOURCES}/queues.v"], "queues", {"WIDTH": 4, "BITS": 3}, 12, 12 * "u"),
+    "puzzle": Circuit([f"{SOURCES}/puzzle.v"], "puzzle", {"START": "36'h543678021", "GAP": 2}, 30, 18 * "u" + "s"),
 }
 
 
@@ -63,11 +63,13 @@ def add_arguments(command):
 
 
 def write_circuit(path, circuit, core):
-    """Has Yosys write the circuit in AIGER."""
+    """Has Yosys write the circuit in AIGER. It reads copies, as the names of files order the gates."""
     sizes = "".join(f"chparam -set {name} {value} {circuit.top}; " for name, value in circuit.parameters.items())
-    reads = circuit.reads.replace("CORE", core or "")
+    reads = " ".join(["-formal"] * circuit.has_assertions + [os.path.basename(source) for source in circuit.sources])
     with tempfile.TemporaryDirectory() as folder:
-        script = f"read_verilog {reads}; {sizes}prep -top {circuit.top} -flatten; {GATES.format(driven=circuit.driven)}"
+        for source in circuit.sources:
+            shutil.copy(core if source == CORE else source, f"{folder}/{os.path.basename(source)}")
+        script = f"read_verilog {reads}; {sizes}prep -top {circuit.top} -flatten; {LOWER}{'' if circuit.has_assertions else ZERO}{GATES}"
         done = subprocess.run(["yosys", "-q", "-p", script], cwd=folder, stdout=subprocess.PIPE, stderr=subprocess.STDOUT, text=True)
         if done.returncode:
             programs.stop(f"yosys ended with status {done.returncode}:\n{done.stdout}")
@@ -118,9 +120,9 @@ def print_ends(rows, arguments):
 
 def chosen(arguments):
     """The circuits that are asked for, and the file of picorv32's Verilog, or None. Without that file its circuits are left out."""
-    core = arguments.core or (f"{programs.PEERS}/picorv32.v" if programs.PEERS else None)
+    core = arguments.core or (f"{programs.PEERS}/{CORE}" if programs.PEERS else None)
     named = {name: CIRCUITS[name] for name in arguments.only or CIRCUITS}
-    circuits = {name: circuit for name, circuit in named.items() if core or not circuit.needs_core()}
+    circuits = {name: circuit for name, circuit in named.items() if core or CORE not in circuit.sources}
     if not circuits:
         programs.stop("there is no Verilog of picorv32: bench/peers DIR fetches it, and --peers DIR finds it")
     return circuits, core
@@ -136,7 +138,7 @@ def run(arguments):
         rows = []
         for name, circuit in circuits.items():
             path = f"{folder}/{name}.aig"
-            write_circuit(path, circuit, os.path.abspath(core) if core else None)
+            write_circuit(path, circuit, core)
             turns = [[check(f"{folder}/{solver}", path, circuit) for solver in names] for _ in range(arguments.repetitions)]
             rows.append(print_circuit(name, circuit, names, turns))
     return print_ends(rows, arguments)

@@ -53,6 +53,22 @@ uninstall-program:
 	@rm -f '$(DESTDIR)$(BASH)/varisat' '$(DESTDIR)$(ZSH)/_varisat' '$(DESTDIR)$(FISH)/varisat.fish'
 	@rmdir '$(DESTDIR)$(LIBEXEC)' 2>/dev/null || true
 
+# The program for MaxSAT, which the gate builds. Nothing builds it without proofs.
+WHICH_MAXSAT = $(if $(UNPROVED),echo "varisat: maxsat has no build without proofs" >&2; exit 2,contrib/c/prove maxsat && echo crates/maxsat/out/maxsat)
+build-maxsat:
+	@$(WHICH_MAXSAT) >/dev/null
+
+install-maxsat:
+	@program=$$($(WHICH_MAXSAT)) && \
+	install -d '$(DESTDIR)$(BINDIR)' '$(DESTDIR)$(LIBEXEC)' && \
+	install -m 755 "$$program" '$(DESTDIR)$(LIBEXEC)/maxsat' && \
+	sh install/command.sh maxsat '$(call from,$(BINDIR),$(LIBEXEC))' "$$program" "$$(install/identity)" >'$(DESTDIR)$(BINDIR)/maxsat.new' && \
+	chmod 755 '$(DESTDIR)$(BINDIR)/maxsat.new' && mv '$(DESTDIR)$(BINDIR)/maxsat.new' '$(DESTDIR)$(BINDIR)/maxsat'
+
+uninstall-maxsat:
+	@rm -f '$(DESTDIR)$(BINDIR)/maxsat' '$(DESTDIR)$(LIBEXEC)/maxsat'
+	@rmdir '$(DESTDIR)$(LIBEXEC)' 2>/dev/null || true
+
 build-library:
 	+@$(LIBRARY) all
 
@@ -62,9 +78,13 @@ install-library:
 uninstall-library:
 	+@$(LIBRARY) uninstall
 
+# The archives of a release.
+dist:
+	+@UNPROVED='$(UNPROVED)' install/dist
+
 web:
 	+@$(MAKE) -s -C contrib/web UNPROVED='$(UNPROVED)'
 
 # Both would prove the crates below at once.
 .NOTPARALLEL:
-.PHONY: all help test check web install uninstall $(PARTS:%=build-%) $(PARTS:%=install-%) $(PARTS:%=uninstall-%)
+.PHONY: all help test check web dist build-maxsat install-maxsat uninstall-maxsat install uninstall $(PARTS:%=build-%) $(PARTS:%=install-%) $(PARTS:%=uninstall-%)

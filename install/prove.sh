@@ -90,6 +90,15 @@ put_built() {
   stop "no place for $2"
 }
 
+# Puts into the folder $2 the LLVM module and the verdict that prove_crate left of the crate $1 in the folder $3. What was edited since the
+# file $4 is newer.
+put_module() {
+  local file
+  for file in "$1.bc" "$1.verdict"; do
+    [ ! -s "$3/$file" ] || put_built "$3/$file" "$2/$file" "$4"
+  done
+}
+
 # Of the crates that the crate $1 is built from, the search and those above it. Each of them uses most that come before.
 last_crates() {
   crates "$1" | grep -xF "$(awk '
@@ -118,7 +127,7 @@ link_program() {
   "$1/bin/rattle-link" --target x86_64-unknown-linux-gnu --toolchain "$1/toolchain" -o "$2" "$2.o" "$1"/c/lib{os,libc}_c.a
 }
 
-# Makes the folder $2 a toolchain as that of the kit $1, whose clang also leaves the module that it compiles, as the file $3.
+# Makes the folder $2 a toolchain like the toolchain of the kit $1, whose clang also leaves the LLVM module that it compiles, as the file $3.
 copy_toolchain() {
   rm -rf "$2" && mkdir -p "$2/bin" && ln -s "$1"/toolchain/bin/* "$2/bin" && ln -s "$1/toolchain/lib" "$2" && rm -f "$2/bin/clang" || return
   printf '#!/bin/sh\n[ ! -f module.bc ] || cp module.bc "%s"\nexec "%s" "$@"\n' "$3" "$1/toolchain/bin/clang" >"$2/bin/clang"
@@ -126,8 +135,9 @@ copy_toolchain() {
 }
 
 # Proves the crate $1 of the repository in this folder by $2 processes, over the crates below as they are built in out/, and makes what
-# those above need of it, or the program, or the static library. These are the words with which `rt ci` calls rattle, but for the number
-# of processes: there it is one.
+# those above need of it, or the program, or the static library. Beside these two it leaves the LLVM module from which they were compiled,
+# out/$1.bc, and what was said of the proof, out/$1.verdict. These are the words with which `rt ci` calls rattle, except the number of
+# processes, which is one there.
 prove_crate() (
   name=$1 jobs=$2
   line=$(grep "^$name[ :]" crates.txt)
@@ -141,11 +151,13 @@ prove_crate() (
   for folder in "$PWD"/crates/*/out/rlib; do words+=(-L "dependency=$folder"); done
   words+=(--antt-project "$kit/rattle/logic/antt-project.json" --logic-built "$kit/logic_built" --links "$name=" --jobs "$jobs")
   cd "crates/$name" && mkdir -p out/rlib || exit
+  linked=("${words[@]}" --list-axioms --toolchain "$PWD/out/toolchain")
   if [ -f src/main.rt ]; then
-    "$kit/bin/rattle" build src/main.rt "${words[@]}" --toolchain "$kit/toolchain" -o "out/$name.o" && link_program "$kit" "out/$name"
+    copy_toolchain "$kit" "$PWD/out/toolchain" "$PWD/out/$name.bc" &&
+      "$kit/bin/rattle" build src/main.rt "${linked[@]}" -o "out/$name.o" | tee "out/$name.verdict" && link_program "$kit" "out/$name"
   elif [[ $line = *" staticlib:"* ]]; then
     copy_toolchain "$kit" "$PWD/out/toolchain" "$PWD/out/$name.bc" &&
-      "$kit/bin/rattle" build src/lib.rt "${words[@]}" --toolchain "$PWD/out/toolchain" --crate-type staticlib -o "out/lib$name.a"
+      "$kit/bin/rattle" build src/lib.rt "${linked[@]}" --crate-type staticlib -o "out/lib$name.a" | tee "out/$name.verdict"
   else
     "$kit/bin/rattle" build src/lib.rt "${words[@]}" --statements -o "out/rlib/$name.rlib"
   fi && echo "rt: $name proved"

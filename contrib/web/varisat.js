@@ -1,5 +1,5 @@
 // The solver in a web page: the module's calls, a worker that makes them, and the page. Nothing here is proved; the calls are those of
-// crates/varisat_c, which are. The build puts this text and the module into one page, and a worker is made of the same text.
+// crates/varisat_c, which are. The build puts this text, examples.js and the module into one page, and a worker is made of the same text.
 'use strict';
 
 const SATISFIABLE = 10, UNSATISFIABLE = 20, INTERRUPTED = 1;
@@ -39,6 +39,30 @@ class Calls {
     });
   }
 
+  // Does something with a copy of these numbers of 32 bits.
+  overNumbers(numbers, use) {
+    return this.over(new Uint8Array(Int32Array.from(numbers).buffer), use);
+  }
+
+  // The list that the last call of a solver or a simplifier made.
+  copied(prefix, handle) {
+    const count = Number(this.exports[prefix + 'list_len'](handle));
+    return this.within(4 * count, (at) => {
+      this.exports[prefix + 'list_copy'](handle, BigInt(at), BigInt(count));
+      return new Int32Array(this.exports.memory.buffer, at, count).slice();
+    });
+  }
+
+  // A handle of 16 bytes, opened. null where there is no memory.
+  opened(prefix) {
+    const handle = this.exports.web_new(16n);
+    if (handle === 0n) return null;
+    this.bytes(Number(handle), 16).fill(0);
+    if (this.exports[prefix + 'open'](handle) & 1) return handle;
+    this.exports.web_free(handle);
+    return null;
+  }
+
   // Checks a proof against a text: 20 where it refutes the text's clauses, 0 where all its lines are right, else what is wrong and where.
   check(text, proof, format = 0) {
     return this.within(16, (place) => this.over(text, (t) => this.over(proof, (p) => {
@@ -50,17 +74,12 @@ class Calls {
 
 // A solver, which writes a DRAT proof if it is to. A call that is refused throws why.
 class Solver {
-  constructor(calls, proves = true) {
+  constructor(calls, proves = true, for_file = true) {
     this.calls = calls;
-    this.handle = calls.exports.web_new(16n);
-    if (this.handle === 0n) throw new Error(REASONS[3]);
-    calls.bytes(Number(this.handle), 16).fill(0);
-    if (!(this.call('open') & 1)) {
-      calls.exports.web_free(this.handle);
-      throw new Error(REASONS[3]);
-    }
-    // As the program searches: a page decides one formula.
-    for (const [setting, value] of [[2, 2000n], [4, 1n], [5, 110n]]) this.must(this.call('config', setting, value));
+    this.handle = calls.opened('caller_');
+    if (this.handle === null) throw new Error(REASONS[3]);
+    // As the program searches a file: a page decides one formula. A session has the settings of a new solver.
+    if (for_file) for (const [setting, value] of [[2, 2000n], [4, 1n], [5, 110n]]) this.must(this.call('config', setting, value));
     if (proves) this.must(this.call('open_proof', 0));
   }
 
@@ -99,20 +118,19 @@ class Solver {
     return number;
   }
 
-  // Assumes the literals of these numbers from now on.
+  // Makes a call that takes a list: `assume`, whose literals hold from now on, or `add_clause`. Returns its number.
+  give(name, numbers) {
+    return this.calls.overNumbers(numbers, (at) => this.call(name, BigInt(at), BigInt(numbers.length))) & 255;
+  }
+
   assume(numbers) {
-    const bytes = new Uint8Array(Int32Array.from(numbers).buffer);
-    this.must(this.calls.over(bytes, (at) => this.call('assume', BigInt(at), BigInt(numbers.length))));
+    this.must(this.give('assume', numbers));
   }
 
   // The list that a call returns: `model`, or `core`, those of the assumptions that fail together.
   list(name) {
     this.must(this.call(name));
-    const count = Number(this.call('list_len'));
-    return this.calls.within(4 * count, (at) => {
-      this.call('list_copy', BigInt(at), BigInt(count));
-      return new Int32Array(this.calls.exports.memory.buffer, at, count).slice();
-    });
+    return this.calls.copied('caller_', this.handle);
   }
 
   // What was written of the proof since it was last taken.
@@ -137,18 +155,55 @@ class Solver {
   }
 }
 
-// Which clauses of a text have no true literal in a model: none, if all is well. It reads the text by itself.
-function unsatisfied(text, model) {
-  const bad = [], true_ones = new Uint8Array(2 * model.reduce((most, l) => Math.max(most, Math.abs(l)), 0) + 2);
-  for (const l of model) true_ones[2 * Math.abs(l) + (l < 0)] = 1;
-  let clause = 0, is_true = false, is_negative = false, number = -1;
+// Makes a formula smaller before it is searched. It writes no proof.
+class Simplifier {
+  constructor(calls) {
+    this.calls = calls;
+    this.handle = calls.opened('simplifier_');
+    if (this.handle === null) throw new Error(REASONS[3]);
+  }
+
+  call(name, ...words) {
+    return this.calls.exports['simplifier_' + name](this.handle, ...words);
+  }
+
+  must(number) {
+    if (number & 255) throw new Error(REASONS[number & 255] || `refused (${number & 255})`);
+  }
+
+  add(numbers) {
+    this.must(this.calls.overNumbers(numbers, (at) => this.call('add_clause', BigInt(at), BigInt(numbers.length))));
+  }
+
+  // Simplifies, but for the variables of these literals, which keep their meaning. Returns the clauses that are left, each ended by 0.
+  simplify(frozen) {
+    for (const literal of frozen) this.must(this.call('freeze', Math.abs(literal)));
+    this.must(this.call('simplify'));
+    this.must(this.call('clauses'));
+    return this.calls.copied('simplifier_', this.handle);
+  }
+
+  // A model of the clauses given, from a model of those left.
+  extend(model) {
+    this.must(this.calls.overNumbers(model, (at) => this.call('extend', BigInt(at), BigInt(model.length))));
+    return this.calls.copied('simplifier_', this.handle);
+  }
+
+  close() {
+    this.call('close');
+    this.calls.exports.web_free(this.handle);
+  }
+}
+
+// Calls `use` with each clause of a text that was read without a fault. This reader is no part of what is proved.
+function eachClause(text, use) {
+  let clause = [], is_negative = false, number = -1;
   const end = () => {
     if (number === 0) {
-      if (!is_true) bad.push(clause);
-      clause++;
-      is_true = false;
-    } else if (number > 0 && true_ones[2 * number + is_negative]) {
-      is_true = true;
+      use(clause);
+      clause = [];
+    } else if (number > 0) {
+      clause.push(is_negative ? -number : number);
     }
     number = -1;
     is_negative = false;
@@ -165,6 +220,16 @@ function unsatisfied(text, model) {
     }
   }
   end();
+}
+
+// Which clauses of a text have no true literal in a model: none, if all is well.
+function unsatisfied(text, model) {
+  const bad = [], held = new Set(model);
+  let place = 0;
+  eachClause(text, (clause) => {
+    if (!clause.some((l) => held.has(l))) bad.push(place);
+    place++;
+  });
   return bad;
 }
 
@@ -178,36 +243,96 @@ function joined(parts) {
   return all;
 }
 
-// Decides a text, under assumptions if there are any: then there is no proof. Between rounds of about 50 ms `report` is given how far it
-// is, and tells whether to go on.
-async function decide(calls, text, report, assumed = []) {
-  const proves = assumed.length === 0, solver = new Solver(calls, proves), parts = [], start = performance.now();
+// Searches in rounds of about 50 ms, between which `report` says whether to go on: 10, 20, or 0 if it was stopped.
+async function searched(solver, report, take = () => {}) {
+  for (let steps = 200; ;) {
+    const begun = performance.now(), answer = solver.solve(steps), took = performance.now() - begun;
+    take();
+    if (answer !== 0) return answer;
+    steps = Math.max(50, Math.min(1e6, Math.round((steps * 50) / Math.max(took, 1))));
+    if (!(await report(solver))) return 0;
+  }
+}
+
+// Decides a text, under assumptions if there are any. Without assumptions it writes a proof if it is to; else it simplifies first. Between
+// rounds `report` is given how far it is, and says whether to go on.
+async function decide(calls, text, report, assumed = [], asks_proof = true) {
+  const proves = asks_proof && assumed.length === 0, parts = [], start = performance.now();
+  let solver = new Solver(calls, proves), simplifier = null;
   const now = () => ({ ...solver.statistics(), memory: calls.exports.memory.buffer.byteLength, ms: performance.now() - start });
   try {
     const count = solver.feed(text);
     const read = performance.now() - start;
-    if (!proves) solver.assume(assumed);
-    let answer = 0, steps = 200;
-    for (;;) {
-      const begun = performance.now();
-      answer = solver.solve(steps);
-      const took = performance.now() - begun;
-      if (proves) parts.push(solver.taken());
-      if (answer !== 0) break;
-      steps = Math.max(50, Math.min(1e6, Math.round((steps * 50) / Math.max(took, 1))));
-      if (!(await report(now()))) return { answer: 0, count, read, statistics: now() };
+    if (!proves) {
+      // The text has no fault, which the library's reader found: its clauses are given once more, to be simplified.
+      simplifier = new Simplifier(calls);
+      eachClause(text, (clause) => simplifier.add(clause));
+      const left = simplifier.simplify(assumed);
+      solver.close();
+      solver = null;
+      solver = new Solver(calls, false);
+      for (let from = 0; from < left.length;) {
+        const to = left.indexOf(0, from);
+        solver.must(solver.give('add_clause', left.subarray(from, to)));
+        from = to + 1;
+      }
+      solver.assume(assumed);
     }
+    const answer = await searched(solver, () => report(now()), () => { if (proves) parts.push(solver.taken()); });
+    const found = { answer, count, read, statistics: now() };
     if (answer === SATISFIABLE) {
-      const model = solver.list('model'), held = new Set(model);
-      const bad = unsatisfied(text, model).length + assumed.filter((l) => !held.has(l)).length;
-      return { answer, count, read, model, statistics: now(), bad };
+      let model = solver.list('model');
+      if (simplifier) {
+        // An assumption may name a variable that the formula does not.
+        const extended = simplifier.extend(model), known = new Set(extended.map(Math.abs));
+        model = Int32Array.from([...extended, ...model.filter((l) => !known.has(Math.abs(l)))]);
+      }
+      const held = new Set(model), bad = unsatisfied(text, model).length + assumed.filter((l) => !held.has(l)).length;
+      return { ...found, model, bad };
     }
-    if (!proves) return { answer, count, read, core: solver.list('core'), statistics: now() };
-    solver.must(solver.call('close_proof'));
-    parts.push(solver.taken());
-    return { answer, count, read, proof: joined(parts), statistics: now() };
+    if (answer === UNSATISFIABLE && assumed.length) return { ...found, core: solver.list('core') };
+    if (answer === UNSATISFIABLE && proves) {
+      solver.must(solver.call('close_proof'));
+      parts.push(solver.taken());
+      return { ...found, proof: joined(parts) };
+    }
+    return found;
   } finally {
-    solver.close();
+    solver?.close();
+    simplifier?.close();
+  }
+}
+
+// A solver that is called line by line, as by `varisat session`. It knows some of that command's calls.
+class Session {
+  constructor(calls) {
+    this.solver = new Solver(calls, false, false);
+  }
+
+  // The answer to a line; `report` says whether a search is to go on.
+  async answer(line, report) {
+    const [word, ...rest] = line.trim().split(/\s+/), numbers = rest.map(Number);
+    const are_literals = rest.every((it) => /^-?[1-9][0-9]*$/.test(it)) && numbers.every((it) => Math.abs(it) < 2 ** 31);
+    const takes = { add: 'add_clause', assume: 'assume' }, tells = { model: 'model', core: 'core' };
+    try {
+      if (word in takes && are_literals) {
+        this.solver.must(this.solver.give(takes[word], numbers));
+        return 'ok';
+      }
+      if (rest.length) return 'bad line';
+      if (word in tells) return ['ok', ...this.solver.list(tells[word]), 0].join(' ');
+      if (word === 'steps') return `ok ${Number(this.solver.call('steps'))}`;
+      if (word !== 'solve') return 'bad line';
+      const answer = await searched(this.solver, report);
+      return answer === 0 ? 'stopped' : `ok ${answer === SATISFIABLE}`;
+    } catch (error) {
+      if (error instanceof WebAssembly.RuntimeError) throw error;
+      return `err: ${error.message}`;
+    }
+  }
+
+  close() {
+    this.solver.close();
   }
 }
 
@@ -235,12 +360,26 @@ function work() {
           }
           await pause();
           return goes;
-        }, data.assumed);
+        }, data.assumed, data.proves);
         postMessage({ result });
         if (result.proof) check(data.solve, result.proof);
       }
+      if (data.lines) {
+        goes = true;
+        const session = new Session(calls), answers = [];
+        const report = async () => {
+          await pause();
+          return goes;
+        };
+        try {
+          for (const line of data.lines) if (line.trim()) answers.push(await session.answer(line, report));
+        } finally {
+          session.close();
+        }
+        postMessage({ answers });
+      }
     } catch (error) {
-      // Behind a trap nobody knows what stands in the memory.
+      // After a trap nobody knows what is in the memory.
       postMessage({ error: String(error.message || error), dead: error instanceof WebAssembly.RuntimeError });
     }
   };
@@ -248,84 +387,32 @@ function work() {
 
 // The page.
 
-// Clauses that put so many pigeons into one hole less.
-function pigeons(count) {
-  const at = (pigeon, hole) => pigeon * (count - 1) + hole + 1;
-  const clauses = [];
-  for (let p = 0; p < count; p++) clauses.push(Array.from({ length: count - 1 }, (_, h) => at(p, h)));
-  for (let h = 0; h < count - 1; h++) for (let p = 0; p < count; p++) for (let q = 0; q < p; q++) clauses.push([-at(q, h), -at(p, h)]);
-  return written([`${count} pigeons into ${count - 1} holes, each in one, no two in the same.`], count * (count - 1), clauses);
+const MOST_SHOWN = 2000, MOST_TEXT = 1 << 20, MOST_LINK = 8000;
+
+// A formula in the part of a link that goes to no server: its bytes, compressed, as letters.
+async function packed(text) {
+  const stream = new Blob([text]).stream().pipeThrough(new CompressionStream('deflate-raw'));
+  const bytes = new Uint8Array(await new Response(stream).arrayBuffer());
+  return btoa(String.fromCharCode(...bytes)).replaceAll('+', '-').replaceAll('/', '_').replace(/=+$/, '');
 }
 
-// Clauses of three literals each, of which no two runs give others.
-function random(variables, count, seed) {
-  let state = seed;
-  const below = (n) => {
-    state = (Math.imul(state, 1664525) + 1013904223) >>> 0;
-    return Math.floor((state / 2 ** 32) * n);
-  };
-  const clauses = [];
-  while (clauses.length < count) {
-    const three = new Set();
-    while (three.size < 3) three.add(below(variables) + 1);
-    clauses.push([...three].map((v) => (below(2) ? v : -v)));
-  }
-  return written([`${count} random clauses of three literals over ${variables} variables.`], variables, clauses);
+async function unpacked(letters) {
+  const bytes = Uint8Array.from(atob(letters.replaceAll('-', '+').replaceAll('_', '/')), (it) => it.charCodeAt(0));
+  return new Response(new Blob([bytes]).stream().pipeThrough(new DecompressionStream('deflate-raw'))).text();
 }
 
-// Each vertex of a wheel of so many spokes has one of three colours, neighbours others.
-function wheel(spokes) {
-  const colours = ['red', 'green', 'blue'], at = (v, c) => 3 * v + c + 1, names = [], clauses = [];
-  for (let v = 0; v <= spokes; v++) {
-    colours.forEach((colour, c) => names.push(`${at(v, c)} = ${v ? 'spoke ' + v : 'the hub'} is ${colour}`));
-    clauses.push([0, 1, 2].map((c) => at(v, c)));
-    for (const [c, d] of [[0, 1], [0, 2], [1, 2]]) clauses.push([-at(v, c), -at(v, d)]);
-  }
-  for (let v = 1; v <= spokes; v++) for (const w of [0, (v % spokes) + 1]) for (let c = 0; c < 3; c++) clauses.push([-at(v, c), -at(w, c)]);
-  return written([`A wheel of ${spokes} spokes, coloured by three colours.`, ...names], 3 * (spokes + 1), clauses);
+function made(kind, text, name = '') {
+  const it = document.createElement(kind);
+  it.textContent = text;
+  it.className = name;
+  return it;
 }
-
-function written(comments, count, clauses) {
-  return [...comments.map((it) => 'c ' + it), `p cnf ${count} ${clauses.length}`, ...clauses.map((it) => [...it, 0].join(' '))].join('\n') + '\n';
-}
-
-const DINNER = `c A dinner with three guests: Ann comes (1), Ben comes (2), Cleo comes (3).
-c Someone comes. Ann comes only with Ben. Ben and Cleo are not both there.
-c Cleo comes if Ann does not.
-p cnf 3 4
-1 2 3 0
--1 2 0
--2 -3 0
-1 3 0
-`;
-
-const EXAMPLES = {
-  dinner: ['A dinner with three guests', () => DINNER],
-  wheel: ['A wheel in three colours', () => wheel(8)],
-  pigeons: ['Seven pigeons, six holes', () => pigeons(7)],
-  random: ['Random, 200 variables', () => random(200, 852, 1)],
-  hard: ['Twelve pigeons, eleven holes: to be stopped', () => pigeons(12)],
-};
-
-// What the comments say of variables: lines `c 5 = name` or `c 5 name`, and in a sentence `name (5)`.
-function names(text) {
-  const found = new Map();
-  for (const line of text.split('\n')) {
-    if (!line.startsWith('c ')) continue;
-    const whole = /^c\s+(\d+)\s*(?:=|:)?\s+(\S.*)$/.exec(line);
-    if (whole) found.set(Number(whole[1]), whole[2].trim());
-    else for (const [, name, number] of line.slice(2).matchAll(/([^,;:()]*?)\s*\((\d+)\)/g)) if (name.trim()) found.set(Number(number), name.trim());
-  }
-  return found;
-}
-
-const MOST_SHOWN = 2000, MOST_TEXT = 1 << 20;
 
 function show() {
   const part = (name) => document.getElementById(name);
   const source = part('code').textContent;
   const bytes = Uint8Array.from(atob(part('binary').textContent.trim()), (it) => it.charCodeAt(0));
-  let compiled = null, worker = null, solved = '', waits = 0, held = null;
+  let compiled = null, worker = null, solved = '', solvedExample = null, waits = 0, held = null, saved = null;
 
   // A long file is kept beside the text that can be edited.
   const given = () => held ?? new TextEncoder().encode(part('text').value);
@@ -335,14 +422,25 @@ function show() {
     part('text').value = is_long ? `c ${name}: ${(bytes.length / 2 ** 20).toFixed(1)} MB, not shown\n` : new TextDecoder().decode(bytes);
     part('text').readOnly = is_long;
   };
+  // The example whose text is unchanged, or null.
+  const example = () => {
+    const it = EXAMPLES[part('example').value];
+    return it && held === null && part('text').value === it.text() ? it : null;
+  };
 
-  // A new worker, since one is ended where it does not answer.
+  // A new worker, since one that does not answer is ended.
   const begin = async () => {
     compiled ??= await WebAssembly.compile(bytes);
-    worker = new Worker(URL.createObjectURL(new Blob([source], { type: 'text/javascript' })));
+    const place = URL.createObjectURL(new Blob([source], { type: 'text/javascript' }));
+    worker = new Worker(place);
+    URL.revokeObjectURL(place);
     worker.onmessage = ({ data }) => take(data);
     worker.onerror = (event) => take({ error: event.message, dead: true });
     worker.postMessage({ module: compiled });
+  };
+  const ask = async (what) => {
+    if (!worker) await begin();
+    worker.postMessage(what);
   };
   const end = () => {
     worker?.terminate();
@@ -350,7 +448,7 @@ function show() {
   };
   const goes = (is) => {
     clearTimeout(waits);
-    part('solve').disabled = part('check').disabled = is;
+    for (const it of ['solve', 'check', 'run']) part(it).disabled = is;
     part('stop').disabled = !is;
     document.body.dataset.state = is ? 'running' : 'done';
   };
@@ -363,44 +461,61 @@ function show() {
     const rows = { ...now, memory: `${(now.memory / 2 ** 20).toFixed(1)} MB`, time: `${(now.ms / 1000).toFixed(2)} s` };
     delete rows.ms;
     part('statistics').replaceChildren(...Object.entries(rows).map(([name, value]) => {
-      const row = document.createElement('tr');
-      for (const it of [name, typeof value === 'number' ? value.toLocaleString('en') : value]) row.appendChild(document.createElement('td')).textContent = it;
+      const row = document.createElement('tr'), head = made('th', name);
+      head.scope = 'row';
+      row.append(head, made('td', typeof value === 'number' ? value.toLocaleString('en') : value));
       return row;
     }));
     part('counted').hidden = false;
   };
 
-  const showModel = (model, bad) => {
-    const known = names(solved);
-    const literals = [...model].filter((l) => !known.size || known.has(Math.abs(l)));
-    part('model').replaceChildren(...literals.slice(0, MOST_SHOWN).map((l) => {
-      const it = document.createElement('span'), name = known.get(Math.abs(l));
-      it.className = l > 0 ? 'yes' : 'no';
-      it.textContent = name ? `${name}: ${l > 0 ? 'yes' : 'no'}` : String(l);
-      return it;
+  // A model in the form of its example: a table whose first cells are heads, or a square of digits.
+  const table = ({ caption, rows, is_square }) => {
+    const it = made('table', '', is_square ? 'square' : 'rows'), body = document.createElement('tbody');
+    body.append(...rows.map((cells) => {
+      const row = document.createElement('tr');
+      row.append(...cells.map((cell, i) => {
+        if (is_square) return typeof cell === 'object' ? made('td', cell.given, 'given') : made('td', cell);
+        const found = made(i ? 'td' : 'th', cell);
+        if (!i) found.scope = 'row';
+        return found;
+      }));
+      return row;
     }));
+    it.append(made('caption', caption), body);
+    return it;
+  };
+  const literals = (found, known) => found.map((l) => {
+    const name = known.get(Math.abs(l));
+    return made('li', name ? `${name}: ${l > 0 ? 'yes' : 'no'}` : String(l), l > 0 ? 'yes' : 'no');
+  });
+  const showModel = (model, bad) => {
+    const known = names(solved), found = [...model].filter((l) => !known.size || known.has(Math.abs(l))), holds = new Set(model);
+    part('picture').replaceChildren(...(solvedExample?.rows ? [table(solvedExample.rows((l) => holds.has(l)))] : []));
+    part('model').replaceChildren(...literals(found.slice(0, MOST_SHOWN), known));
+    part('all').open = !solvedExample?.rows;
     part('kind').textContent = 'Model';
     part('sure').textContent = (bad ? `${bad} clauses are not satisfied: this is a fault.` : 'Looked through again: each clause holds a true literal.')
-      + (literals.length > MOST_SHOWN ? ` The first ${MOST_SHOWN} of ${literals.length} variables:` : '');
+      + (found.length > MOST_SHOWN ? ` The first ${MOST_SHOWN} of ${found.length} variables:` : '');
     part('found').hidden = false;
   };
   const showCore = (core) => {
-    const known = names(solved);
     tell('Unsatisfiable under the assumptions', 'no');
+    part('picture').replaceChildren();
     part('kind').textContent = 'Core';
     part('sure').textContent = core.length ? 'These of them fail together with the clauses:' : 'The clauses fail without them.';
-    part('model').replaceChildren(...[...core].map((l) => {
-      const it = document.createElement('span'), name = known.get(Math.abs(l));
-      it.textContent = name ? `${name}: ${l > 0 ? 'yes' : 'no'}` : String(l);
-      return it;
-    }));
+    part('model').replaceChildren(...literals([...core], names(solved)));
+    part('all').open = true;
     part('found').hidden = false;
   };
   const showProof = (proof) => {
-    part('proof').value = proof.length > MOST_TEXT ? '' : new TextDecoder().decode(proof);
-    part('check').hidden = proof.length > MOST_TEXT;
-    part('proof').placeholder = proof.length > MOST_TEXT ? `${(proof.length / 2 ** 20).toFixed(1)} MB: too long to be shown. Save it.` : '';
-    part('save').href = URL.createObjectURL(new Blob([proof]));
+    const is_long = proof.length > MOST_TEXT;
+    part('proof').value = is_long ? '' : new TextDecoder().decode(proof);
+    part('check').hidden = is_long;
+    part('proof').placeholder = is_long ? `${(proof.length / 2 ** 20).toFixed(1)} MB: too long to be shown. Save it.` : '';
+    if (saved) URL.revokeObjectURL(saved);
+    saved = URL.createObjectURL(new Blob([proof]));
+    part('save').href = saved;
     part('checked').textContent = 'The proof is being checked ...';
     part('refuted').hidden = false;
   };
@@ -425,10 +540,12 @@ function show() {
         showModel(model, bad);
       } else if (core) {
         showCore(core);
-      } else if (answer === UNSATISFIABLE) {
+      } else if (proof) {
         tell('Unsatisfiable', 'no');
         showProof(proof);
         return;
+      } else if (answer === UNSATISFIABLE) {
+        tell('Unsatisfiable; no proof was asked for', 'no');
       } else {
         tell('Stopped');
       }
@@ -436,6 +553,11 @@ function show() {
     }
     if (data.checked) {
       showCheck(data.checked, data.ms);
+      goes(false);
+    }
+    if (data.answers) {
+      part('answers').textContent = data.answers.join('\n');
+      status('');
       goes(false);
     }
     if (data.error) {
@@ -447,8 +569,10 @@ function show() {
   };
 
   const solve = async () => {
+    if (part('solve').disabled) return;
     const bytes = given();
     solved = new TextDecoder().decode(bytes.subarray(0, MOST_TEXT));
+    solvedExample = example();
     const assumed = part('assumed').value.split(/[\s,]+/).filter((it) => it !== '').map(Number);
     if (!assumed.every((l) => Number.isInteger(l) && l !== 0 && Math.abs(l) < 2 ** 31)) {
       tell('An assumption is no literal: a number, or its opposite', 'no');
@@ -459,13 +583,12 @@ function show() {
     tell('');
     status('reading');
     goes(true);
-    if (!worker) await begin();
-    worker.postMessage({ solve: bytes, assumed });
+    await ask({ solve: bytes, assumed, proves: part('proves').checked });
   };
-  part('solve').onclick = solve;
-  part('stop').onclick = () => {
+  const stop = () => {
+    if (part('stop').disabled) return;
     worker?.postMessage({ stop: true });
-    // A text that is being read, or a proof that is being checked, does not answer.
+    // A text that is being read or simplified, or a proof that is being checked, does not answer.
     clearTimeout(waits);
     waits = setTimeout(() => {
       end();
@@ -475,27 +598,76 @@ function show() {
       goes(false);
     }, 1000);
   };
+  part('solve').onclick = solve;
+  part('stop').onclick = stop;
   part('check').onclick = async () => {
     part('checked').textContent = 'The proof is being checked ...';
     goes(true);
-    if (!worker) await begin();
-    worker.postMessage({ check: given(), proof: new TextEncoder().encode(part('proof').value) });
+    await ask({ check: given(), proof: new TextEncoder().encode(part('proof').value) });
   };
-  part('file').onchange = async ({ target: { files: [file] } }) => { if (file) hold(new Uint8Array(await file.arrayBuffer()), file.name); };
-  for (const [name, [title]] of Object.entries(EXAMPLES)) part('example').add(new Option(title, name));
+  part('run').onclick = async () => {
+    part('answers').textContent = '';
+    tell('');
+    status('answering');
+    goes(true);
+    await ask({ lines: part('lines').value.split('\n') });
+  };
+  part('link').onclick = async () => {
+    const letters = held === null ? await packed(part('text').value) : null;
+    if (letters === null || letters.length > MOST_LINK) {
+      part('linked').textContent = 'The formula is too long for a link.';
+      return;
+    }
+    // The address of this page itself, so that it can be copied where nothing may write to the clipboard.
+    history.replaceState(null, '', `#formula=${letters}`);
+    const is_copied = await navigator.clipboard?.writeText(location.href).then(() => true, () => false);
+    part('linked').textContent = is_copied ? 'Copied; it is the address of this page now.' : 'It is the address of this page now.';
+  };
+  document.addEventListener('keydown', (event) => {
+    if (event.key === 'Enter' && (event.ctrlKey || event.metaKey)) {
+      event.preventDefault();
+      if (document.activeElement === part('lines')) part('run').click();
+      else solve();
+    } else if (event.key === 'Escape') {
+      stop();
+    }
+  });
+  part('file').onchange = async ({ target: { files: [file] } }) => {
+    if (!file) return;
+    hold(new Uint8Array(await file.arrayBuffer()), file.name);
+    part('example').value = '';
+    part('about').textContent = '';
+  };
+  part('example').add(new Option('your own', ''));
+  for (const [name, { title }] of Object.entries(EXAMPLES)) part('example').add(new Option(title, name));
   part('example').onchange = () => {
-    hold(new TextEncoder().encode(EXAMPLES[part('example').value][1]()), part('example').value);
+    const it = EXAMPLES[part('example').value];
+    part('about').textContent = it?.about ?? 'A text in DIMACS CNF: each number is a variable, a minus negates it, and each clause ends with 0. A line “c 5 = name” gives a variable a name.';
+    hold(new TextEncoder().encode(it?.text() ?? ''), 'text');
     part('assumed').value = '';
+    part('linked').textContent = '';
   };
-  const words = new URLSearchParams(location.search), wanted = words.get('example');
-  part('example').value = wanted in EXAMPLES ? wanted : 'dinner';
-  part('example').onchange();
-  document.body.dataset.state = 'ready';
-  if (words.has('solve')) solve();
+
+  const start = async () => {
+    const words = new URLSearchParams(location.search), wanted = words.get('example'), letters = /^#formula=([\w-]+)$/.exec(location.hash);
+    part('example').value = letters ? '' : wanted in EXAMPLES ? wanted : 'dinner';
+    part('example').onchange();
+    if (letters) {
+      try {
+        part('text').value = await unpacked(letters[1]);
+      } catch {
+        tell('The formula of this link cannot be read', 'no');
+      }
+    }
+    document.body.dataset.state = 'ready';
+    if (words.has('solve')) solve();
+  };
+  addEventListener('hashchange', start);
+  start();
 }
 
 if (typeof module === 'object') {
-  module.exports = { Calls, Solver, decide, unsatisfied, names, EXAMPLES };
+  module.exports = { Calls, Solver, Session, decide, unsatisfied };
 } else if (typeof document === 'undefined') {
   work();
 } else {

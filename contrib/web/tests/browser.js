@@ -8,9 +8,10 @@ const assert = require('assert');
 
 const page = path.resolve(process.argv[2]), folder = process.argv[3];
 const home = fs.mkdtempSync(path.join(os.tmpdir(), 'varisat-web-'));
-const chromium = spawn(process.env.CHROMIUM || 'chromium', ['--headless=new', '--no-sandbox', '--disable-gpu', '--disable-dev-shm-usage', '--hide-scrollbars',
-  '--no-first-run', '--disable-background-networking', '--disable-component-update', '--proxy-server=127.0.0.1:9', `--user-data-dir=${home}`, '--window-size=1000,1250', '--remote-debugging-pipe', 'about:blank'],
-{ stdio: ['ignore', 'ignore', 'ignore', 'pipe', 'pipe'] });
+const chromium = spawn(process.env.CHROMIUM || 'chromium', [
+  '--headless=new', '--no-sandbox', '--disable-gpu', '--disable-dev-shm-usage', '--hide-scrollbars', '--no-first-run', '--disable-background-networking',
+  '--disable-component-update', '--proxy-server=127.0.0.1:9', `--user-data-dir=${home}`, '--window-size=1000,1250', '--remote-debugging-pipe', 'about:blank',
+], { stdio: ['ignore', 'ignore', 'ignore', 'pipe', 'pipe'] });
 
 const waiting = new Map(), complaints = [];
 let last = 0, left = '';
@@ -48,7 +49,12 @@ const until = async (text, seconds = 60) => {
 };
 // A click where the part stands, as by a mouse.
 const click = async (name) => {
-  const { x, y } = await read(`(() => { const it = document.getElementById('${name}'); it.scrollIntoView({ block: 'center' }); const at = it.getBoundingClientRect(); return { x: at.x + at.width / 2, y: at.y + at.height / 2 } })()`);
+  const { x, y } = await read(`(() => {
+    const it = document.getElementById('${name}');
+    it.scrollIntoView({ block: 'center' });
+    const at = it.getBoundingClientRect();
+    return { x: at.x + at.width / 2, y: at.y + at.height / 2 };
+  })()`);
   for (const type of ['mousePressed', 'mouseReleased']) await call('Input.dispatchMouseEvent', { type, x, y, button: 'left', clickCount: 1 });
 };
 const choose = (name) => read(`(() => { const it = document.getElementById('example'); it.value = '${name}'; it.dispatchEvent(new Event('change')) })()`);
@@ -75,7 +81,7 @@ async function main() {
 
   await solved();
   assert.equal(await text('verdict'), 'Satisfiable');
-  const guests = await read(`[...document.querySelectorAll('#model span')].map((it) => it.textContent).join(', ')`);
+  const guests = await read(`[...document.querySelectorAll('#model li')].map((it) => it.textContent).join(', ')`);
   console.log('dinner:', guests);
   assert.match(guests, /^Ann comes: (yes|no), Ben comes: (yes|no), Cleo comes: (yes|no)$/);
   assert.match(await text('sure'), /each clause holds/);
@@ -115,9 +121,87 @@ async function main() {
   console.log('a fault:', await text('verdict'));
   assert.notEqual(await text('verdict'), '');
 
-  await choose('wheel');
+  // Examples in their own form, and without a proof.
+  await choose('timetable');
   await solved();
-  assert.match(await read(`document.getElementById('model').textContent`), /the hub is red: (yes|no)/);
+  assert.match(await text('picture'), /The timetable\s+9:00\s[^]*12:00\s+Music \(Dora\)/);
+  assert.match(await text('about'), /seven courses/i);
+  await picture('timetable.png');
+  await choose('sudoku');
+  await solved();
+  assert.match((await text('picture')).replace(/\s/g, ''), /534678912672195348198342567859761423426853791713924856961537284287419635345286179/);
+  await picture('sudoku.png');
+  await choose('fault');
+  await solved();
+  assert.match(await text('picture'), /the sum of the second circuit/);
+  await choose('circuit');
+  await click('proves');
+  await solved();
+  assert.equal(await text('verdict'), 'Unsatisfiable; no proof was asked for');
+  assert.equal(await read(`document.getElementById('refuted').hidden`), true);
+  await click('proves');
+
+  // By the keyboard alone: from the top, each control gets the focus in turn, all are named, Control and Enter solve, Escape stops.
+  const press = async (key, modifiers = 0) => {
+    const code = { Tab: 9, Enter: 13, Escape: 27 }[key];
+    for (const type of ['rawKeyDown', 'keyUp']) await call('Input.dispatchKeyEvent', { type, key, code: key, modifiers, windowsVirtualKeyCode: code });
+  };
+  await call('Page.navigate', { url: 'file://' + page });
+  await until(`document.body && document.body.dataset.state === 'ready'`);
+  const visited = [];
+  for (let i = 0; i < 12; i++) {
+    await press('Tab');
+    visited.push(await read('document.activeElement.id || document.activeElement.tagName'));
+  }
+  for (const it of ['example', 'file', 'text', 'solve', 'assumed', 'proves', 'link', 'SUMMARY']) assert.ok(visited.includes(it), `Tab does not come to ${it}: ${visited}`);
+  await press('Enter', 2);
+  await until(`document.body.dataset.state === 'done'`);
+  assert.equal(await text('verdict'), 'Satisfiable');
+  await choose('hard');
+  await press('Enter', 2);
+  await until(`/searching/.test(document.getElementById('status').textContent)`);
+  await press('Escape');
+  await until(`document.body.dataset.state === 'done'`);
+  assert.equal(await text('verdict'), 'Stopped');
+
+  // What a screen reader is given: each control has a name.
+  await call('Accessibility.enable');
+  const { nodes } = await call('Accessibility.getFullAXTree');
+  const controls = nodes.filter((it) => !it.ignored && ['button', 'textbox', 'combobox', 'checkbox', 'link', 'table'].includes(it.role?.value));
+  assert.ok(controls.length >= 8);
+  const nameless = controls.filter((it) => !it.name?.value && it.role.value !== 'table');
+  assert.deepEqual(nameless.map((it) => it.role.value), []);
+  for (const role of ['banner', 'main', 'contentinfo']) assert.ok(nodes.some((it) => it.role?.value === role), role);
+
+  // Lines of a session.
+  await read(`document.querySelectorAll('details').forEach((it) => { it.open = true; })`);
+  await click('run');
+  await until(`document.body.dataset.state === 'done'`);
+  assert.equal(await text('answers'), 'ok\nok\nok false\nok -2 1 0\nok\nok true\nok 1 2 0');
+
+  // A link carries the formula.
+  await fill('text', 'c 7 = the seventh\np cnf 7 1\n7 0\n');
+  await click('link');
+  await until(`/address/.test(document.getElementById('linked').textContent)`);
+  const link = await read('location.href');
+  assert.match(link, /#formula=[\w-]+$/);
+  await call('Page.navigate', { url: 'about:blank' });
+  await call('Page.navigate', { url: link });
+  await until(`document.body && document.body.dataset.state === 'ready'`);
+  await solved();
+  assert.equal(await text('model'), 'the seventh: yes');
+  await call('Page.navigate', { url: `file://${page}#formula=xx` });
+  await until(`/cannot be read/.test(document.getElementById('verdict')?.textContent)`);
+
+  // On a phone nothing is wider than the screen.
+  await call('Emulation.setDeviceMetricsOverride', { width: 375, height: 700, deviceScaleFactor: 2, mobile: true });
+  await call('Page.navigate', { url: `file://${page}?example=sudoku&solve` });
+  await until(`document.body?.dataset.state === 'done'`);
+  assert.ok(await read('document.documentElement.scrollWidth <= 375'), 'the page is wider than a phone');
+  await picture('phone.png');
+  await call('Emulation.clearDeviceMetricsOverride');
+  await call('Page.navigate', { url: 'file://' + page });
+  await until(`document.body?.dataset.state === 'ready'`);
 
   await choose('random');
   await solved();
@@ -142,7 +226,8 @@ async function main() {
 
   // A long file, which is chosen as by a user.
   const long = path.join(home, 'long.cnf');
-  fs.writeFileSync(long, 'c 3 = the third\np cnf 100000 200000\n' + Array.from({ length: 200000 }, (_, i) => `${(i % 100000) + 1} ${((i * 7) % 100000) + 1} -${((i * 13) % 100000) + 1} 0\n`).join(''));
+  const clauses = Array.from({ length: 200000 }, (_, i) => `${(i % 100000) + 1} ${((i * 7) % 100000) + 1} -${((i * 13) % 100000) + 1} 0\n`);
+  fs.writeFileSync(long, 'c 3 = the third\np cnf 100000 200000\n' + clauses.join(''));
   const { root } = await call('DOM.getDocument'), { nodeId } = await call('DOM.querySelector', { nodeId: root.nodeId, selector: '#file' });
   await call('DOM.setFileInputFiles', { nodeId, files: [long] });
   await until(`/long.cnf/.test(document.getElementById('text').value)`);
@@ -151,7 +236,7 @@ async function main() {
   assert.match(await text('model'), /^the third: (yes|no)$/);
   console.log('a long file:', (await text('statistics')).match(/time\s+(\S+ s)/)[1]);
 
-  // What is begun behind a stop is not stopped.
+  // What is begun after a stop is not stopped.
   await choose('hard');
   await click('solve');
   await pause(1500);

@@ -123,5 +123,6 @@ fn a_fault_of_a_source_is_returned_again(rt: HostRuntime) {
     let mut parser = DimacsParser::new_in(rt.alloc());
     let fault = Some((2, DimacsErrorKind::Io));
     assert!(rt; faults_of(&mut parser) == [fault; 3]);
+    assert!(rt; parser.clause_count() == 1);
     assert!(rt; has_one_clause(&parser.take_formula(), &lits![1]));
 }

@@ -22,6 +22,12 @@ CALLS = 40
 WEIGHTS = {"add": 8, "new": 2, "assume": 5, "solve": 9, "hide": 2, "observe": 2, "witness": 1, "sample": 1, "model": 1, "core": 1}
 # The same in every third script: many variables are fixed, hidden and followed by others.
 RECYCLING = {"add": 9, "new": 4, "assume": 7, "solve": 9, "hide": 5}
+# How many scripts are recorded, and how many calls each has at least.
+RECORDED = 50
+RECORDED_CALLS = 20
+RECORDED_HEAD = """# Answers of the Rust crate varisat 0.2.2, parted by empty lines: a call, ` = ` and its answer. The literals of a core may come in any order.
+# Written by `bench/run oracle --record`: the first random scripts that the crate answers in the words of `varisat session`.
+"""
 # How long clauses are, there and else.
 LENGTHS = [1, 2, 2, 2, 3, 3, 3, 3, 4]
 RECYCLING_LENGTHS = [1, 1, 2, 2, 3]
@@ -31,6 +37,7 @@ def add_arguments(command):
     command.add_argument("--scripts", type=learning.positive, default=SCRIPTS, help=f"random scripts ({SCRIPTS})")
     command.add_argument("--seed", type=int, default=0, help="of the first script; each next one has the next (0)")
     command.add_argument("--program", help="another build of our program, and not ./varisat")
+    command.add_argument("--record", metavar="FILE", help=f"write {RECORDED} scripts that both answer in the same words, as tests/crate_sessions has them")
 
 
 def satisfying(literal):
@@ -60,6 +67,7 @@ class Session:
         self.process = subprocess.Popen(command, stdin=subprocess.PIPE, stdout=subprocess.PIPE, stderr=subprocess.DEVNULL, text=True, bufsize=1)
         self.tally = tally
         self.lines = []
+        self.answers = []
         self.names = {}
         self.hidden = []
         # Names that came back, and which of the hidden variables each may stand for.
@@ -79,6 +87,7 @@ class Session:
         self.lines.append(" ".join(map(str, words)))
         self.process.stdin.write(self.lines[-1] + "\n")
         answer = self.process.stdout.readline().split()
+        self.answers.append(answer)
         if answer[:1] == ["ok"]:
             return answer[1:]
         self.ended = True
@@ -311,6 +320,29 @@ def run_script(seed, commands, tallies):
     finally:
         for session in sessions:
             session.close()
+    return sessions
+
+
+def are_same(call, one, other):
+    """Whether two answers to a call have the same words. The literals of a core come in any order."""
+    return sorted(one) == sorted(other) if call == "core" else one == other
+
+
+def record(arguments, commands):
+    """Writes the first scripts that both answer in the same words: behind each call the crate's answer."""
+    scripts = []
+    for seed in itertools.count(arguments.seed):
+        tallies = [Tally(), Tally()]
+        ours, crate = run_script(seed, commands, tallies)
+        same = ours.lines == crate.lines and all(are_same(*answers) for answers in zip(ours.lines, ours.answers, crate.answers))
+        if same and len(crate.lines) >= RECORDED_CALLS and not any(tally.faults for tally in tallies):
+            scripts.append("".join(f"{call} = {' '.join(answer)}\n" for call, answer in zip(crate.lines, crate.answers)))
+        if len(scripts) == RECORDED:
+            break
+    with open(arguments.record, "w", encoding="utf-8") as file:
+        file.write("\n".join([RECORDED_HEAD, *scripts]))
+    print(f"{RECORDED} of {seed + 1 - arguments.seed} scripts are answered in the same words, and stand in {arguments.record}")
+    return 0
 
 
 def print_tallies(tallies):
@@ -332,6 +364,8 @@ def run(arguments):
     if not arguments.program:
         programs.build_ours()
     commands = [[arguments.program or programs.PROGRAM, "session"], [programs.CRATE_SESSION]]
+    if arguments.record:
+        return record(arguments, commands)
     tallies = [Tally(), Tally()]
     for seed in range(arguments.seed, arguments.seed + arguments.scripts):
         run_script(seed, commands, tallies)

@@ -176,10 +176,10 @@ fn write_text_in<A: Allocator + Copy>(alloc: Global, heap: A) -> Came {
 
 // Where the list of answers is refused the call is not made.
 fn run_calls<A: Allocator + Copy>(solver: &mut Solver<MemoryTarget<A>, A>, heap: A) -> Came {
-    let calls: [Call<MemoryTarget<A>, CutSource<'static>, A>; 1] = [Call::EnableSelfChecking];
-    let Ok(calls) = Vec::from_array(heap, calls) else {
+    let mut calls: Vec<Call<MemoryTarget<A>, CutSource<'static>, A>, A> = Vec::new(heap);
+    if calls.push(Call::EnableSelfChecking).is_err() {
         return Came::Short;
-    };
+    }
     match run(solver, calls) {
         Ok(answers) => whole_if(answers.len() == 1 && solver.checker().is_some()),
         Err(_) => short_if(solver.checker().is_none()),

@@ -154,10 +154,10 @@ prove_crate() (
   linked=("${words[@]}" --list-axioms --toolchain "$PWD/out/toolchain")
   if [ -f src/main.rt ]; then
     copy_toolchain "$kit" "$PWD/out/toolchain" "$PWD/out/$name.bc" &&
-      "$kit/bin/rattle" build src/main.rt "${linked[@]}" -o "out/$name.o" | tee "out/$name.verdict" && link_program "$kit" "out/$name"
+      "$kit/bin/rattle" build src/main.rt "${linked[@]}" -o "out/$name.o" 2>&1 | tee "out/$name.verdict" && link_program "$kit" "out/$name"
   elif [[ $line = *" staticlib:"* ]]; then
     copy_toolchain "$kit" "$PWD/out/toolchain" "$PWD/out/$name.bc" &&
-      "$kit/bin/rattle" build src/lib.rt "${linked[@]}" --crate-type staticlib -o "out/lib$name.a" | tee "out/$name.verdict"
+      "$kit/bin/rattle" build src/lib.rt "${linked[@]}" --crate-type staticlib -o "out/lib$name.a" 2>&1 | tee "out/$name.verdict"
   else
     "$kit/bin/rattle" build src/lib.rt "${words[@]}" --statements -o "out/rlib/$name.rlib"
   fi && echo "rt: $name proved"

@@ -7,3 +7,4 @@ pub mod FlowLemmas
 pub mod LeadingLemmas
 pub mod EliminateSteps
 pub mod UnitLemmas
+pub mod NotingLemmas

@@ -3,6 +3,7 @@
 #![tactic(auto)]
 
 pub mod eliminate;
+pub mod positions;
 pub mod resolve;
 pub mod stack;
 pub mod subsume;

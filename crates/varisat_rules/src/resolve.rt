@@ -2,9 +2,12 @@
 ghost use Rattle.std.specs.Prelude.{◌≡◌, ◌↔◌, true, false, IsTrue, IfOk, OnOk, MatchBool};
 ghost use Rattle.varisat_theory.specs.promises.Literals.{opposite};
 ghost use Rattle.varisat_theory.specs.promises.Membership.{◌∈◌};
+ghost use Rattle.varisat_rules.specs.inside.Noting.{AreNoted};
 ghost use Rattle.varisat_rules.specs.inside.Resolving.{OccursAs, Relates, LeavesOut, Resolves, Clashes};
 
+use crate::positions::sign_by;
 use std::alloc::{AllocError, Allocator};
+use varisat_database::names::ShortNames;
 use varisat_literals::Lit;
 
 /// How a literal occurs in a clause.
@@ -56,13 +59,20 @@ pub enum Relation {
     Strengthens(Lit),
 }
 
-/// What the first clause makes of the second.
-pub fn relation_of(clause: &[Lit], other: &[Lit]) -> Relation
+/// What the first clause makes of the second, by the positions in that if they were noted.
+pub fn relation_of<A: Allocator + Copy>(
+    clause: &[Lit],
+    other: &[Lit],
+    is_noted: bool,
+    names: &ShortNames<A>,
+    positions: &[u32],
+) -> Relation
+    requires { is_noted ≡ true → AreNoted names.now positions.now other.now }
     ensures { Relates clause.now other.now result }
 {
     let mut flipped: Option<Lit> = None;
     for lit in clause {
-        match sign_of(other, *lit) {
+        match sign_by(is_noted, other, *lit, names, positions) {
             Sign::Absent => return Relation::Nothing,
             Sign::Same => {}
             Sign::Opposite => {

@@ -1,5 +1,5 @@
 -- Each literal of a clause once.
-use Rattle.std.proofs.Common.{◌≡◌, ℕ, add-one, ◌+◌, ◌<◌, ◌≤◌, List, [], ◌∷◌, ◌++◌, inl, inr, ⊎_elim, sym, ap, ◌∙◌, subst, refl, length, map, get_or, take, arith}
+use Rattle.std.proofs.Common.{◌≡◌, ℕ, Bool, true, add-one, ◌+◌, ◌<◌, ◌≤◌, List, [], ◌∷◌, ◌++◌, inl, inr, ⊎_elim, sym, ap, ◌∙◌, subst, refl, length, map, get_or, take, arith}
 use Rattle.std.proofs.lemmas.List.{length-append, map-append}
 use Rattle.std.proofs.Math.Seq.{take-suc}
 use Rattle.varisat_theory.specs.promises.Membership.{◌∈◌, SameSet, IsDistinct}
@@ -7,7 +7,9 @@ use Rattle.varisat_theory.specs.promises.Literals.{Literal, Clause, opposite, va
 use Rattle.varisat_theory.proofs.clauses.Members.{distinct_append, ∈-append_left, ∈-append_right, ∈-append_cases}
 use Rattle.varisat_theory.proofs.clauses.Places.{∈-get_or, ∈-take_more, ∈-take_all}
 use Rattle.varisat_theory.specs.promises.Searches.{IsTautology}
+use Rattle.varisat_rules.specs.inside.Noting.{AreNoted}
 use Rattle.varisat_rules.specs.inside.Resolving.{IsOfOthers}
+use Rattle.varisat_rules.proofs.NotingLemmas.{noted_none}
 use Rattle.varisat_rules.proofs.ResolveLemmas.{none_taken, taken_in, taken_before, taken_last}
 
 pub take_next : {X : Type 0} (xs : List X) (i : ℕ) (d : X) → i < length xs → take (i + 1) xs ≡ take i xs ++ get_or xs i d ∷ []
@@ -68,3 +70,36 @@ set_all c e i h s = ((λ m k. s.0 m (∈-take_all m c i h k)), λ m k. taken_in 
 
 pub tautology_at : (c e : Clause) (i x : ℕ) → i < length c → x ≡ get_or c i 0 → opposite x ∈ e → SameSet (take i c) e → IsTautology c
 tautology_at c e i x h q o s = (x, subst (λ y. y ∈ c) (sym q) (∈-get_or c i 0 h), taken_in (opposite x) c i (s.1 (opposite x) o))
+
+pub distinct_none : (c : Clause) → IsDistinct (map variable_of (take 0 c))
+distinct_none [] = tt
+distinct_none (x ∷ c) = tt
+
+pub noted_before : (names ps : List ℕ) (c : Clause) (i x : ℕ) → i < length c → x ≡ get_or c i 0 → AreNoted names ps (take i c ++ x ∷ []) →
+    AreNoted names ps (take (i + 1) c)
+noted_before names ps c i x h q = subst (λ (e : Clause). AreNoted names ps e) (ap (λ y. take i c ++ y ∷ []) q ∙ sym (take_next c i 0 h))
+
+-- The same, and where the list's literals stand was noted if the flag says so.
+pub record ReadsBefore (names : List ℕ) (t : Bool) (ps : List ℕ) (c : Clause) (i : ℕ) (e : Clause) : Type 0 where
+  pub takes : TakesBefore c i e
+  pub noted : t ≡ true → AreNoted names ps e
+
+pub reads_none : (names : List ℕ) (t : Bool) (ps : List ℕ) (c e : Clause) → e ≡ [] → ReadsBefore names t ps c 0 e
+reads_none names t ps c e q = record {
+  takes = set_none c e q;
+  noted = λ u m i h. absurd (subst (λ (d : Clause). m ∈ d) q i);
+}
+
+pub reads_same : (names : List ℕ) (t : Bool) (ps qs : List ℕ) (c e f : Clause) (i x : ℕ) → x ≡ get_or c i 0 → x ∈ e → f ≡ e → qs ≡ ps →
+    ReadsBefore names t ps c i e → ReadsBefore names t qs c (i + 1) f
+reads_same names t ps qs c e f i x q p r z s = record {
+  takes = set_same c e f i x q p r s.takes;
+  noted = λ u. subst (λ (d : Clause). AreNoted names qs d) (sym r) (subst (λ (ws : List ℕ). AreNoted names ws e) (sym z) (s.noted u));
+}
+
+pub reads_added : (names : List ℕ) (t : Bool) (ps qs ws : List ℕ) (c e f g : Clause) (i x : ℕ) → i < length c → x ≡ get_or c i 0 → IsOfOthers e x →
+    f ≡ g → qs ≡ ws → g ≡ e ++ x ∷ [] → (t ≡ true → AreNoted names ws g) → ReadsBefore names t ps c i e → ReadsBefore names t qs c (i + 1) f
+reads_added names t ps qs ws c e f g i x h q o r z a n s = record {
+  takes = set_added c e f i x h q o (r ∙ a) s.takes;
+  noted = λ u. subst (λ (d : Clause). AreNoted names qs d) (sym r) (subst (λ (vs : List ℕ). AreNoted names vs g) (sym z) (n u));
+}

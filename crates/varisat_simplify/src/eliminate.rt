@@ -2,6 +2,7 @@
 ghost use Rattle.std.specs.Prelude.{OnOk};
 ghost use Rattle.varisat_rules.specs.inside.States.{IsLaterState};
 
+use crate::limits::Limits;
 use std::alloc::{AllocError, Allocator};
 use varisat_database::database::Database;
 use varisat_literals::{Lit, Var};
@@ -20,6 +21,45 @@ pub struct Scratch<A: Allocator + Copy> {
     pub literals: Vec<Lit, A>,
     pub with: Vec<u32, A>,
     pub against: Vec<u32, A>,
+    /// Where the literals of a long clause stand, by short names.
+    pub positions: Vec<u32, A>,
+}
+
+/// How many literals the live clauses have with the literal, or none if one of them is too long to be resolved.
+fn literals_with<A: Allocator + Copy>(db: &Database<A>, lit: Lit) -> Option<u64> {
+    let mut count: u64 = 0;
+    for place in db.places(lit)? {
+        if db.is_live(*place as usize) {
+            let length = db.clause(*place as usize).len();
+            if length > MOST_LENGTH {
+                return None;
+            }
+            count = count.saturating_add(length as u64);
+        }
+    }
+    Some(count)
+}
+
+/// How many pairs of literals are looked at, at most, to resolve the clauses of the literal's variable; or none if one
+/// of them is too long to be resolved.
+fn pairs_of<A: Allocator + Copy>(db: &Database<A>, lit: Lit) -> Option<u64> {
+    let with = literals_with(db, lit)?;
+    let against = literals_with(db, !lit)?;
+    Some(
+        with.saturating_add(1)
+            .saturating_mul(against.saturating_add(1)),
+    )
+}
+
+/// Takes the work off the limits that resolving the literal's variable away may take. Returns whether it may be tried.
+fn is_within<A: Allocator + Copy>(db: &Database<A>, lit: Lit, limits: &mut Limits) -> bool {
+    if limits.are_reached(db) {
+        return false;
+    }
+    match pairs_of(db, lit) {
+        Some(pairs) => limits.resolve(pairs),
+        None => false,
+    }
 }
 
 /// The most literals of a clause at the places.
@@ -84,7 +124,7 @@ fn is_worth<A: Allocator + Copy>(
 fn eliminate_by<A: Allocator + Copy>(
     db: &mut Database<A>,
     lit: Lit,
-    most: &mut u64,
+    limits: &mut Limits,
     scratch: &mut Scratch<A>,
 ) -> Result<bool, AllocError>
     ensures { OnOk result (IsLaterState db.old db.new) }
@@ -94,19 +134,18 @@ fn eliminate_by<A: Allocator + Copy>(
     }
     db.tidy(lit);
     db.tidy(!lit);
+    if !is_within(db, lit, limits) {
+        return Ok(false);
+    }
     let Scratch {
         literals,
         with,
         against,
+        ..
     } = scratch;
     if !collect(db, lit, with)? || !collect(db, !lit, against)? {
         return Ok(false);
     }
-    let pairs = (with.len() as u64).saturating_mul(against.len() as u64);
-    if pairs > *most {
-        return Ok(false);
-    }
-    *most -= pairs;
     if !is_worth(db, lit, with, against) {
         return Ok(false);
     }
@@ -118,7 +157,7 @@ fn eliminate_by<A: Allocator + Copy>(
 pub fn eliminate<A: Allocator + Copy>(
     db: &mut Database<A>,
     var: Var,
-    most: &mut u64,
+    limits: &mut Limits,
     scratch: &mut Scratch<A>,
 ) -> Result<bool, AllocError>
     ensures { OnOk result (IsLaterState db.old db.new) }
@@ -130,6 +169,6 @@ pub fn eliminate<A: Allocator + Copy>(
     } else {
         negative
     };
-    let done = eliminate_by(db, lit, most, scratch)?;
+    let done = eliminate_by(db, lit, limits, scratch)?;
     Ok(done)
 }

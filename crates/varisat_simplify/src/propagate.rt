@@ -2,6 +2,7 @@
 ghost use Rattle.std.specs.Prelude.{OnOk};
 ghost use Rattle.varisat_rules.specs.inside.States.{IsLaterState};
 
+use crate::limits::Limits;
 use std::alloc::{AllocError, Allocator};
 use varisat_database::database::{Database, filled};
 use varisat_database::names::ShortNames;
@@ -69,12 +70,18 @@ fn use_noted<A: Allocator + Copy>(
     ensures { OnOk result (IsLaterState db.old db.new) }
 {
     match satisfied_by(units, db.names(), db.clause(place)) {
-        Some(unit) => use_on(db, unit, place, scratch),
+        Some(unit) => use_on(db, unit, place, &mut [], scratch),
         None => shorten(db, place, units, scratch),
     }
 }
 
-/// Notes the clause at the place, or uses on it what was noted. Returns whether it was noted.
+/// Notes the last clause, which the one before may have become, if it is live and has one literal. Returns whether it did.
+fn note_last<A: Allocator + Copy>(db: &Database<A>, units: &mut [u32]) -> bool {
+    let place = db.len().saturating_sub(1);
+    db.is_live(place) && note_unit(units, db.names(), db.clause(place), place)
+}
+
+/// Notes the clause at the place, or uses on it what was noted, and notes what it becomes. Returns whether one was noted.
 fn use_or_note<A: Allocator + Copy>(
     db: &mut Database<A>,
     place: usize,
@@ -94,26 +101,25 @@ fn use_or_note<A: Allocator + Copy>(
         return Ok(false);
     }
     use_noted(db, place, units, scratch)?;
-    Ok(false)
+    Ok(note_last(db, units))
 }
 
-/// Goes through all clauses, those that are added meanwhile too. Returns whether one was noted.
+/// Goes through the clauses that are there, as long as clauses may be added. Returns whether one was noted.
 fn pass<A: Allocator + Copy>(
     db: &mut Database<A>,
     units: &mut [u32],
+    limits: &Limits,
     scratch: &mut Vec<Lit, A>,
 ) -> Result<bool, AllocError>
     ensures { OnOk result (IsLaterState db.old db.new) }
 {
-    let mut place: usize = 0;
     let mut is_noted = false;
-    for _ in 0..u64::MAX {
-        if place >= db.len() {
-            return Ok(is_noted);
+    for place in 0..db.len() {
+        if limits.are_reached(db) {
+            return Ok(false);
         }
         let is_new = use_or_note(db, place, units, scratch)?;
         is_noted = is_noted || is_new;
-        place += 1;
     }
     Ok(is_noted)
 }
@@ -129,10 +135,11 @@ fn note_all<A: Allocator + Copy>(db: &Database<A>, units: &mut [u32]) -> bool {
     is_noted
 }
 
-/// Uses each clause of one literal on the others, until none is new or for so many passes.
+/// Uses each clause of one literal on the others, until none is new, for so many passes, or as long as clauses may be added.
 pub fn propagate<A: Allocator + Copy>(
     db: &mut Database<A>,
     alloc: A,
+    limits: &Limits,
     scratch: &mut Vec<Lit, A>,
 ) -> Result<(), AllocError>
     ensures { OnOk result (IsLaterState db.old db.new) }
@@ -143,7 +150,7 @@ pub fn propagate<A: Allocator + Copy>(
         return Ok(());
     }
     for _ in 0..MOST_PASSES {
-        if !pass(db, &mut units, scratch)? {
+        if !pass(db, &mut units, limits, scratch)? {
             return Ok(());
         }
     }

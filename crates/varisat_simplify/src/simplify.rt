@@ -11,12 +11,13 @@ ghost use Rattle.varisat_simplify.specs.promises.Simplified.{formula_over, liter
 ghost use Rattle.varisat_theory.specs.promises.Held.{SameClauses};
 
 use crate::eliminate::{Scratch, eliminate};
-use crate::normal::{is_normal, normalize};
+pub use crate::limits::Limits;
+use crate::normal::{MOST_SHORT, is_normal, normalize};
 use crate::propagate::propagate;
 use crate::subsume::subsume_from;
 use std::alloc::{AllocError, Allocator};
 use varisat_database::clauses::ClauseList;
-use varisat_database::database::{Database, literals_in};
+use varisat_database::database::{Database, filled, literals_in};
 use varisat_database::history::History;
 use varisat_database::names::ShortNames;
 use varisat_formula::formula::cnf::{CnfFormula, FormulaError};
@@ -30,40 +31,6 @@ const MOST_ROUNDS: usize = 20;
 const MOST_PARTS: usize = 16;
 
 const LEAST_PART: usize = 512;
-
-/// How much work a simplification may take.
-#[derive(Clone, Copy)]
-pub struct Limits {
-    /// How many pairs of clauses are compared at most.
-    pub comparisons: u64,
-    /// How many pairs of clauses are resolved at most.
-    pub resolvents: u64,
-    /// Whether the simplification ends once it eliminates variables and no literal less is left.
-    pub ends_without_gain: bool,
-}
-
-impl Limits {
-    /// The limits for a formula of so many literals that is searched once.
-    pub fn of_formula(literals: usize) -> Limits {
-        let size = literals as u64;
-        Limits {
-            comparisons: size.saturating_add(5_000_000),
-            resolvents: size.saturating_mul(4).saturating_add(1_000_000),
-            ends_without_gain: false,
-        }
-    }
-
-    /// The limits for a batch of so many literals, of which many may come: all simplifications together take no longer
-    /// than the literals of all batches allow.
-    pub fn of_batch(literals: usize) -> Limits {
-        let size = literals as u64;
-        Limits {
-            comparisons: size.saturating_mul(8).saturating_add(10_000),
-            resolvents: size.saturating_mul(4).saturating_add(10_000),
-            ends_without_gain: true,
-        }
-    }
-}
 
 /// A simplified formula, with what extends its models.
 #[derive(Drop)]
@@ -130,17 +97,22 @@ fn named_count<A: Allocator + Copy>(formula: &CnfFormula<A>) -> usize
 fn load<A: Allocator + Copy>(
     db: &mut Database<A>,
     formula: &CnfFormula<A>,
-    literals: &mut Vec<Lit, A>,
+    scratch: &mut Scratch<A>,
 ) -> Result<(), AllocError>
     requires { db.old ≡ no_clauses db.old.var_count db.old.frozen db.old.saves_both }
     ensures { OnOk result (IsLoaded formula.now.clauses db.old.var_count db.old.frozen db.old.saves_both db.new) }
 {
     db.reserve_for(formula)?;
     for clause in formula.iter() {
-        if is_normal(clause) {
+        if is_normal(clause, db.names(), &mut scratch.positions) {
             db.give(clause)?;
-        } else if normalize(clause, literals)? {
-            db.give(literals)?;
+        } else if normalize(
+            clause,
+            db.names(),
+            &mut scratch.positions,
+            &mut scratch.literals,
+        )? {
+            db.give(&scratch.literals)?;
         } else {
             let place = db.len();
             db.give(clause)?;
@@ -198,11 +170,19 @@ fn eliminate_all<A: Allocator + Copy>(
     let mut place = first;
     for key in order {
         let var = Var::from_index((*key % 0x8000_0000) as usize);
-        if eliminate(db, var, &mut limits.resolvents, scratch)? {
-            place = subsume_from(db, place, &mut limits.comparisons, &mut scratch.literals)?;
+        if eliminate(db, var, limits, scratch)? {
+            place = subsume_from(db, place, limits, scratch)?;
         }
     }
     Ok(place)
+}
+
+/// Whether fewer literals are left than before. It is set to what is left.
+fn is_gain<A: Allocator + Copy>(db: &Database<A>, before: &mut usize) -> bool {
+    let left = live_literals(db);
+    let is_less = left < *before;
+    *before = left;
+    is_less
 }
 
 /// Tries the variables in parts, and returns the place of the first clause that was not used on others; or none, if a
@@ -219,18 +199,20 @@ fn eliminate_in_parts<A: Allocator + Copy>(
     let length = (order.len() / MOST_PARTS).max(LEAST_PART);
     let mut place = first;
     let mut start: usize = 0;
-    let mut before = live_literals(db);
+    let mut before = if limits.ends_without_gain {
+        live_literals(db)
+    } else {
+        0
+    };
     for _ in 0..MOST_PARTS + 1 {
         if start >= order.len() {
             return Ok(Some(place));
         }
         let end = start.saturating_add(length).min(order.len());
         place = eliminate_all(db, &order[start..end], place, limits, scratch)?;
-        let left = live_literals(db);
-        if limits.ends_without_gain && left >= before {
+        if limits.ends_without_gain && !is_gain(db, &mut before) {
             return Ok(None);
         }
-        before = left;
         start = end;
     }
     Ok(Some(place))
@@ -245,7 +227,7 @@ fn run<A: Allocator + Copy>(
 ) -> Result<(), AllocError>
     ensures { OnOk result (IsLaterState db.old db.new) }
 {
-    let mut place = subsume_from(db, 0, &mut limits.comparisons, &mut scratch.literals)?;
+    let mut place = subsume_from(db, 0, limits, scratch)?;
     for _ in 0..MOST_ROUNDS {
         candidates(db, order)?;
         if order.is_empty() {
@@ -307,10 +289,10 @@ fn reduce<A: Allocator + Copy>(
         IsReduced formula.clauses db.old.var_count db.old.frozen db.old.saves_both count db.new) }
     ensures room { IfOk result (λ count. count ≤ length db.new.clauses) }
 {
-    load(db, &formula, &mut scratch.literals)?;
+    load(db, &formula, scratch)?;
     drop(formula);
     let count = db.len();
-    propagate(db, alloc, &mut scratch.literals)?;
+    propagate(db, alloc, limits, &mut scratch.literals)?;
     db.list_all()?;
     run(db, limits, order, scratch)?;
     db.unlist();
@@ -406,6 +388,20 @@ fn finish<A: Allocator + Copy>(
     stay(alloc, &db, count)
 }
 
+/// Room for a position of each short name, if a clause is long enough that its variables' positions are noted.
+fn positions_for<A: Allocator + Copy>(
+    alloc: A,
+    formula: &CnfFormula<A>,
+    names: &ShortNames<A>,
+) -> Result<Vec<u32, A>, AllocError> {
+    for clause in formula.iter() {
+        if clause.len() > MOST_SHORT {
+            return filled(alloc, names.len(), 0u32);
+        }
+    }
+    Ok(Vec::new(alloc))
+}
+
 /// Makes a formula that has a model just where the given one has, and whose models are extended to ones of it. It
 /// counts the variables up to the highest that the given one names. Variables that are flagged in `frozen` are not
 /// resolved away, and no extension changes their values, those of variables that are left, or those of variables that
@@ -447,11 +443,13 @@ pub fn simplify_with<A: Allocator + Copy>(
 {
     let count = named_count(&formula);
     let names = ShortNames::of_formula(alloc, &formula, count, literals_in(&formula))?;
+    let positions = positions_for(alloc, &formula, &names)?;
     let mut db = Database::new_in(alloc, count, frozen, saves_both, names)?;
     let mut scratch = Scratch {
         literals: Vec::new(alloc),
         with: Vec::new(alloc),
         against: Vec::new(alloc),
+        positions,
     };
     let mut order = Vec::new(alloc);
     let mut left = limits;

@@ -2,10 +2,12 @@
 ghost use Rattle.std.specs.Prelude.{OnOk};
 ghost use Rattle.varisat_rules.specs.inside.States.{IsLaterState};
 
+use crate::eliminate::Scratch;
+use crate::limits::Limits;
 use std::alloc::{AllocError, Allocator};
 use varisat_database::database::Database;
 use varisat_literals::Lit;
-use varisat_rules::subsume::use_on;
+use varisat_rules::subsume::{MOST_LITERALS, use_on};
 
 /// No literal in more clauses is looked through, but for a clause of one literal.
 const MOST_PLACES: usize = 1000;
@@ -38,19 +40,32 @@ fn place_at<A: Allocator + Copy>(db: &Database<A>, lit: Lit, index: usize) -> Op
     Some(*place as usize)
 }
 
-/// Uses the clause at `place` on those with the literal. Each that is looked at is taken from the budget.
+/// Takes off the limits what comparing the clauses takes. Returns whether they may be: clauses of one literal always are,
+/// as long as clauses may be added.
+fn is_within<A: Allocator + Copy>(
+    db: &Database<A>,
+    place: usize,
+    other: usize,
+    limits: &mut Limits,
+) -> bool {
+    let length = db.clause(place).len();
+    limits.compare(length.saturating_add(db.clause(other).len()));
+    (length <= 1 || limits.comparisons > 0) && !limits.are_reached(db)
+}
+
+/// Uses the clause at `place` on those with the literal, within the limits.
 fn use_along<A: Allocator + Copy>(
     db: &mut Database<A>,
     place: usize,
     lit: Lit,
-    budget: &mut u64,
-    scratch: &mut Vec<Lit, A>,
+    limits: &mut Limits,
+    scratch: &mut Scratch<A>,
 ) -> Result<(), AllocError>
     ensures { OnOk result (IsLaterState db.old db.new) }
 {
     db.tidy(lit);
     let count = place_count(db, lit);
-    *budget = budget.saturating_sub(count as u64);
+    limits.compare(count);
     let bits = db.signature(place);
     let mut first: usize = 0;
     for _ in 0..count {
@@ -63,23 +78,32 @@ fn use_along<A: Allocator + Copy>(
         let Some(other) = place_at(db, lit, index) else {
             return Ok(());
         };
-        use_on(db, place, other, scratch)?;
+        if !is_within(db, place, other, limits) {
+            return Ok(());
+        }
+        use_on(
+            db,
+            place,
+            other,
+            &mut scratch.positions,
+            &mut scratch.literals,
+        )?;
         first = index.saturating_add(1);
     }
     Ok(())
 }
 
-/// The literal by which the clause at the place is used, if it is live and there are not too many. Where the budget is
-/// spent only clauses of one literal are used.
-fn way_of<A: Allocator + Copy>(db: &Database<A>, place: usize, budget: u64) -> Option<Lit> {
-    if !db.is_live(place) {
+/// The literal by which the clause at the place is used, if it is live and neither it nor the literal's list is too long.
+/// Where the limits are reached only clauses of one literal are used, and none where no clause may be added.
+fn way_of<A: Allocator + Copy>(db: &Database<A>, place: usize, limits: &Limits) -> Option<Lit> {
+    if !db.is_live(place) || limits.are_reached(db) {
         return None;
     }
     let clause = db.clause(place);
-    let lit = rarest(db, clause)?;
-    if clause.len() > 1 && budget == 0 {
+    if clause.len() > MOST_LITERALS || (clause.len() > 1 && limits.comparisons == 0) {
         return None;
     }
+    let lit = rarest(db, clause)?;
     if clause.len() > 1 && db.count(lit).saturating_add(db.count(!lit)) > MOST_PLACES {
         return None;
     }
@@ -90,16 +114,16 @@ fn way_of<A: Allocator + Copy>(db: &Database<A>, place: usize, budget: u64) -> O
 fn subsume_with<A: Allocator + Copy>(
     db: &mut Database<A>,
     place: usize,
-    budget: &mut u64,
-    scratch: &mut Vec<Lit, A>,
+    limits: &mut Limits,
+    scratch: &mut Scratch<A>,
 ) -> Result<(), AllocError>
     ensures { OnOk result (IsLaterState db.old db.new) }
 {
-    let Some(lit) = way_of(db, place, *budget) else {
+    let Some(lit) = way_of(db, place, limits) else {
         return Ok(());
     };
-    use_along(db, place, lit, budget, scratch)?;
-    use_along(db, place, !lit, budget, scratch)?;
+    use_along(db, place, lit, limits, scratch)?;
+    use_along(db, place, !lit, limits, scratch)?;
     Ok(())
 }
 
@@ -107,8 +131,8 @@ fn subsume_with<A: Allocator + Copy>(
 pub fn subsume_from<A: Allocator + Copy>(
     db: &mut Database<A>,
     first: usize,
-    budget: &mut u64,
-    scratch: &mut Vec<Lit, A>,
+    limits: &mut Limits,
+    scratch: &mut Scratch<A>,
 ) -> Result<usize, AllocError>
     ensures { OnOk result (IsLaterState db.old db.new) }
 {
@@ -117,7 +141,7 @@ pub fn subsume_from<A: Allocator + Copy>(
         if place >= db.len() {
             return Ok(place);
         }
-        subsume_with(db, place, budget, scratch)?;
+        subsume_with(db, place, limits, scratch)?;
         place += 1;
     }
     Ok(place)

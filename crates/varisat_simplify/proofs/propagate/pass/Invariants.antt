@@ -1,5 +1,5 @@
 use Rattle.varisat_rules.specs.inside.States.{IsLaterState}
 use Rattle.varisat_simplify.proofs.propagate.pass.Given as goal
 
-abbrev pub invariant-loop : goal.invariant-loop
-invariant-loop g l = IsLaterState l.fn.db l.db
+abbrev pub invariant-loop-place : goal.invariant-loop-place
+invariant-loop-place g l = IsLaterState l.fn.db l.db

@@ -1,0 +1,60 @@
+//! How much work a simplification may take, counted in literals, so that it takes no longer than a constant times the given ones.
+use std::alloc::Allocator;
+use varisat_database::database::Database;
+
+/// How much work a simplification may take. What is done is taken off; what comes too late stays as it is.
+#[derive(Clone, Copy)]
+pub struct Limits {
+    /// How many literals are looked at, at most, to compare clauses. Each place where a clause is passed over counts as one.
+    pub comparisons: u64,
+    /// How many pairs of literals are looked at, at most, to resolve clauses.
+    pub resolvents: u64,
+    /// How many literals the clauses may have in all that there ever were. Where they have as many, none is added.
+    pub literals: u64,
+    /// Whether the simplification ends once it eliminates variables and no literal less is left.
+    pub ends_without_gain: bool,
+}
+
+impl Limits {
+    /// The limits for a formula of so many literals that is searched once.
+    pub fn of_formula(literals: usize) -> Limits {
+        let size = literals as u64;
+        Limits {
+            comparisons: size.saturating_mul(4).saturating_add(20_000_000),
+            resolvents: size.saturating_mul(100).saturating_add(50_000_000),
+            literals: size.saturating_mul(3).saturating_add(1_000_000),
+            ends_without_gain: false,
+        }
+    }
+
+    /// The limits for a batch of so many literals, of which many may come: all simplifications together take no longer
+    /// than the literals of all batches allow.
+    pub fn of_batch(literals: usize) -> Limits {
+        let size = literals as u64;
+        Limits {
+            comparisons: size.saturating_mul(16).saturating_add(20_000),
+            resolvents: size.saturating_mul(100).saturating_add(200_000),
+            literals: size.saturating_mul(3).saturating_add(10_000),
+            ends_without_gain: true,
+        }
+    }
+
+    /// Whether the clauses have as many literals as they may.
+    pub fn are_reached<A: Allocator + Copy>(&self, db: &Database<A>) -> bool {
+        db.literal_count() as u64 >= self.literals
+    }
+
+    /// Takes off so many literals that are looked at to compare clauses.
+    pub fn compare(&mut self, literals: usize) {
+        self.comparisons = self.comparisons.saturating_sub(literals as u64);
+    }
+
+    /// Takes off so many pairs of literals, if as many are left. Returns whether they were.
+    pub fn resolve(&mut self, pairs: u64) -> bool {
+        if pairs > self.resolvents {
+            return false;
+        }
+        self.resolvents -= pairs;
+        true
+    }
+}

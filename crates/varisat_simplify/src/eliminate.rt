@@ -2,14 +2,12 @@
 ghost use Rattle.std.specs.Prelude.{OnOk};
 ghost use Rattle.varisat_rules.specs.inside.States.{IsLaterState};
 
+use crate::limits::Limits;
 use std::alloc::{AllocError, Allocator};
 use varisat_database::database::Database;
 use varisat_literals::{Lit, Var};
 use varisat_rules::eliminate::{collect, may_go, resolve_away};
 use varisat_rules::resolve::{Sign, sign_of};
-
-/// A variable stays that has a longer resolvent.
-const MOST_LITERALS: usize = 20;
 
 /// A variable stays whose longest clauses of each sign have more literals.
 const MOST_LENGTH: usize = 200;
@@ -52,14 +50,18 @@ fn is_worth<A: Allocator + Copy>(
     lit: Lit,
     with: &[u32],
     against: &[u32],
+    limits: &Limits,
 ) -> bool {
-    let most = with.len().saturating_add(against.len());
+    let most = with
+        .len()
+        .saturating_add(against.len())
+        .saturating_sub(limits.fewer_clauses);
     let length = longest(db, with).saturating_add(longest(db, against));
     if length > MOST_LENGTH {
         return false;
     }
     let pairs = with.len().saturating_mul(against.len());
-    if pairs <= most && length <= MOST_LITERALS {
+    if pairs <= most && length <= limits.resolvent_literals {
         return true;
     }
     let mut count: usize = 0;
@@ -71,7 +73,7 @@ fn is_worth<A: Allocator + Copy>(
                 lit,
             ) {
                 count = count.saturating_add(1);
-                if count > most || length > MOST_LITERALS {
+                if count > most || length > limits.resolvent_literals {
                     return false;
                 }
             }
@@ -84,7 +86,7 @@ fn is_worth<A: Allocator + Copy>(
 fn eliminate_by<A: Allocator + Copy>(
     db: &mut Database<A>,
     lit: Lit,
-    most: &mut u64,
+    limits: &mut Limits,
     scratch: &mut Scratch<A>,
 ) -> Result<bool, AllocError>
     ensures { OnOk result (IsLaterState db.old db.new) }
@@ -103,11 +105,11 @@ fn eliminate_by<A: Allocator + Copy>(
         return Ok(false);
     }
     let pairs = (with.len() as u64).saturating_mul(against.len() as u64);
-    if pairs > *most {
+    if pairs > limits.resolvents {
         return Ok(false);
     }
-    *most -= pairs;
-    if !is_worth(db, lit, with, against) {
+    limits.resolvents -= pairs;
+    if !is_worth(db, lit, with, against, limits) {
         return Ok(false);
     }
     resolve_away(db, lit, with, against, literals)?;
@@ -118,7 +120,7 @@ fn eliminate_by<A: Allocator + Copy>(
 pub fn eliminate<A: Allocator + Copy>(
     db: &mut Database<A>,
     var: Var,
-    most: &mut u64,
+    limits: &mut Limits,
     scratch: &mut Scratch<A>,
 ) -> Result<bool, AllocError>
     ensures { OnOk result (IsLaterState db.old db.new) }
@@ -130,6 +132,6 @@ pub fn eliminate<A: Allocator + Copy>(
     } else {
         negative
     };
-    let done = eliminate_by(db, lit, most, scratch)?;
+    let done = eliminate_by(db, lit, limits, scratch)?;
     Ok(done)
 }

@@ -3,6 +3,7 @@
 
 pub mod eliminate;
 pub mod laws;
+pub mod limits;
 pub mod normal;
 pub mod propagate;
 pub mod simplify;

@@ -11,6 +11,7 @@ ghost use Rattle.varisat_simplify.specs.promises.Simplified.{formula_over, liter
 ghost use Rattle.varisat_theory.specs.promises.Held.{SameClauses};
 
 use crate::eliminate::{Scratch, eliminate};
+pub use crate::limits::Limits;
 use crate::normal::{is_normal, normalize};
 use crate::propagate::propagate;
 use crate::subsume::subsume_from;
@@ -30,40 +31,6 @@ const MOST_ROUNDS: usize = 20;
 const MOST_PARTS: usize = 16;
 
 const LEAST_PART: usize = 512;
-
-/// How much work a simplification may take.
-#[derive(Clone, Copy)]
-pub struct Limits {
-    /// How many pairs of clauses are compared at most.
-    pub comparisons: u64,
-    /// How many pairs of clauses are resolved at most.
-    pub resolvents: u64,
-    /// Whether the simplification ends once it eliminates variables and no literal less is left.
-    pub ends_without_gain: bool,
-}
-
-impl Limits {
-    /// The limits for a formula of so many literals that is searched once.
-    pub fn of_formula(literals: usize) -> Limits {
-        let size = literals as u64;
-        Limits {
-            comparisons: size.saturating_add(5_000_000),
-            resolvents: size.saturating_mul(4).saturating_add(1_000_000),
-            ends_without_gain: false,
-        }
-    }
-
-    /// The limits for a batch of so many literals, of which many may come: all simplifications together take no longer
-    /// than the literals of all batches allow.
-    pub fn of_batch(literals: usize) -> Limits {
-        let size = literals as u64;
-        Limits {
-            comparisons: size.saturating_mul(8).saturating_add(10_000),
-            resolvents: size.saturating_mul(4).saturating_add(10_000),
-            ends_without_gain: true,
-        }
-    }
-}
 
 /// A simplified formula, with what extends its models.
 #[derive(Drop)]
@@ -164,7 +131,7 @@ fn is_in_clause<A: Allocator + Copy>(db: &Database<A>, var: Var) -> bool {
     db.count(var.positive()) != 0 || db.count(var.negative()) != 0
 }
 
-/// The variables whose clauses changed, by their costs, but for those that are gone.
+/// The variables whose clauses changed, by their costs, but for those that are gone or may not go.
 fn candidates<A: Allocator + Copy>(
     db: &mut Database<A>,
     out: &mut Vec<u64, A>,
@@ -177,7 +144,7 @@ fn candidates<A: Allocator + Copy>(
         let Some(var) = db.take_touched() else {
             break;
         };
-        if is_in_clause(db, var) {
+        if is_in_clause(db, var) && !db.is_frozen(var.positive()) {
             out.push(key_of(db, var))?;
         }
     }
@@ -198,7 +165,7 @@ fn eliminate_all<A: Allocator + Copy>(
     let mut place = first;
     for key in order {
         let var = Var::from_index((*key % 0x8000_0000) as usize);
-        if eliminate(db, var, &mut limits.resolvents, scratch)? {
+        if eliminate(db, var, limits, scratch)? {
             place = subsume_from(db, place, &mut limits.comparisons, &mut scratch.literals)?;
         }
     }

@@ -30,6 +30,7 @@ class Told:
 def add_arguments(command):
     command.add_argument("--repetitions", type=learning.positive, default=3, help="turns of all solvers (3)")
     command.add_argument("--thousands", type=learning.positive, default=10, help="thousands of calls (10)")
+    command.add_argument("--lemmas", type=learning.positive, default=20, help="lemmas of a call (20): from some 250 on ours simplifies them first")
     programs.add_against(command)
 
 
@@ -38,9 +39,9 @@ def told(line):
     return Told(int(calls), float(taken), *map(int, rest))
 
 
-def answer(folder, name, thousands):
+def answer(folder, name, arguments):
     """What is told after the first thousand of calls, after half of all, and after the last."""
-    lines = incremental.must_run([f"{folder}/{name}", str(1000 * thousands)]).splitlines()
+    lines = incremental.must_run([f"{folder}/{name}", str(1000 * arguments.thousands), str(arguments.lemmas)]).splitlines()
     return [told(lines[index]) for index in (0, (len(lines) - 1) // 2, -1)]
 
 
@@ -63,7 +64,7 @@ def run(arguments):
     print(HEADS)
     with tempfile.TemporaryDirectory() as folder:
         names = incremental.build(folder, "retiring.c", arguments)
-        turns = [[answer(folder, name, arguments.thousands) for name in names] for _ in range(arguments.repetitions)]
+        turns = [[answer(folder, name, arguments) for name in names] for _ in range(arguments.repetitions)]
     grown = [print_solver(name, one) for name, one in zip(names, zip(*turns))]
     if len({points[-1].checksum for turn in turns for points in turn}) > 1:
         print("\nthe answers differ", flush=True)

@@ -1,6 +1,7 @@
 /* Calls whose clauses are retired, as model checkers make them, through IPASIR. One step of a random circuit is given once. Each
- * call asks whether a cube of its states has a predecessor outside the cube. The clause that leaves the cube out, and twenty lemmas,
- * hold with a literal of their own, which the call assumes; a unit clause makes it false for good once the call is answered.
+ * call asks whether a cube of its states has a predecessor outside the cube. The clause that leaves the cube out, and twenty lemmas or
+ * as many as the second argument says, hold with a literal of their own, which the call assumes; a unit clause makes it false for good
+ * once the call is answered.
  *
  * Printed is a line for each 1,000 calls: how many were made; the processor's milliseconds of one of the last 500; the resident size
  * in KiB; how many searches were satisfiable; and a checksum of all answers so far, which is the same for each solver. */
@@ -13,11 +14,13 @@ enum {
     INPUTS = 200,
     GATES = 10000,
     CUBE = 12,
-    LEMMAS = 20,
     LEMMA = 3,
     TOLD = 1000,
     TIMED = 500,
 };
+
+/* How many lemmas a call gives. */
+static int lemmas = 20;
 
 /* The literal that a latch has after the step. */
 static int next[LATCHES];
@@ -80,7 +83,7 @@ static int ask(void *solver, int literal) {
     for (int i = 0; i < CUBE; i++)
         outside[i] = -cube[i];
     give_while(solver, literal, outside, CUBE);
-    for (int i = 0; i < LEMMAS; i++) {
+    for (int i = 0; i < lemmas; i++) {
         draw_states(lemma, LEMMA);
         give_while(solver, literal, lemma, LEMMA);
     }
@@ -111,6 +114,8 @@ static long resident_kibibytes(void) {
 
 int main(int count, char **words) {
     int calls = count > 1 ? atoi(words[1]) : 10000;
+    if (count > 2)
+        lemmas = atoi(words[2]);
     void *solver = ipasir_init();
     int variables = give_circuit(solver);
     int satisfiable = 0;

@@ -1,9 +1,11 @@
 /* IPASIR over the proved calls of clients, as ../ipasir/ipasir.h says. This file is not proved: it keeps the client's word, the callback,
- * and whether a search is under way. */
+ * whether a search is under way, and how long simplification took. */
+#define _POSIX_C_SOURCE 200809L
 #include "../ipasir/ipasir.h"
 
 #include <stdlib.h>
 #include <string.h>
+#include <time.h>
 
 #include "callers.h"
 #include "varisat.h"
@@ -11,11 +13,18 @@
 /* How many steps a search makes between two questions whether it is to end. */
 static const uint64_t steps_between = 1000;
 
+/* How many literals the clauses have at least that a new client simplifies. */
+static const uint64_t least_literals = 1000;
+
 struct client {
     struct handle handle;
     void *data;
     int (*terminate)(void *data);
     bool is_solving;
+    /* How many literals were given since the last search, and how many of them are simplified at least: none where this is 0. */
+    uint64_t literals, least;
+    /* How long they were simplified and stored so far. */
+    double milliseconds;
     /* Where a callback of varisat.h calls: what that call is charged to. */
     struct account *outer;
 };
@@ -38,16 +47,21 @@ const char *ipasir_signature(void) {
     return varisat_version();
 }
 
+static void simplify_from(struct client *client, uint32_t least) {
+    client_simplify_from(&client->handle, least);
+    client->least = least;
+}
+
 /* VARISAT_SIMPLIFY is how many literals a batch of clauses has at least that is simplified, or 0 to simplify none. Another text than
  * such a number changes nothing. */
-static void set_by_environment(struct handle *handle) {
+static void set_by_environment(struct client *client) {
     const char *text = getenv("VARISAT_SIMPLIFY");
     if (!text || *text < '0' || *text > '9')
         return;
     char *end;
     unsigned long number = strtoul(text, &end, 10);
     if (*end == '\0' && number <= UINT32_MAX)
-        client_simplify_from(handle, (uint32_t)number);
+        simplify_from(client, (uint32_t)number);
 }
 
 void *ipasir_init(void) {
@@ -55,8 +69,9 @@ void *ipasir_init(void) {
     if (!client)
         return NULL;
     bool is_open = client_open(&client->handle);
+    client->least = least_literals;
     if (is_open)
-        set_by_environment(&client->handle);
+        set_by_environment(client);
     leave(client);
     if (is_open)
         return client;
@@ -81,20 +96,61 @@ static void give(void *solver, void (*call)(struct handle *, int32_t), int32_t n
     leave(client);
 }
 
-void ipasir_add(void *solver, int32_t number) { give(solver, client_add, number); }
+void ipasir_add(void *solver, int32_t number) {
+    struct client *client = enter(solver);
+    if (!client)
+        return;
+    client_add(&client->handle, number);
+    client->literals += number != 0;
+    leave(client);
+}
+
 void ipasir_assume(void *solver, int32_t number) { give(solver, client_assume, number); }
+
+static double milliseconds(void) {
+    struct timespec now;
+    clock_gettime(CLOCK_MONOTONIC, &now);
+    return (double)now.tv_sec * 1e3 + (double)now.tv_nsec / 1e6;
+}
+
+static void limit_steps(struct client *client) {
+    client_limit_steps(&client->handle, client->terminate ? steps_between : UINT64_MAX);
+}
+
+static bool is_to_end(struct client *client) {
+    return client->terminate && client->terminate(client->data);
+}
+
+/* Has enough clauses simplified and stored by a search that may make no step, so that the callback can be asked before the next one. */
+static int simplify(struct client *client) {
+    double began = milliseconds();
+    client_limit_steps(&client->handle, 0);
+    int answer = client_search(&client->handle);
+    limit_steps(client);
+    client->milliseconds += milliseconds() - began;
+    return answer;
+}
+
+static int search(struct client *client) {
+    client_begin(&client->handle);
+    bool is_batch = client->least && client->literals >= client->least;
+    client->literals = 0;
+    int answer = is_batch ? simplify(client) : 0;
+    if (answer != 0 || (is_batch && is_to_end(client)))
+        return answer;
+    do
+        answer = client_search(&client->handle);
+    /* Without a callback the steps are all that can be counted. */
+    while (answer == 0 && client->terminate && !is_to_end(client));
+    return answer;
+}
 
 int ipasir_solve(void *solver) {
     struct client *client = enter(solver);
     if (!client)
         return 0;
     client->is_solving = true;
-    client_begin(&client->handle);
-    int answer;
-    do
-        answer = client_search(&client->handle);
-    /* Without a callback the steps are all that can be counted. */
-    while (answer == 0 && client->terminate && !client->terminate(client->data));
+    int answer = search(client);
     client->is_solving = false;
     leave(client);
     return answer == 1 ? 0 : answer;
@@ -116,7 +172,7 @@ void ipasir_set_terminate(void *solver, void *data, int (*terminate)(void *data)
         return;
     client->data = data;
     client->terminate = terminate;
-    client_limit_steps(&client->handle, terminate ? steps_between : UINT64_MAX);
+    limit_steps(client);
     leave(client);
 }
 
@@ -130,7 +186,7 @@ int varisat_ipasir_set(void *solver, const char *name, int value) {
         return 0;
     bool is_known = name && strcmp(name, "simplify") == 0 && value >= 0;
     if (is_known)
-        client_simplify_from(&client->handle, (uint32_t)value);
+        simplify_from(client, (uint32_t)value);
     leave(client);
     return is_known;
 }
@@ -142,6 +198,8 @@ int64_t varisat_ipasir_counter(void *solver, const char *name) {
     struct client *client = solver;
     if (!client || !name)
         return -1;
+    if (strcmp(name, "milliseconds") == 0)
+        return (int64_t)client->milliseconds;
     bool is_restored = strcmp(name, "restored") == 0;
     if (!is_restored && strcmp(name, "eliminated") != 0)
         return -1;

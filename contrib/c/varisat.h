@@ -269,7 +269,8 @@ int varisat_ipasir_set(void *solver, const char *name, int value);
 void varisat_ipasir_freeze(void *solver, int32_t number);
 void varisat_ipasir_melt(void *solver, int32_t number);
 
-/* How many variables were "eliminated" so far, or "restored", or -1 if the name is another. */
+/* How many variables were "eliminated" so far, or "restored", or how many "milliseconds" batches took to be simplified and stored, or -1
+ * if the name is another. */
 int64_t varisat_ipasir_counter(void *solver, const char *name);
 
 #ifdef __cplusplus

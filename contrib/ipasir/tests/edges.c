@@ -94,6 +94,7 @@ static void settings(void) {
     CHECK(varisat_ipasir_counter(solver, "other") == -1 && varisat_ipasir_counter(solver, NULL) == -1);
     CHECK(varisat_ipasir_counter(NULL, "eliminated") == -1);
     CHECK(varisat_ipasir_counter(solver, "eliminated") == 0 && varisat_ipasir_counter(solver, "restored") == 0);
+    CHECK(varisat_ipasir_counter(solver, "milliseconds") == 0);
     for (int i = 0; i < BEYOND; i++)
         varisat_ipasir_freeze(solver, beyond[i]), varisat_ipasir_melt(solver, beyond[i]);
     varisat_ipasir_freeze(solver, 0), varisat_ipasir_melt(solver, 0), varisat_ipasir_melt(solver, 7);

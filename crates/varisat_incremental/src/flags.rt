@@ -3,6 +3,7 @@ ghost use Rattle.std.specs.Prelude.{◌≡◌, ◌↔◌, ◌<◌, ◌^◌, fals
 ghost use Rattle.varisat_theory.specs.promises.Literals.{variable_of};
 ghost use Rattle.varisat_incremental.specs.Flags.{IsFlagged, AreFlagged, AreClear, AreAmong, AllFlagged, AllClear};
 
+use crate::forecast::Forecast;
 use std::alloc::{AllocError, Allocator};
 use varisat_formula::formula::cnf::CnfFormula;
 use varisat_literals::Lit;
@@ -64,45 +65,48 @@ pub fn set_all_flags<A: Allocator + Copy>(
     Ok(())
 }
 
-/// Flags the literal's variable if it is flagged in `hinted`.
+/// Flags the literal's variable if it is flagged in `hinted` or expected to be named later.
 fn set_if_hinted<A: Allocator + Copy>(
     flags: &mut Vec<bool, A>,
     hinted: &[bool],
+    forecast: &Forecast<A>,
     lit: Lit,
 ) -> Result<(), AllocError>
     ensures { OnOk result (AreAmong flags.old.items flags.new.items) }
 {
-    if !has_flag(hinted, lit) {
+    if !has_flag(hinted, lit) && !forecast.expects(lit) {
         return Ok(());
     }
     set_flag(flags, lit)?;
     Ok(())
 }
 
-/// Flags those variables of the literals that are flagged in `hinted`.
+/// Flags those variables of the literals that are flagged in `hinted` or expected to be named later.
 fn set_hinted_in<A: Allocator + Copy>(
     flags: &mut Vec<bool, A>,
     hinted: &[bool],
+    forecast: &Forecast<A>,
     lits: &[Lit],
 ) -> Result<(), AllocError>
     ensures { OnOk result (AreAmong flags.old.items flags.new.items) }
 {
     for lit in lits {
-        set_if_hinted(flags, hinted, *lit)?;
+        set_if_hinted(flags, hinted, forecast, *lit)?;
     }
     Ok(())
 }
 
-/// Flags those variables of the clauses that are flagged in `hinted`.
+/// Flags those variables of the clauses that are flagged in `hinted` or expected to be named later.
 pub fn set_hinted_flags<A: Allocator + Copy>(
     flags: &mut Vec<bool, A>,
     hinted: &[bool],
+    forecast: &Forecast<A>,
     formula: &CnfFormula<A>,
 ) -> Result<(), AllocError>
     ensures { OnOk result (AreAmong flags.old.items flags.new.items) }
 {
     for clause in formula.iter() {
-        set_hinted_in(flags, hinted, clause)?;
+        set_hinted_in(flags, hinted, forecast, clause)?;
     }
     Ok(())
 }

@@ -2,4 +2,5 @@
 #![tactic(auto)]
 
 pub mod flags;
+pub mod forecast;
 pub mod reconstruction;

@@ -8,6 +8,7 @@ use crate::flags::{
     clear_all_flags, clear_flag, clear_flags, has_flag, set_all_flags, set_flag, set_flags,
     set_hinted_flags,
 };
+use crate::forecast::Forecast;
 use std::alloc::{AllocError, Allocator};
 use std::marker::Model;
 use varisat_database::database::literals_in;
@@ -37,6 +38,8 @@ pub struct Reconstruction<A: Allocator + Copy> {
     frozen: Vec<bool, A>,
     // The variables that are not to be eliminated from the next batches. It is only a hint.
     hinted: Vec<bool, A>,
+    // Which variables later calls may name. It is only a guess.
+    forecast: Forecast<A>,
     // How many literals a batch has at least that is simplified.
     least: usize,
     // How many literals the clauses have that were returned.
@@ -161,6 +164,7 @@ impl<A: Allocator + Copy> Reconstruction<A> {
             eliminated: Vec::new(alloc),
             frozen: Vec::new(alloc),
             hinted: Vec::new(alloc),
+            forecast: Forecast::new_in(alloc),
             least: LEAST_LITERALS,
             given: 0,
             read: 0,
@@ -255,7 +259,8 @@ impl<A: Allocator + Copy> Reconstruction<A> {
     }
 
     /// Restores what the clauses and the literals name, or all variables if none is to be kept. Returns their clauses.
-    /// The variables of these, the literals, and what is hinted of the clauses' variables are not eliminated from now on.
+    /// The variables of these, the literals, and what is hinted or expected of the clauses' variables are not eliminated
+    /// from now on.
     fn bring_back(
         &mut self,
         formula: &CnfFormula<A>,
@@ -264,7 +269,7 @@ impl<A: Allocator + Copy> Reconstruction<A> {
     ) -> Result<CnfFormula<A>, FormulaError>
         ensures { IfOk result (λ f. BringsBack formula.now.clauses assumed.now f.clauses self.old self.new) }
     {
-        set_hinted_flags(&mut self.frozen, &self.hinted, formula)?;
+        set_hinted_flags(&mut self.frozen, &self.hinted, &self.forecast, formula)?;
         set_flags(&mut self.frozen, assumed)?;
         let is_assumed = clear_flags(&mut self.eliminated, assumed);
         let is_named = clear_all_flags(&mut self.eliminated, formula);
@@ -323,6 +328,15 @@ impl<A: Allocator + Copy> Reconstruction<A> {
         self.given = self.given.saturating_add(literals_in(given));
     }
 
+    /// Notes which variables the clauses and the literals name.
+    fn note_named(&mut self, formula: &CnfFormula<A>, assumed: &[Lit])
+        ensures { self.new ≡ self.old }
+    {
+        let is_batch = self.is_worth(literals_in(formula));
+        self.forecast.note(assumed);
+        self.forecast.note_clauses(formula, is_batch);
+    }
+
     /// Takes more clauses, and literals that are to be assumed. Returns the clauses that a solver is to be given: those
     /// of eliminated variables that are named again, and what is left of the others.
     pub fn take(
@@ -333,6 +347,7 @@ impl<A: Allocator + Copy> Reconstruction<A> {
         ensures { IfOk result (λ f. Takes formula.clauses assumed.now f.clauses self.old self.new) }
     {
         let keeps = self.keeps_stack();
+        self.note_named(&formula, assumed);
         let mut given = self.bring_back(&formula, assumed, keeps)?;
         let left = self.take_rest(formula)?;
         append(&mut given, &left)?;

@@ -9,9 +9,6 @@ use varisat_literals::{Lit, Var};
 use varisat_rules::eliminate::{collect, may_go, resolve_away};
 use varisat_rules::resolve::{Sign, sign_of};
 
-/// A variable stays that has a longer resolvent.
-const MOST_LITERALS: usize = 20;
-
 /// A variable stays whose longest clauses of each sign have more literals.
 const MOST_LENGTH: usize = 200;
 
@@ -92,14 +89,18 @@ fn is_worth<A: Allocator + Copy>(
     lit: Lit,
     with: &[u32],
     against: &[u32],
+    limits: &Limits,
 ) -> bool {
-    let most = with.len().saturating_add(against.len());
+    let most = with
+        .len()
+        .saturating_add(against.len())
+        .saturating_sub(limits.fewer_clauses);
     let length = longest(db, with).saturating_add(longest(db, against));
     if length > MOST_LENGTH {
         return false;
     }
     let pairs = with.len().saturating_mul(against.len());
-    if pairs <= most && length <= MOST_LITERALS {
+    if pairs <= most && length <= limits.resolvent_literals {
         return true;
     }
     let mut count: usize = 0;
@@ -111,7 +112,7 @@ fn is_worth<A: Allocator + Copy>(
                 lit,
             ) {
                 count = count.saturating_add(1);
-                if count > most || length > MOST_LITERALS {
+                if count > most || length > limits.resolvent_literals {
                     return false;
                 }
             }
@@ -146,7 +147,7 @@ fn eliminate_by<A: Allocator + Copy>(
     if !collect(db, lit, with)? || !collect(db, !lit, against)? {
         return Ok(false);
     }
-    if !is_worth(db, lit, with, against) {
+    if !is_worth(db, lit, with, against, limits) {
         return Ok(false);
     }
     resolve_away(db, lit, with, against, literals)?;

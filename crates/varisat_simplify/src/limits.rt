@@ -1,8 +1,10 @@
-//! How much work a simplification may take, counted in literals, so that it takes no longer than a constant times the given ones.
+//! How much work a simplification may take, counted in literals, so that it takes no longer than a constant times the given ones, and
+//! which eliminations are worth it.
 use std::alloc::Allocator;
 use varisat_database::database::Database;
 
-/// How much work a simplification may take. What is done is taken off; what comes too late stays as it is.
+/// How much work a simplification may take, and which variables it eliminates. What is done is taken off; what comes too
+/// late stays as it is.
 #[derive(Clone, Copy)]
 pub struct Limits {
     /// How many literals are looked at, at most, to compare clauses. Each place where a clause is passed over counts as one.
@@ -11,6 +13,10 @@ pub struct Limits {
     pub resolvents: u64,
     /// How many literals the clauses may have in all that there ever were. Where they have as many, none is added.
     pub literals: u64,
+    /// How many literals a resolvent has at most by which a variable is eliminated.
+    pub resolvent_literals: usize,
+    /// How many clauses fewer each elimination leaves at least.
+    pub fewer_clauses: usize,
     /// Whether the simplification ends once it eliminates variables and no literal less is left.
     pub ends_without_gain: bool,
 }
@@ -23,18 +29,23 @@ impl Limits {
             comparisons: size.saturating_mul(4).saturating_add(20_000_000),
             resolvents: size.saturating_mul(100).saturating_add(50_000_000),
             literals: size.saturating_mul(3).saturating_add(1_000_000),
+            resolvent_literals: 20,
+            fewer_clauses: 0,
             ends_without_gain: false,
         }
     }
 
     /// The limits for a batch of so many literals, of which many may come: all simplifications together take no longer
-    /// than the literals of all batches allow.
+    /// than the literals of all batches allow. An eliminated variable leaves fewer clauses, and short ones: with the
+    /// limits of a formula searches of circuits that grow came to twice as many conflicts.
     pub fn of_batch(literals: usize) -> Limits {
         let size = literals as u64;
         Limits {
             comparisons: size.saturating_mul(16).saturating_add(20_000),
             resolvents: size.saturating_mul(100).saturating_add(200_000),
             literals: size.saturating_mul(3).saturating_add(10_000),
+            resolvent_literals: 4,
+            fewer_clauses: 1,
             ends_without_gain: true,
         }
     }

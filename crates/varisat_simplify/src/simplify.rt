@@ -136,7 +136,7 @@ fn is_in_clause<A: Allocator + Copy>(db: &Database<A>, var: Var) -> bool {
     db.count(var.positive()) != 0 || db.count(var.negative()) != 0
 }
 
-/// The variables whose clauses changed, by their costs, but for those that are gone.
+/// The variables whose clauses changed, by their costs, but for those that are gone or may not go.
 fn candidates<A: Allocator + Copy>(
     db: &mut Database<A>,
     out: &mut Vec<u64, A>,
@@ -149,7 +149,7 @@ fn candidates<A: Allocator + Copy>(
         let Some(var) = db.take_touched() else {
             break;
         };
-        if is_in_clause(db, var) {
+        if is_in_clause(db, var) && !db.is_frozen(var.positive()) {
             out.push(key_of(db, var))?;
         }
     }

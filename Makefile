@@ -17,7 +17,7 @@ LIBRARY = $(MAKE) -s -C contrib/c UNPROVED='$(UNPROVED)' PREFIX='$(PREFIX)' \
   DESTDIR='$(if $(filter-out /%,$(firstword $(DESTDIR))),$(CURDIR)/)$(DESTDIR)'
 
 # What is installed, each part by a target of its own.
-PARTS = program library
+PARTS = program maxsat library
 
 all: $(PARTS:%=build-%)
 install: $(PARTS:%=install-%)
@@ -31,6 +31,9 @@ test:
 	@./test
 check:
 	@install/check
+
+# What contrib/certify reads of install/, from where it lies beside the program.
+CERTIFY_PARTS = start.sh prove.sh jobs.sh
 
 build-program:
 	@$(WHICH) >/dev/null
@@ -47,14 +50,19 @@ install-program:
 	@install -D -m 644 install/completion.bash '$(DESTDIR)$(BASH)/varisat'
 	@install -D -m 644 install/completion.zsh '$(DESTDIR)$(ZSH)/_varisat'
 	@install -D -m 644 install/completion.fish '$(DESTDIR)$(FISH)/varisat.fish'
+	@install -D -m 755 contrib/certify '$(DESTDIR)$(LIBEXEC)/contrib/certify' && \
+	install -d '$(DESTDIR)$(LIBEXEC)/install' && install -m 644 $(CERTIFY_PARTS:%=install/%) '$(DESTDIR)$(LIBEXEC)/install' && \
+	ln -sf '$(call from,$(BINDIR),$(LIBEXEC))/contrib/certify' '$(DESTDIR)$(BINDIR)/varisat-certify'
 
 uninstall-program:
 	@rm -f '$(DESTDIR)$(BINDIR)/varisat' '$(DESTDIR)$(LIBEXEC)/varisat' '$(DESTDIR)$(MAN1)/varisat.1'
+	@rm -f '$(DESTDIR)$(BINDIR)/varisat-certify' '$(DESTDIR)$(LIBEXEC)/contrib/certify' $(CERTIFY_PARTS:%='$(DESTDIR)$(LIBEXEC)/install/%')
+	@rmdir '$(DESTDIR)$(LIBEXEC)/contrib' '$(DESTDIR)$(LIBEXEC)/install' 2>/dev/null || true
 	@rm -f '$(DESTDIR)$(BASH)/varisat' '$(DESTDIR)$(ZSH)/_varisat' '$(DESTDIR)$(FISH)/varisat.fish'
 	@rmdir '$(DESTDIR)$(LIBEXEC)' 2>/dev/null || true
 
-# The program for MaxSAT, which the gate builds. Nothing builds it without proofs.
-WHICH_MAXSAT = $(if $(UNPROVED),echo "varisat: maxsat has no build without proofs" >&2; exit 2,contrib/c/prove maxsat && echo crates/maxsat/out/maxsat)
+# The program for MaxSAT.
+WHICH_MAXSAT = ./maxsat $(if $(UNPROVED),,--prove) --which
 build-maxsat:
 	@$(WHICH_MAXSAT) >/dev/null
 
@@ -64,9 +72,14 @@ install-maxsat:
 	install -m 755 "$$program" '$(DESTDIR)$(LIBEXEC)/maxsat' && \
 	sh install/command.sh maxsat '$(call from,$(BINDIR),$(LIBEXEC))' "$$program" "$$(install/identity)" >'$(DESTDIR)$(BINDIR)/maxsat.new' && \
 	chmod 755 '$(DESTDIR)$(BINDIR)/maxsat.new' && mv '$(DESTDIR)$(BINDIR)/maxsat.new' '$(DESTDIR)$(BINDIR)/maxsat'
+	@install -d '$(DESTDIR)$(MAN1)' && sed '1s/@VERSION@/$(VERSION)/' install/maxsat.1 >'$(DESTDIR)$(MAN1)/maxsat.1' && chmod 644 '$(DESTDIR)$(MAN1)/maxsat.1'
+	@install -D -m 644 install/maxsat.bash '$(DESTDIR)$(BASH)/maxsat'
+	@install -D -m 644 install/maxsat.zsh '$(DESTDIR)$(ZSH)/_maxsat'
+	@install -D -m 644 install/maxsat.fish '$(DESTDIR)$(FISH)/maxsat.fish'
 
 uninstall-maxsat:
-	@rm -f '$(DESTDIR)$(BINDIR)/maxsat' '$(DESTDIR)$(LIBEXEC)/maxsat'
+	@rm -f '$(DESTDIR)$(BINDIR)/maxsat' '$(DESTDIR)$(LIBEXEC)/maxsat' '$(DESTDIR)$(MAN1)/maxsat.1'
+	@rm -f '$(DESTDIR)$(BASH)/maxsat' '$(DESTDIR)$(ZSH)/_maxsat' '$(DESTDIR)$(FISH)/maxsat.fish'
 	@rmdir '$(DESTDIR)$(LIBEXEC)' 2>/dev/null || true
 
 build-library:

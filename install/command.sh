@@ -23,12 +23,12 @@ case ${built##*/} in
   unproved-*)
     cat <<TEXT
 case \${1-} in
-  --version | --help | -h) echo "$name: this program is not proved" >&2 || : ;;
+  --version | -V | --help | -h) echo "$name: this program is not proved" >&2 || : ;;
 esac
 TEXT
     ;;
 esac
 cat <<TEXT
-[ "\${1-}:\$#" != --version:1 ] || tell_version "\$program" "$identity"
-start "\$program" "\$@"
+case \${1-}:\$# in --version:1 | -V:1) tell_version "\$program" "$identity" ;; esac
+start $name "\$program" "\$@"
 TEXT

@@ -8,22 +8,23 @@ _varisat() {
   )
   if (( CURRENT == 2 )); then
     _describe command commands -- '(--help --version)'
-    _arguments '(- *)--help[print all commands and options]' '(- *)--version[print the version]'
+    _arguments '(- *)'{-h,--help}'[print all commands and options]' '(- *)'{-V,--version}'[print the version]' '1:formula:_files'
     return
   fi
   case $words[2] in
-    solve)
-      _arguments '--help[print more about solve]' \
-        '--proof[write a DRAT proof to a file]:proof:_files' '(--marked)--binary[write the proof in the binary format]' \
-        '(--binary)--marked[write the proof as marked text]' '--check[have a checker inside the solver check each step]' \
-        '--max-steps[give up after so many steps]:steps:' '--heap[give the solver so many bytes of memory]:bytes:' \
-        '--no-simplify[search the formula as it is]' '--progress[show how far the search is]' '2:formula:_files'
-      ;;
+    session) _arguments '--help[print more about session]' ;;
     check)
       _arguments '--help[print more about check]' '--drat[take lines that are RAT]' '(--marked)--binary[read the binary format]' \
         '(--binary)--marked[read marked text]' '2:formula:_files' '3:proof:_files'
       ;;
-    session) _arguments '--help[print more about session]' ;;
+    *)
+      _arguments '--help[print more about solve]' \
+        '--proof[write a DRAT proof to a file]:proof:_files' '(--marked)--binary[write the proof in the binary format]' \
+        '(--binary)--marked[write the proof as marked text]' '--check[have a checker inside the solver check each step]' \
+        '--max-steps[give up after so many steps]:steps:' '--heap[give the solver so many bytes of memory]:bytes:' \
+        '(--no-simplify)--simplify[simplify the formula however short it is]' '(--simplify)--no-simplify[search the formula as it is]' \
+        '(-q)--progress[show how far the search is]' '(--progress)-q[show nothing on standard error but faults]' '-n[print no line v]' '2:file:_files'
+      ;;
   esac
 }
 _varisat "$@"

@@ -1,10 +1,10 @@
-# A part of ./varisat and contrib/c/prove: proves a crate and those below it, and builds the program or the static library. `root` is
+# A part of ./varisat, ./maxsat and contrib/c/prove: proves a crate and those below it, and builds the program or the static library. `root` is
 # the top of the repository. contrib/certify, too, takes from here how a signal ends what runs long.
 . "$root/install/jobs.sh"
 
 # Says a line. Where standard error is closed, full or not read, the script goes on.
 say() {
-  (echo "varisat: $1" >&2) || true
+  (echo "${command:-varisat}: $1" >&2) || true
 }
 
 stop() {

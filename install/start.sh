@@ -1,4 +1,4 @@
-# A part of ./varisat and of the installed command: starts the program, and decompresses the files that it is to read first.
+# A part of ./varisat, ./maxsat and the installed commands: starts the program, and decompresses the files that it is to read first.
 
 # Tells a fault, and ends with the status of one, also where standard error is closed, full or not read.
 fail() {
@@ -44,26 +44,55 @@ tell_version() {
   exit 0
 }
 
-# Runs the program $1 with the other words as its arguments. It reads the first word behind `solve`, or two behind `check` and its
-# option, as files.
+# Whether the word behind such an option is its value.
+takes_value() {
+  case $1 in
+    --proof | --max-steps | --heap) ;;
+    *) return 1 ;;
+  esac
+}
+
+# Runs the program $2 of the command $1 with the other words as its arguments, and decompresses files that it is to read: of `solve` and of
+# `maxsat` the first word that is no option, of `check` all of them, and a file that stands in the place of a command. A first word behind
+# `solve` may be a file also where it begins as an option does.
 start() {
-  program=$1 command=${2-} place=0 before='' formula=''
-  shift
+  command=$1:${3-} program=$2 place=0 files=0 before='' formula='' proof=''
+  shift 2
+  case $command in
+    maxsat:*) command=maxsat ;;
+    *:solve | *:check) command=${command#*:} place=-1 ;;
+    *:session | *:-?*) command='' ;;
+    *) command=file ;;
+  esac
   for word; do
     shift
-    [ "$command:$word" = check:--drat ] || place=$((place + 1))
-    case $command$place in
-      solve2 | check2 | check3)
-        if [ -n "$(decompressor_of "$word")" ] && [ -f "$word" ] && [ -r "$word" ]; then
-          formula=$word
-          decompress "$word"
-          word=/dev/fd/$number
-        fi
-        ;;
-      solve*) [ "$before" != --proof ] || refuse_proof "$formula" "$word" ;;
-    esac
-    before=$word
+    place=$((place + 1)) is_read=''
+    if [ "$place" = 0 ] || [ -z "$command" ]; then
+      :
+    elif [ -n "$before" ]; then
+      [ "$before" != --proof ] || proof=$word
+      before=''
+    elif takes_value "$word" && ! { [ "$place" = 1 ] && [ -f "$word" ]; }; then
+      before=$word
+    else
+      case $word in
+        --proof=*) proof=${word#*=} ;;
+        -?*) [ "$place" != 1 ] || is_read=1 ;;
+        *) files=$((files + 1)) is_read=1 ;;
+      esac
+      case $command:$files in
+        check:* | *:0 | *:1) ;;
+        file:2) proof=$word is_read='' ;;
+        *) is_read='' ;;
+      esac
+    fi
+    if [ -n "$is_read" ] && [ -n "$(decompressor_of "$word")" ] && [ -f "$word" ] && [ -r "$word" ]; then
+      formula=$word
+      decompress "$word"
+      word=/dev/fd/$number
+    fi
     set -- "$@" "$word"
   done
+  [ -z "$proof" ] || refuse_proof "$formula" "$proof"
   exec "$program" "$@"
 }

@@ -22,7 +22,7 @@ extern "C" {
 #endif
 
 /* The version of this header. varisat_version returns that of the library. */
-#define VARISAT_VERSION_MAJOR 1
+#define VARISAT_VERSION_MAJOR 2
 #define VARISAT_VERSION_MINOR 0
 #define VARISAT_VERSION_PATCH 0
 
@@ -65,7 +65,7 @@ const char *varisat_strerror(int error);
  * that call succeeded, or if there was none. */
 int varisat_last_error(void);
 
-/* The name, the version, and the commit of the sources from which the library was built: "varisat 1.0.0, commit 0123456789ab (2026-11-29)".
+/* The name, the version, and the commit of the sources from which the library was built: "varisat 2.0.0, commit 0123456789ab (2026-11-29)".
  * "modified" is added if a source differed from the commit, and "built without proofs" if the library is not proved. */
 const char *varisat_version(void);
 

@@ -20,6 +20,6 @@ from varisat._solver import COUNTERS, SETTINGS, Solver
 from varisat.formula import CNF, WCNF
 
 __all__ = ["CNF", "COUNTERS", "ErrorNumber", "SETTINGS", "Simplifier", "Solver", "Varisat", "VarisatError", "WCNF", "check_proof", "version"]
-__version__ = "1.0.0"
+__version__ = "2.0.0"
 
 Varisat = Solver

@@ -5,19 +5,20 @@ ghost use Rattle.std.specs.Io.KnownBytes.{Appends};
 use std::io::{self, Write};
 
 /// The version of this program, and the crate that has the same calls. No program can know whether it was proved.
-pub const VERSION: &str = "varisat 1.0.0, with the calls of the Rust crate varisat 0.2.2\n";
+pub const VERSION: &str = "varisat 2.0.0, with the calls of the Rust crate varisat 0.2.2\n";
 
 /// The commands with their options, the formats and the exit codes.
-pub const HELP: &str = "varisat 1.0.0: a SAT solver
+pub const HELP: &str = "varisat 2.0.0: a SAT solver
 
     varisat solve FILE [OPTION ..]                   decide a DIMACS CNF text
+    varisat FILE [PROOF] [OPTION ..]                 the same, with --proof PROOF
     varisat check CNF PROOF [--binary | --marked]    check a proof that such a text is unsatisfiable
     varisat check --drat CNF PROOF [--binary]        the same, where lines may also be RAT
     varisat session                                  call a solver line by line
     varisat COMMAND --help                           tell more of a command
-    varisat --help | -h | --version
+    varisat --help | -h | --version | -V
 
-options of solve, in any order, each at most once:
+options of solve, at any place behind it, each at most once; a value may follow = too:
     --proof P        write a DRAT proof to the file P
     --binary         write it in the binary format, and not as text
     --marked         write it as marked text, with the clauses of FILE
@@ -27,6 +28,8 @@ options of solve, in any order, each at most once:
     --simplify       simplify the formula first, however short it is
     --no-simplify    search the formula as it is, however long it is
     --progress       show on standard error how far the search is
+    -n               print no line v
+    -q               show nothing on standard error but faults, as without --progress
 
 FILE and CNF are DIMACS CNF, and - stands for standard input. PROOF is DRAT. ./varisat and the installed
 varisat decompress what they read from files named .gz, .bz2, .xz or .zst.
@@ -39,6 +42,7 @@ exit codes:
 
 /// The command `solve`.
 pub const SOLVE_HELP: &str = "varisat solve FILE [OPTION ..]
+varisat FILE [PROOF] [OPTION ..]
 
 Decides the DIMACS CNF text in FILE, or on standard input where FILE is -. A formula of 2000 literals or
 more is simplified first, a shorter one is searched as it is. Prints one of
@@ -47,10 +51,12 @@ more is simplified first, a shorter one is searched as it is. Prints one of
     s UNSATISFIABLE    exit code 20
     s UNKNOWN          exit code 0; the steps of --max-steps were spent
 
-Options, in any order, each at most once:
+Options, at any place behind solve or FILE, each at most once. A value may follow = too, as in --proof=P.
+A number N or BYTES may have a unit: k, M and G are 1000, 1000000 and 1000000000 steps, and 1024 bytes,
+1024 of these and 1024 of those.
 
     --proof P        write a DRAT proof to the file P, which is made or emptied; it must not be FILE,
-                     nor the file to which standard output goes
+                     nor the file to which standard output goes; varisat FILE P does so too
     --binary         write the proof in the binary format; only with --proof
     --marked         write it as marked text, in which the clauses of FILE stand too; only with --proof,
                      and not with --binary
@@ -65,25 +71,28 @@ Options, in any order, each at most once:
                      propagations and restarts so far; variables that are not fixed; clauses of two
                      literals, given ones, and learned ones to keep (core), to keep if used (mid), or to
                      drop by and by (local)
+    -n               print no line v
+    -q               show nothing on standard error but faults, which is so without --progress too
+
+The first word behind solve is FILE, whatever it is called, if the others are options.
 ";
 
 /// The command `check`.
 pub const CHECK_HELP: &str = "varisat check CNF PROOF [--binary | --marked]
+varisat check --drat CNF PROOF [--binary]
 
 Checks that PROOF, a file, shows the DIMACS CNF text in CNF, or on standard input where CNF is -, to be
 unsatisfiable. Prints one of
 
     s VERIFIED        exit code 0
     s NOT VERIFIED    exit code 1; a line does not follow, deletes what is not there, or is no line; or
-                      the lines refute nothing
+                      the lines refute nothing; standard error tells which, if CNF and PROOF are files
 
 PROOF is DRAT, as text or with --binary in the binary format: each added clause has to follow by unit
 propagation. With --marked it is DRAT text in which lines i, q and f tell the clauses that a solver was
-given, its assumptions and its failed cores.
+given, its assumptions and its failed cores. Options stand at any place behind check.
 
-varisat check --drat CNF PROOF [--binary]
-
-The same for proofs of solvers that simplify: an added clause has to follow or to be RAT on one of its
+With --drat the same for proofs of solvers that simplify: an added clause has to follow or to be RAT on one of its
 literals. A deletion of what is not there is passed over, and so is one of a clause of which all literals
 but one are implied to be false, as of a single literal. Standard error tells the first wrong line, with
 its bytes and a clause for which it is not RAT, and how many lines were of these kinds. Without --binary

@@ -9,25 +9,30 @@ ghost use Rattle.varisat_solve.specs.promises.Solving.{SolvesFirst};
 ghost use Rattle.varisat_proof.specs.promises.Verified.{GivesUnsatisfiable, EndsDrat, EndsCheck, sources_of, fault_status};
 
 mod help;
+mod reasons;
+mod words;
 
-use crate::help::{CHECK_HELP, HELP, SESSION_HELP, SOLVE_HELP, VERSION, print_text};
+use crate::help::print_text;
+use crate::reasons::{Reason, reason_of, tell_fault};
+use crate::words::{Asked, CheckWords, STANDARD_INPUT, SolveWords, asked_by};
 use linked_list_allocator::LocalHeap;
 use std::fmt::Display;
 use std::fs::{File, Metadata};
-use std::io::{self, BufWriter, ErrorKind, Read, Write};
+use std::io::{self, BufWriter, ErrorKind, IsTerminal, Read, Write};
 use std::os::fd::{AsRawFd, RawFd};
 use std::os::unix::fs::{FileTypeExt, MetadataExt};
 use std::process::ExitCode;
 use std::{env, fs};
 use varisat::io::{IoTarget, ProofTarget, ReadSource};
-use varisat::line::parse_number;
 use varisat::program::{
-    STATUS_DONE, STATUS_FAULT, SolveOptions, check_drat_lines, check_lines, print_fault,
-    print_usage, session_lines,
+    STATUS_DONE, STATUS_FAULT, check_drat_lines, check_lines, print_fault, print_usage,
+    session_lines,
 };
 use varisat::proof::ProofFormat;
 use varisat::solver::SolverError;
-use varisat_solve::program::{ProgramOptions, Simplification, solve_lines};
+use varisat_proof::program::STATUS_NOT_VERIFIED;
+use varisat_solve::program::{ProgramOptions, solve_lines};
+use varisat_words::mistakes::Mistake;
 
 fn main(rt: HostRuntime) -> ExitCode {
     ExitCode::from(run(&rt))
@@ -37,10 +42,7 @@ fn main(rt: HostRuntime) -> ExitCode {
 fn run(rt: &HostRuntime) -> u8 {
     let mut err = rt.stderr();
     match read_words(rt) {
-        Ok(words) => match run_words(rt, words.as_slice()) {
-            Some(status) => status,
-            None => print_usage(&mut err),
-        },
+        Ok(words) => run_words(rt, words.as_slice()),
         Err(error) => print_bad_words(&mut err, &error),
     }
 }
@@ -68,46 +70,39 @@ fn read_words(rt: &HostRuntime) -> io::Result<Vec<String>> {
     Ok(words)
 }
 
-// Runs the command of these words. None is for words that are no command.
-fn run_words(rt: &HostRuntime, words: &[String]) -> Option<u8> {
-    let (command, operands) = words.split_first()?;
-    let command = command.as_str();
-    if let Some(text) = help_of(command, operands) {
-        return Some(print(rt, text));
-    }
-    match command {
-        "session" if operands.is_empty() => Some(session(rt)),
-        "solve" => {
-            let (cnf, options) = operands.split_first()?;
-            let found = solve_words(options)?;
-            Some(solve(rt, cnf.as_str(), &found))
-        }
-        "check" => {
-            let found = check_words(operands)?;
-            Some(check(rt, &found))
-        }
-        _ => None,
+// Does what these words ask for.
+fn run_words(rt: &HostRuntime, words: &[String]) -> u8 {
+    match asked_by(words, is_first_a_file(rt, words)) {
+        Ok(Asked::Text(text)) => print(rt, text),
+        Ok(Asked::Session) => session(rt),
+        Ok(Asked::Solve(cnf, found)) => solve(rt, cnf, &found),
+        Ok(Asked::Check(found)) => check(rt, &found),
+        Err(mistake) => print_mistake(rt, &mistake),
     }
 }
 
-// The text that the words ask for, if they ask for one: on the whole program, or on a command whose name they begin with.
-fn help_of(command: &str, operands: &[String]) -> Option<&'static str> {
-    let Some((operand, others)) = operands.split_first() else {
-        return match command {
-            "--help" | "-h" => Some(HELP),
-            "--version" => Some(VERSION),
-            _ => None,
-        };
+// Whether the first word names standard input, or a file that is there and no folder.
+fn is_first_a_file(rt: &HostRuntime, words: &[String]) -> bool {
+    let Some(word) = words.first() else {
+        return false;
     };
-    if !others.is_empty() || !matches!(operand.as_str(), "--help" | "-h") {
-        return None;
+    if word.as_str() == STANDARD_INPUT {
+        return true;
     }
-    match command {
-        "solve" => Some(SOLVE_HELP),
-        "check" => Some(CHECK_HELP),
-        "session" => Some(SESSION_HELP),
-        _ => None,
+    match fs::metadata(rt, word.as_str()) {
+        Ok(found) => !found.is_dir(),
+        Err(_) => false,
     }
+}
+
+// Tells how the program is called, and a person at a terminal first what was wrong. Other programs rely on the one line.
+fn print_mistake(rt: &HostRuntime, mistake: &Mistake<'_>) -> u8 {
+    let mut err = rt.stderr();
+    if err.is_terminal() {
+        // A writer that fails here leaves nothing to report.
+        let _ = writeln!(err, "error: {mistake}");
+    }
+    print_usage(&mut err)
 }
 
 // Prints a text on standard output.
@@ -117,177 +112,6 @@ fn print(rt: &HostRuntime, text: &str) -> u8 {
         Ok(()) => STATUS_DONE,
         Err(error) => print_fault(&mut err, &error),
     }
-}
-
-// What `check` is asked for: two files, how the proof is written, and whether its lines may be those of solvers that
-// simplify.
-#[derive(Clone, Copy)]
-struct CheckWords<'a> {
-    cnf: &'a str,
-    proof: &'a str,
-    format: ProofFormat,
-    is_drat: bool,
-}
-
-// Reads the words of `check`: the options come behind the files, in any order, but `--drat` may come first.
-fn check_words(words: &[String]) -> Option<CheckWords<'_>> {
-    let (first, behind) = words.split_first()?;
-    let is_first = first.as_str() == DRAT_OPTION;
-    let operands = if is_first { behind } else { words };
-    let (cnf, others) = operands.split_first()?;
-    let (proof, options) = others.split_first()?;
-    let mut found = CheckWords {
-        cnf: cnf.as_str(),
-        proof: proof.as_str(),
-        format: ProofFormat::Drat,
-        is_drat: is_first,
-    };
-    for option in options {
-        found.set(option.as_str())?;
-    }
-    if found.is_drat && found.format == ProofFormat::Marked {
-        return None;
-    }
-    Some(found)
-}
-
-// The option by which `check` takes lines of solvers that simplify.
-const DRAT_OPTION: &str = "--drat";
-
-impl CheckWords<'_> {
-    // Takes an option. None is for one that there is not, or that came before.
-    fn set(&mut self, option: &str) -> Option<()> {
-        match option {
-            DRAT_OPTION if !self.is_drat => self.is_drat = true,
-            "--binary" if self.format == ProofFormat::Drat => {
-                self.format = ProofFormat::BinaryDrat;
-            }
-            "--marked" if self.format == ProofFormat::Drat => self.format = ProofFormat::Marked,
-            _ => return None,
-        }
-        Some(())
-    }
-}
-
-// After how many steps each `--progress` reports how far the search is.
-const PROGRESS_INTERVAL: u64 = 10_000;
-
-// The least heap that a solver can be given, in bytes.
-const LEAST_HEAP: u64 = 4096;
-
-// The options of `solve`: where a proof goes, whether it is binary or marked, whether the search is checked, whether it is
-// reported how far it is, whether the formula is simplified, a limit of steps, and the size of the solver's heap.
-#[derive(Drop)]
-struct SolveWords<'a> {
-    proof: Option<&'a str>,
-    is_binary: bool,
-    is_marked: bool,
-    is_checked: bool,
-    is_shown: bool,
-    simplification: Option<Simplification>,
-    max_steps: Option<u64>,
-    heap: Option<usize>,
-}
-
-impl<'a> SolveWords<'a> {
-    // Takes an option with its value. None is for one that there is not, one that came before, and a value out of range.
-    fn set(&mut self, option: &str, value: &'a str) -> Option<()> {
-        match option {
-            "--proof" if self.proof.is_none() => self.proof = Some(value),
-            "--max-steps" if self.max_steps.is_none() => {
-                self.max_steps = Some(parse_number(value.as_bytes())?);
-            }
-            "--heap" if self.heap.is_none() => self.heap = Some(heap_size(value)?),
-            _ => return None,
-        }
-        Some(())
-    }
-
-    // Whether options are among them that exclude each other, or a format of a proof that is not asked for.
-    fn is_contradictory(&self) -> bool {
-        let is_named = self.is_binary || self.is_marked;
-        let is_simplified = matches!(self.simplification, Some(Simplification::Always));
-        (self.is_binary && self.is_marked)
-            || (is_named && self.proof.is_none())
-            || (self.is_marked && is_simplified)
-    }
-
-    // What they ask of the command.
-    fn options(&self) -> ProgramOptions {
-        ProgramOptions {
-            search: SolveOptions {
-                check: self.is_checked,
-                max_steps: self.max_steps,
-                progress: self.is_shown.then_some(PROGRESS_INTERVAL),
-                format: proof_format(self.is_binary, self.is_marked),
-            },
-            simplification: self.simplification.unwrap_or(Simplification::IfLong),
-        }
-    }
-}
-
-// The size of a heap, unless it is too small.
-fn heap_size(value: &str) -> Option<usize> {
-    match parse_number(value.as_bytes()) {
-        Some(bytes) if bytes >= LEAST_HEAP => usize::try_from(bytes).ok(),
-        _ => None,
-    }
-}
-
-// How a proof is written; not both are asked for.
-fn proof_format(is_binary: bool, is_marked: bool) -> ProofFormat
-    ensures { MatchBool is_binary (result ≡ ProofFormat.BinaryDrat)
-        (MatchBool is_marked (result ≡ ProofFormat.Marked) (result ≡ ProofFormat.Drat)) }
-{
-    if is_binary {
-        ProofFormat::BinaryDrat
-    } else if is_marked {
-        ProofFormat::Marked
-    } else {
-        ProofFormat::Drat
-    }
-}
-
-// Reads the options of `solve`, in any order, each at most once, `--binary` and `--marked` only with `--proof`. Not both of
-// these are taken, and not both of `--simplify` and `--no-simplify`. Under `--marked` nothing is simplified, and so
-// `--simplify` is not taken.
-fn solve_words(words: &[String]) -> Option<SolveWords<'_>> {
-    let mut found = SolveWords {
-        proof: None,
-        is_binary: false,
-        is_marked: false,
-        is_checked: false,
-        is_shown: false,
-        simplification: None,
-        max_steps: None,
-        heap: None,
-    };
-    // The option whose value comes next.
-    let mut option: Option<&str> = None;
-    for word in words {
-        let word = word.as_str();
-        match option {
-            Some(name) => {
-                found.set(name, word)?;
-                option = None;
-            }
-            None if word == "--binary" && !found.is_binary => found.is_binary = true,
-            None if word == "--marked" && !found.is_marked => found.is_marked = true,
-            None if word == "--check" && !found.is_checked => found.is_checked = true,
-            None if word == "--progress" && !found.is_shown => found.is_shown = true,
-            None if word == "--simplify" && found.simplification.is_none() => {
-                found.simplification = Some(Simplification::Always);
-            }
-            None if word == "--no-simplify" && found.simplification.is_none() => {
-                found.simplification = Some(Simplification::Never);
-            }
-            None => option = Some(word),
-        }
-    }
-    if option.is_some() || found.is_contradictory() {
-        return None;
-    }
-    Some(found)
 }
 
 // Runs a session on the standard streams.
@@ -301,9 +125,6 @@ fn session(rt: &HostRuntime) -> u8 {
 
 // A proof that is written to a file.
 type FileTarget = IoTarget<BufWriter<File>>;
-
-// What FILE is called where the formula comes on standard input.
-const STANDARD_INPUT: &str = "-";
 
 // The file that the system has for standard input.
 const INPUT_FILE: &str = "/dev/stdin";
@@ -320,13 +141,13 @@ const PRINTED_FILE: &str = "what is printed goes to this file, which a proof wou
 fn solve(rt: &HostRuntime, path: &str, words: &SolveWords<'_>) -> u8 {
     if path == STANDARD_INPUT {
         let found = fs::metadata(rt, INPUT_FILE).ok();
-        return solve_from(rt, rt.reader(), found, words);
+        return solve_from(rt, path, rt.reader(), found, words);
     }
     let mut err = rt.stderr();
     match open_text(rt, path) {
         Ok(cnf) => {
             let found = cnf.metadata().ok();
-            solve_from(rt, cnf, found, words)
+            solve_from(rt, path, cnf, found, words)
         }
         Err(error) => print_file_fault(&mut err, path, &error),
     }
@@ -335,6 +156,7 @@ fn solve(rt: &HostRuntime, path: &str, words: &SolveWords<'_>) -> u8 {
 // Decides the formula that a reader gives, which has this metadata, if they are known.
 fn solve_from<R: Read + Drop>(
     rt: &HostRuntime,
+    path: &str,
     cnf: R,
     found: Option<Metadata>,
     words: &SolveWords<'_>,
@@ -348,7 +170,7 @@ fn solve_from<R: Read + Drop>(
         return print_file_fault(&mut err, proof_path, &PRINTED_FILE);
     }
     match create_target(rt, words.proof) {
-        Ok(mut proof) => decide_from(rt, cnf, &mut proof, words),
+        Ok(mut proof) => decide_from(rt, path, cnf, &mut proof, words),
         Err(error) => print_file_fault(&mut err, proof_path, &error),
     }
 }
@@ -356,6 +178,7 @@ fn solve_from<R: Read + Drop>(
 // Decides the formula that a reader gives, with a proof if there is a target for it.
 fn decide_from<R: Read + Drop>(
     rt: &HostRuntime,
+    path: &str,
     cnf: R,
     proof: &mut Option<FileTarget>,
     words: &SolveWords<'_>,
@@ -367,6 +190,7 @@ fn decide_from<R: Read + Drop>(
         Ok(out) => decide_in_heap(
             rt,
             words.heap,
+            path,
             &mut ReadSource::new(cnf),
             proof,
             words.options(),
@@ -435,6 +259,7 @@ fn refuse_stream(number: RawFd) -> io::Result<()> {
 fn decide_in_heap<R: Read + Drop, T: ProofTarget, E: Write>(
     rt: &HostRuntime,
     heap: Option<usize>,
+    path: &str,
     cnf: &mut ReadSource<R>,
     proof: &mut Option<FileTarget>,
     options: ProgramOptions,
@@ -450,9 +275,9 @@ fn decide_in_heap<R: Read + Drop, T: ProofTarget, E: Write>(
         ⊎ ((result ≡ fault_status) × (T.taken out.new ≡ T.taken out.old)) }
 {
     match heap {
-        None => solve_lines(rt.alloc(), cnf, proof, options, rt, out, err),
+        None => solve_lines(rt.alloc(), path, cnf, proof, options, rt, out, err),
         Some(size) => match LocalHeap::new(rt.alloc(), size) {
-            Ok(heap) => solve_lines(&heap, cnf, proof, options, rt, out, err),
+            Ok(heap) => solve_lines(&heap, path, cnf, proof, options, rt, out, err),
             Err(_) => print_fault(err, &SolverError::OutOfMemory),
         },
     }
@@ -485,13 +310,61 @@ fn check_from<R: Read + Drop>(rt: &HostRuntime, cnf: R, words: &CheckWords<'_>) 
     match BufWriter::new(rt.alloc(), io::writer(rt)) {
         Ok(out) => {
             let mut out = IoTarget::new(out);
-            if words.is_drat {
+            let status = if words.is_drat {
                 check_drat_texts(rt, &mut cnf, &mut proof, format, &mut out, &mut err)
             } else {
                 check_texts(rt, &mut cnf, &mut proof, words.format, &mut out, &mut err)
-            }
+            };
+            let _ = explain(rt, words, status);
+            status
         }
         Err(error) => print_fault(&mut err, &error),
+    }
+}
+
+// Tells more of a status: the fault of a text in words, or why a proof is not verified, which `--drat` tells anyhow. Files are
+// read once more for that, and nothing is told of what comes by a pipe.
+fn explain(rt: &HostRuntime, words: &CheckWords<'_>, status: u8) -> io::Result<()> {
+    let is_wrong = status == STATUS_NOT_VERIFIED && !words.is_drat;
+    if !is_wrong && status != STATUS_FAULT || !is_kept(rt, words.cnf) {
+        return Ok(());
+    }
+    let mut err = rt.stderr();
+    let cnf = open_text(rt, words.cnf)?;
+    if !is_wrong {
+        tell_fault(rt, &mut err, words.cnf, cnf);
+    } else if is_kept(rt, words.proof) {
+        if let Some(reason) = reason_of(rt, cnf, open_text(rt, words.proof)?, words.format) {
+            writeln!(err, "{reason}")?;
+            if let Reason::IsNoLine(_) = reason {
+                tell_format(rt, words, &mut err)?;
+            }
+        }
+    }
+    Ok(())
+}
+
+// Whether a name is that of a file that can be read again.
+fn is_kept(rt: &HostRuntime, path: &str) -> bool {
+    match fs::metadata(rt, path) {
+        Ok(found) => found.is_file() && path != STANDARD_INPUT,
+        Err(_) => false,
+    }
+}
+
+// Tells which format a proof seems to have, if that is not the one in which it was read.
+fn tell_format<E: Write>(rt: &HostRuntime, words: &CheckWords<'_>, err: &mut E) -> io::Result<()> {
+    match (words.format, head_format(rt, words.proof)?) {
+        (ProofFormat::BinaryDrat, ProofFormat::Drat) => {
+            writeln!(err, "it looks like text, which is read without --binary")
+        }
+        (ProofFormat::Drat | ProofFormat::Marked, ProofFormat::BinaryDrat) => {
+            writeln!(err, "it looks like the binary format, which --binary reads")
+        }
+        (ProofFormat::Drat, ProofFormat::Marked) => {
+            writeln!(err, "it looks like marked text, which --marked reads")
+        }
+        _ => Ok(()),
     }
 }
 
@@ -506,23 +379,39 @@ fn is_text_byte(byte: u8) -> bool {
     )
 }
 
+// Whether a byte is a mark of a line in marked text.
+fn is_mark(byte: u8) -> bool {
+    matches!(byte, b'i' | b'q' | b'f')
+}
+
 // The format of the proof. With `--drat` and without `--binary` it goes by the first bytes, if the file can be read twice.
 fn found_format(rt: &HostRuntime, words: &CheckWords<'_>) -> io::Result<ProofFormat> {
     if !words.is_drat || words.format != ProofFormat::Drat {
         return Ok(words.format);
     }
-    let mut file = open_text(rt, words.proof)?;
+    match head_format(rt, words.proof)? {
+        ProofFormat::Drat => Ok(ProofFormat::Drat),
+        ProofFormat::BinaryDrat | ProofFormat::Marked => Ok(ProofFormat::BinaryDrat),
+    }
+}
+
+// The format that the first bytes of a file seem to have; text, if it cannot be read twice.
+fn head_format(rt: &HostRuntime, path: &str) -> io::Result<ProofFormat> {
+    let mut file = open_text(rt, path)?;
     if !file.metadata()?.is_file() {
         return Ok(ProofFormat::Drat);
     }
     let mut head = [0; HEAD];
     let size = file.read(&mut head)?;
+    let mut found = ProofFormat::Drat;
     for byte in &head[..size] {
-        if !is_text_byte(*byte) {
+        if is_mark(*byte) {
+            found = ProofFormat::Marked;
+        } else if !is_text_byte(*byte) {
             return Ok(ProofFormat::BinaryDrat);
         }
     }
-    Ok(ProofFormat::Drat)
+    Ok(found)
 }
 
 // Checks the proof that a file gives, whose lines may be those of solvers that simplify. The status is 0 only where no

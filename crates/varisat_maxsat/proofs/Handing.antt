@@ -1,11 +1,11 @@
 -- Solutions are handed on.
-use Rattle.std.proofs.Common.{◌≡◌, ℕ, ◌<◌, ◌≤◌, Bool, true, false, List, [], ◌∷◌, refl, sym, ap, ◌∙◌, subst, arith}
+use Rattle.std.proofs.Common.{◌≡◌, ◌≢◌, ℕ, ◌<◌, ◌≤◌, Bool, true, false, List, [], ◌∷◌, refl, sym, ap, ◌∙◌, subst, arith}
 use Rattle.std.specs.Prelude.{Option, Some, None, option_map, Result, Ok, Err, IfSome, IfErr, IsSomeAnd, IsErr, IsErrAnd, MatchResult, ◌↔◌}
 use Rattle.varisat_theory.specs.promises.Literals.{IsSatisfiable}
 use Rattle.varisat_formula.specs.promises.Values.{assignment_of}
 use Rattle.varisat_maxsat.specs.promises.Problems.{Problem, cost, IsSolution, IsOptimum, Found, found_of, Improve, last_found, IsStopped}
 use Rattle.varisat_maxsat.specs.declared.refusal.MaxSatError.{MaxSatError}
-use Rattle.varisat_maxsat.specs.declared.refusal.MaxSatError.TheVariants.{StepsSpent, Ended}
+use Rattle.varisat_maxsat.specs.declared.refusal.MaxSatError.TheVariants.{Ended}
 use Rattle.varisat_maxsat.specs.declared.solving.Solution.{Solution}
 use Rattle.varisat_maxsat.specs.inside.Reductions.{Took, EndsBySink, IfSomeSolution, IfSomeOptimum}
 
@@ -139,11 +139,19 @@ pub handed-so-far : {S A : Type 0} (takes : S → List Found → S → Type 0) (
 handed-so-far takes p o ended x s P f b =
     (b.found, b.improve, b.taken, f b.found (b.ends, last-stops o b.found b.goes_on ended b.last b.stops))
 
--- an error where the search went on
-pub other-error : {X : Type 0} (r : Result X MaxSatError) (d : MaxSatError) (fs : List Found) (P : X → Type 0) → IsErr r × IsErrAnd r (λ e. e ≡ d) → (d ≡ Ended → ⊥) →
-    (⊥ ↔ IsStopped fs) → MatchResult r P (λ e. e ≡ Ended ↔ IsStopped fs)
-other-error (Ok x) d fs P (_, h) l s = absurd h
-other-error (Err e) d fs P (_, h) l s = (λ i. absurd (l (sym h ∙ i)), λ i. absurd (s.1 i))
+no-last : (fs : List Found) → last_found fs ≡ None → fs ≡ []
+no-last [] e = refl
+no-last (f ∷ fs) e = absurd cc
 
-pub other-end : (e : MaxSatError) → e ≡ StepsSpent → e ≡ Ended → ⊥
-other-end e s n = cc
+-- there is no solution
+pub handed-nothing : {S A : Type 0} (takes : S → List Found → S → Type 0) (p : Problem) (o : Option (Solution A))
+    (ended : Type 0) (x s : S) (P : List Found → Type 0) → o ≡ None → ((found : List Found) → found ≡ [] → P found) →
+    Took takes x p (λ b. option_map (found_of b) o) ended s → (found : List Found) × Improve p found × takes x found s × P found
+handed-nothing takes p o ended x s P e f b =
+    (b.found, b.improve, b.taken, f b.found (no-last b.found (b.last ∙ ap (option_map (found_of b.goes_on)) e)))
+
+-- an error where nothing was found
+pub other-error : {X : Type 0} (r : Result X MaxSatError) (d : MaxSatError) (fs : List Found) (P : X → Type 0) → IsErr r × IsErrAnd r (λ e. e ≡ d) → (d ≡ Ended → ⊥) →
+    fs ≡ [] → MatchResult r P (λ e. (e ≡ Ended ↔ IsStopped fs) × (e ≢ Ended → fs ≡ []))
+other-error (Ok x) d fs P (_, h) l n = absurd h
+other-error (Err e) d fs P (_, h) l n = ((λ i. absurd (l (sym h ∙ i)), λ s. absurd (subst IsStopped n s)), λ _. n)

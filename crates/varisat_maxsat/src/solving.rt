@@ -1,5 +1,5 @@
 //! Solving.
-ghost use Rattle.std.specs.Prelude.{◌≡◌, ◌≢◌, ◌<◌, ◌≤◌, ◌^◌, List, OnOk, IfOk, IfErr, IfSome, IsSomeAnd, MatchOption, MatchResult, IsTrue, IsFalse, true, false};
+ghost use Rattle.std.specs.Prelude.{◌≡◌, ◌≢◌, ◌<◌, ◌≤◌, ◌^◌, None, List, OnOk, IfOk, IfErr, IfSome, IsSomeAnd, MatchOption, MatchResult, IsTrue, IsFalse, true, false};
 ghost use Rattle.varisat_theory.specs.promises.Literals.{IsSatisfiable};
 ghost use Rattle.varisat_maxsat.specs.promises.Problems.{Problem as Asked, IsSolution, IsOptimum, IsOptimumOrSolution, CostsAtLeast, IsTooCostly, starting, Found, Improve, ReturnsFound};
 ghost use Rattle.varisat_maxsat.specs.declared.refusal.MaxSatError.TheVariants.{CostOverflow, Ended};
@@ -315,17 +315,18 @@ fn decide<A: Allocator + Copy, S: SolutionSink>(
     Ok(ended)
 }
 
-/// The best solution, as an optimum or not.
+/// The best solution, as an optimum or not. The error is for where there is none.
 fn answer<A: Allocator + Copy>(
     best: Option<Solution<A>>,
     is_optimum: bool,
+    error: MaxSatError,
 ) -> Result<Solution<A>, MaxSatError>
     ensures answer { IfOk result
         (λ s. (p : Asked) → IfSome best (λ t. IsOptimumOrSolution is_optimum p t.cost t.values.items) →
         IsOptimumOrSolution s.is_optimum p s.cost s.values.items) }
     ensures same { IfOk result
         (λ s. IsSomeAnd best (λ t. (t.cost ≡ s.cost) × (t.values.items ≡ s.values.items))) }
-    ensures limit { IfErr result IsLimit }
+    ensures none { IfErr result (λ e. (e ≡ error) × (best ≡ None)) }
 {
     match best {
         Some(solution) => Ok(Solution {
@@ -333,7 +334,7 @@ fn answer<A: Allocator + Copy>(
             values: solution.values,
             is_optimum,
         }),
-        None => Err(MaxSatError::StepsSpent),
+        None => Err(error),
     }
 }
 
@@ -374,23 +375,24 @@ fn solve<A: Allocator + Copy, S: SolutionSink>(
             if !found {
                 return Ok(None);
             }
-            let optimum = answer(best, true)?;
+            let optimum = answer(best, true, MaxSatError::StepsSpent)?;
             Ok(Some(optimum))
         }
         Err(error) => {
-            if error != MaxSatError::StepsSpent {
+            if error == MaxSatError::Ended {
                 return Err(error);
             }
-            let solution = answer(best, false)?;
+            let solution = answer(best, false, error)?;
             Ok(Some(solution))
         }
     }
 }
 
-/// The optimum of the problem, or where the searches would make more than so many steps in all the best solution until
-/// then. None is for a problem whose hard clauses no assignment satisfies. Each solution that costs less than those
-/// before it is handed on to the sink, the one that is returned last. Where the sink says that the search is not to go
-/// on, no more is handed on, and the error is `Ended`, as nowhere else.
+/// The optimum of the problem, or where a limit is met, as by searches that would make more than so many steps in all,
+/// the best solution until then; an error where there is none. None is for a problem whose hard clauses no assignment
+/// satisfies. Each solution that costs less than those before it is handed on to the sink, the one that is returned
+/// last. Where the sink says that the search is not to go on, no more is handed on, and the error is `Ended`, as nowhere
+/// else.
 pub fn optimize_within<A: Allocator + Copy, S: SolutionSink>(
     problem: &Problem<A>,
     steps: Option<u64>,
@@ -411,7 +413,8 @@ pub fn optimize_within<A: Allocator + Copy, S: SolutionSink>(
     found
 }
 
-/// The optimum of the problem. None is for one whose hard clauses no assignment satisfies.
+/// The optimum of the problem. None is for one whose hard clauses no assignment satisfies. Where a limit is met behind a
+/// solution, as nearly always of memory, the error is `OutOfMemory`; `optimize_within` returns that solution.
 pub fn optimize<A: Allocator + Copy>(
     problem: &Problem<A>,
     alloc: A,
@@ -425,7 +428,7 @@ pub fn optimize<A: Allocator + Copy>(
         return Ok(None);
     };
     if !solution.is_optimum {
-        return Err(MaxSatError::StepsSpent);
+        return Err(MaxSatError::OutOfMemory);
     }
     Ok(Some(Optimum {
         cost: solution.cost,

@@ -4,3 +4,4 @@ pub mod LeadBehind
 pub mod ExtendedModels
 pub mod DecidedBehind
 pub mod SimplifiedTexts
+mod ShownTexts

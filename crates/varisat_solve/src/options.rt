@@ -29,6 +29,8 @@ pub struct ProgramOptions {
     pub search: SolveOptions,
     /// Which formulas are simplified before they are searched. If the proof is marked text, none is.
     pub simplification: Simplification,
+    /// Whether a model that is found is printed.
+    pub shows_model: bool,
 }
 
 /// Whether these options let any formula be simplified: they do not ask for none, and not for a proof as marked text.

@@ -1,23 +1,29 @@
 //! What `solve` prints, and its status.
-ghost use Rattle.std.specs.Prelude.{◌≡◌, ◌-◌, ◌^◌, ◌<◌};
-ghost use Rattle.varisat.specs.promises.Decided.{StatusIsTrue};
+ghost use Rattle.std.specs.Prelude.{◌≡◌, ◌-◌, ◌^◌, ◌<◌, false};
+ghost use Rattle.varisat_formula.specs.promises.Written.{Puts};
+ghost use Rattle.varisat.specs.promises.Decided.{StatusIsTrue, concluded};
 ghost use Rattle.varisat.specs.promises.Proven.{CanCountFault};
-ghost use Rattle.varisat_solve.specs.promises.Solving.{SolvesFirst};
+ghost use Rattle.varisat_proof.specs.promises.Verified.{fault_status};
+ghost use Rattle.varisat_solve.specs.promises.Solving.{SolvesFirst, shown_text};
 
 use crate::deciding::decide;
 pub use crate::options::{ProgramOptions, Simplification};
 use std::alloc::Allocator;
-use std::io::Write;
+use std::io::{self, Write};
 use std::time::Clock;
+use varisat::dimacs::{DimacsError, DimacsErrorKind};
 use varisat::io::{ByteSource, ProofTarget};
 pub use varisat::program::SolveOptions;
-use varisat::program::{print_fault, print_report, status_of};
+use varisat::program::{Report, STATUS_SATISFIABLE, print_fault, print_report, status_of};
+use varisat::solver::SolverError;
+use varisat_proof::program::print_text;
 
 /// Reads a DIMACS CNF text and decides it, as `varisat::program::solve_lines` does, except that the text's formula may be
 /// simplified before it is searched: `options.simplification` says which formulas are. A model is one of the text's formula,
 /// and a proof one from the text's clauses. A proof as marked text gives each clause of the text, and so no formula is
 /// simplified then. A formula that is not simplified is searched as `varisat::program::solve_lines` searches it, with the
-/// same steps, model and proof. With `progress` it is reported on `err` what simplifying left, and how long it took.
+/// same steps, model and proof. With `progress` it is reported on `err` what simplifying left, and how long it took. Without
+/// `shows_model` no line `v` is printed. A fault of the text, which is in the file of this name, is told in words too.
 pub fn solve_lines<
     A: Allocator + Copy,
     S: ByteSource,
@@ -27,6 +33,7 @@ pub fn solve_lines<
     C: Clock,
 >(
     alloc: A,
+    name: &str,
     cnf: &mut S,
     proof: &mut Option<P>,
     options: ProgramOptions,
@@ -45,10 +52,76 @@ pub fn solve_lines<
     ensures truth { StatusIsTrue (S.input cnf.old) (S.input cnf.new) result }
 {
     match decide(alloc, cnf, proof, options, clock, err) {
-        Ok(report) => match print_report(out, &report) {
+        Ok(report) => match print_shown(out, &report, options.shows_model) {
             Ok(()) => status_of(&report),
             Err(error) => print_fault(err, &error),
         },
-        Err(refusal) => print_fault(err, &refusal),
+        Err(refusal) => print_refusal(err, name, &refusal),
+    }
+}
+
+/// Prints what a text was found to be, and a model only if it is to be shown.
+fn print_shown<T: ProofTarget, A: Allocator + Copy>(
+    out: &mut T,
+    report: &Report<A>,
+    shows_model: bool,
+) -> io::Result<()>
+    requires { (T.taken out.old).faults < 2 ^ 64 - 1 }
+    ensures { Puts (T.taken out.old) result (shown_text shows_model (concluded report.now)) (T.taken out.new) }
+{
+    if shows_model {
+        print_report(out, report)
+    } else {
+        print_verdict(out, report)
+    }
+}
+
+/// Prints what a text was found to be, of a model only that there is one.
+fn print_verdict<T: ProofTarget, A: Allocator + Copy>(
+    out: &mut T,
+    report: &Report<A>,
+) -> io::Result<()>
+    requires { (T.taken out.old).faults < 2 ^ 64 - 1 }
+    ensures { Puts (T.taken out.old) result (shown_text false (concluded report.now)) (T.taken out.new) }
+{
+    if status_of(report) == STATUS_SATISFIABLE {
+        print_text(out, b"s SATISFIABLE\n")
+    } else {
+        print_report(out, report)
+    }
+}
+
+/// Tells why a text is not decided. Of a fault in it a second line has the file, the line and the reason, as compilers tell
+/// them. Returns the status of a fault.
+fn print_refusal<E: Write>(err: &mut E, name: &str, refusal: &SolverError) -> u8
+    ensures { result ≡ fault_status }
+{
+    let status = print_fault(err, refusal);
+    if let SolverError::Dimacs { cause } = refusal {
+        tell_text_fault(err, name, cause);
+    }
+    status
+}
+
+/// Tells the fault of the text in the file of this name: the file, the line and the reason in words.
+pub fn tell_text_fault<E: Write>(err: &mut E, name: &str, fault: &DimacsError) {
+    let (line, reason) = (fault.line, reason_of(fault.kind));
+    // A writer that fails here leaves nothing to report.
+    let _ = writeln!(err, "{name}:{line}: {reason}");
+}
+
+/// What is wrong with a text, in words.
+fn reason_of(kind: DimacsErrorKind) -> &'static str {
+    match kind {
+        DimacsErrorKind::UnexpectedInput => "expected the number of a literal, or 0",
+        DimacsErrorKind::LiteralTooLarge => "there are no more than 268435456 variables",
+        DimacsErrorKind::InvalidHeader => {
+            "expected p cnf VARIABLES CLAUSES, once and in front of the clauses"
+        }
+        DimacsErrorKind::VarCount => "the header tells fewer variables",
+        DimacsErrorKind::ClauseCount => "the header tells another number of clauses",
+        DimacsErrorKind::UnterminatedClause => "the text ends within a clause, without 0",
+        DimacsErrorKind::Io => "the text could not be read further",
+        DimacsErrorKind::OutOfMemory => "out of memory",
     }
 }

@@ -6,8 +6,8 @@ use Rattle.std.proofs.lemmas.List.{take_all}
 use Rattle.varisat_theory.specs.promises.Literals.{IsSatisfiable}
 use Rattle.varisat_formula.specs.promises.Streams.{Taken}
 use Rattle.varisat_formula.proofs.TargetParts.{begin_part}
-use Rattle.varisat_maxsat.specs.promises.Problems.{Problem, IsOptimumOrSolution, Found, Improve, last_found}
-use Rattle.varisat_wcnf.specs.promises.Printed.{value_digits, solution_status, solution_text, cost_line, cost_lines, PrintsBeginning, PrintsText, PrintsAnswer, Solved, Unsatisfiable, Unknown, CostsAlone}
+use Rattle.varisat_maxsat.specs.promises.Problems.{Problem, IsOptimumOrSolution, Found, Improve, last_found, IsStopped}
+use Rattle.varisat_wcnf.specs.promises.Printed.{value_digits, solution_status, solution_text, cost_line, cost_lines, PrintsBeginning, PrintsText, PrintsAnswer, Solved, Unsatisfiable, Unknown, CostsAlone, BrokenOff}
 use Rattle.varisat_wcnf.specs.inside.Costs.{PrintsCosts}
 
 digits-more : (vs : List Bool) (i : ℕ) (d : Bool) → i < length vs →
@@ -51,18 +51,19 @@ pub joins : (first second : List ℕ) (old mid new : Taken) → mid.bytes ≡ ol
 joins first second old mid new e b = b ∙ ap (λ x. x ++ second) e ∙ append_assoc old.bytes first second
 
 -- a line more, where all was printed
-pub prints-line : {E : Type 0} (fault : Option E) (k : ℕ) (f : Found) (fs : List Found) (old mid new : Taken) → is_some fault ≡ false → f.cost ≡ k →
+pub prints-line : {E : Type 0} (fault : Option E) (k : ℕ) (f : Found) (fs : List Found) (old mid new : Taken) → is_some fault ≡ false → f.cost ≡ k → f.goes_on ≡ true →
     new.bytes ≡ mid.bytes ++ cost_line k → new.faults ≡ mid.faults → PrintsCosts fault fs old mid → PrintsCosts fault (f ∷ fs) old new
-prints-line None k f fs old mid new none c b q (before, quiet) = (
+prints-line None k f fs old mid new none c on b q (before, quiet, _) = (
   b ∙ ap (λ n. mid.bytes ++ cost_line n) (sym c) ∙ ap (λ x. x ++ cost_line f.cost) before ∙ append_assoc old.bytes (cost_lines fs) (cost_line f.cost),
   q ∙ quiet,
+  λ stopped. absurd (let e : true ≡ false = sym on ∙ stopped in cc),
 )
-prints-line (Some e) k f fs old mid new none c b q h = absurd cc
+prints-line (Some e) k f fs old mid new none c on b q h = absurd cc
 
 pub prints-part : {E : Type 0} (fault : Option E) (e : E) (k : ℕ) (f : Found) (fs : List Found) (old mid new : Taken) → is_some fault ≡ false → f.cost ≡ k →
     PrintsBeginning (cost_line k) mid new → (mid.faults < 2 ^ 64 - 1 → new.faults ≡ mid.faults + 1) → old.faults < 2 ^ 64 - 1 →
     PrintsCosts fault fs old mid → PrintsCosts (Some e) (f ∷ fs) old new
-prints-part None e k f fs old mid new none c (n, b) more h (before, quiet) = (
+prints-part None e k f fs old mid new none c (n, b) more h (before, quiet, _) = (
   (
     length (cost_lines fs) + n,
     b ∙ ap (λ m. mid.bytes ++ take n (cost_line m)) (sym c) ∙ ap (λ x. x ++ take n (cost_line f.cost)) before
@@ -111,26 +112,26 @@ pub unsatisfied : (p : Problem) (found : List Found) (old mid new : Taken) (r : 
 unsatisfied p found old mid new r n s e g h =
     Unsatisfiable n (prints-behind [] (codes "s UNSATISFIABLE\n") 20 old mid new r (subst (λ fs. mid.bytes ≡ old.bytes ++ cost_lines fs) s e) g h)
 
-pub unknown : (p : Problem) (found : List Found) (old mid new : Taken) (r : ℕ) → Improve p found → mid.bytes ≡ old.bytes ++ cost_lines found →
+pub unknown : (p : Problem) (found : List Found) (old mid new : Taken) (r : ℕ) → found ≡ [] → mid.bytes ≡ old.bytes ++ cost_lines found →
     mid.faults ≡ old.faults → PrintsText (codes "s UNKNOWN\n") 0 mid new r → PrintsAnswer p old new r
-unknown p found old mid new r i e g h = Unknown found i (prints-behind (cost_lines found) (codes "s UNKNOWN\n") 0 old mid new r e g h)
+unknown p found old mid new r none e g h =
+    Unknown (prints-behind [] (codes "s UNKNOWN\n") 0 old mid new r (subst (λ fs. mid.bytes ≡ old.bytes ++ cost_lines fs) none e) g h)
 
 -- printing failed
 pub broken-off : (p : Problem) (found : List Found) (old new : Taken) (r : ℕ) → Improve p found →
     PrintsBeginning (cost_lines found) old new × (new.faults ≡ old.faults + 1) → r ≡ 2 → PrintsAnswer p old new r
-broken-off p found old new r i (b, more) q =
-    Unknown found i (inr (begun-first (cost_lines found) (codes "s UNKNOWN\n") old new b, more, q))
+broken-off p found old new r i (b, more) q = BrokenOff found i b more q
 
 -- two facts of an answer
-pub both-said : {X E : Type 0} (r : Result (Option X) E) (A B : Type 0) (P Q : X → Type 0) (Z : E → Type 0) → IfOk r (λ o. MatchOption o A P) →
-    MatchResult r (λ o. MatchOption o B Q) Z → IfOk r (λ o. MatchOption o (A × B) (λ x. P x × Q x))
-both-said (Ok (Some x)) A B P Q Z h k = (h, k)
-both-said (Ok None) A B P Q Z h k = (h, k)
-both-said (Err e) A B P Q Z h k = h
+pub both-said : {X E : Type 0} (r : Result (Option X) E) (A B : Type 0) (P Q : X → Type 0) (Z W : E → Type 0) → ((e : E) → Z e → W e) →
+    IfOk r (λ o. MatchOption o A P) → MatchResult r (λ o. MatchOption o B Q) Z → MatchResult r (λ o. MatchOption o (A × B) (λ x. P x × Q x)) W
+both-said (Ok (Some x)) A B P Q Z W f h k = (h, k)
+both-said (Ok None) A B P Q Z W f h k = (h, k)
+both-said (Err e) A B P Q Z W f h k = f e k
 
 -- whether all was printed
 pub all-printed : {E : Type 0} (fault : Option E) (found : List Found) (old new : Taken) → fault ≡ None → PrintsCosts fault found old new →
-    (new.bytes ≡ old.bytes ++ cost_lines found) × (new.faults ≡ old.faults)
+    (new.bytes ≡ old.bytes ++ cost_lines found) × (new.faults ≡ old.faults) × (IsStopped found → ⊥)
 all-printed fault found old new e h = subst (λ f. PrintsCosts f found old new) e h
 
 pub part-printed : {E : Type 0} (fault : Option E) (d : E) (found : List Found) (old new : Taken) → fault ≡ Some d → PrintsCosts fault found old new →
@@ -138,20 +139,21 @@ pub part-printed : {E : Type 0} (fault : Option E) (d : E) (found : List Found) 
 part-printed fault d found old new e h = subst (λ f. PrintsCosts f found old new) e h
 
 -- what is known by what was returned
-pub when-some : {X E F : Type 0} (r : Result (Result (Option X) E) F) (q : Result (Option X) E) (o : Option X) (x : X) (A B U : Type 0) (P : X → Type 0)
-    (Z : F → Type 0) → r ≡ Ok q → q ≡ Ok o → o ≡ Some x → MatchResult r (λ s. A × B × IfOk s (λ t. MatchOption t U P)) Z → A × B × P x
-when-some r q o x A B U P Z e f h m =
-    let k = subst (λ y. MatchResult y (λ s. A × B × IfOk s (λ t. MatchOption t U P)) Z) e m in
-    (k.0, k.1, subst (λ y. MatchOption y U P) h (subst (λ y. IfOk y (λ t. MatchOption t U P)) f k.2))
+module _ {X E F : Type 0} (A B C U : Type 0) (P : X → Type 0) (V : E → Type 0) (Z : F → Type 0) where
+  abbrev pub Said : Result (Result (Option X) E) F → Type 0
+  Said r = MatchResult r (λ s. A × B × C × MatchResult s (λ t. MatchOption t U P) V) Z
 
-pub when-none : {X E F : Type 0} (r : Result (Result (Option X) E) F) (q : Result (Option X) E) (o : Option X) (A B U : Type 0) (P : X → Type 0)
-    (Z : F → Type 0) → r ≡ Ok q → q ≡ Ok o → o ≡ None → MatchResult r (λ s. A × B × IfOk s (λ t. MatchOption t U P)) Z → A × B × U
-when-none r q o A B U P Z e f h m =
-    let k = subst (λ y. MatchResult y (λ s. A × B × IfOk s (λ t. MatchOption t U P)) Z) e m in
-    (k.0, k.1, subst (λ y. MatchOption y U P) h (subst (λ y. IfOk y (λ t. MatchOption t U P)) f k.2))
+  pub when-some : (r : Result (Result (Option X) E) F) (q : Result (Option X) E) (o : Option X) (x : X) → r ≡ Ok q → q ≡ Ok o → o ≡ Some x → Said r → A × B × P x
+  when-some r q o x e f h m =
+      let k = subst Said e m in (k.0, k.1, subst (λ y. MatchOption y U P) h (subst (λ y. MatchResult y (λ t. MatchOption t U P) V) f k.3))
 
-pub when-ok : {X F : Type 0} (r : Result X F) (q : X) (A B : Type 0) (P : X → Type 0) (Z : F → Type 0) → r ≡ Ok q → MatchResult r (λ s. A × B × P s) Z → A × B
-when-ok r q A B P Z e m = let k = subst (λ y. MatchResult y (λ s. A × B × P s) Z) e m in (k.0, k.1)
+  pub when-none : (r : Result (Result (Option X) E) F) (q : Result (Option X) E) (o : Option X) → r ≡ Ok q → q ≡ Ok o → o ≡ None → Said r → A × B × U
+  when-none r q o e f h m =
+      let k = subst Said e m in (k.0, k.1, subst (λ y. MatchOption y U P) h (subst (λ y. MatchResult y (λ t. MatchOption t U P) V) f k.3))
 
-pub when-err : {X F : Type 0} (r : Result X F) (e : F) (P : X → Type 0) (Z : F → Type 0) → r ≡ Err e → MatchResult r P Z → Z e
-when-err r e P Z h m = subst (λ y. MatchResult y P Z) h m
+  pub when-failed : (r : Result (Result (Option X) E) F) (q : Result (Option X) E) (d : E) → r ≡ Ok q → q ≡ Err d → Said r → A × B × C × V d
+  when-failed r q d e f m =
+      let k = subst Said e m in (k.0, k.1, k.2, subst (λ y. MatchResult y (λ t. MatchOption t U P) V) f k.3)
+
+  pub when-err : (r : Result (Result (Option X) E) F) (d : F) → r ≡ Err d → Said r → Z d
+  when-err r d e m = subst Said e m

@@ -1,6 +1,6 @@
 //! Prints the cost of each solution as it is found.
 ghost use Rattle.std.specs.Prelude.{◌≡◌, ◌+◌, ◌-◌, ◌<◌, ◌^◌, ◌++◌, List, None, OnOk, OnErr, MatchResult};
-ghost use Rattle.varisat_maxsat.specs.promises.Problems.{Found, Improve};
+ghost use Rattle.varisat_maxsat.specs.promises.Problems.{Found, Improve, IsStopped};
 ghost use Rattle.varisat_wcnf.specs.promises.Printed.{cost_line, cost_lines, PrintsBeginning};
 ghost use Rattle.varisat_wcnf.specs.inside.Costs.{ReturnsLast, PrintsFound};
 
@@ -121,6 +121,7 @@ pub(crate) fn optimize_printing<A: Allocator + Copy, T: ProofTarget>(
     ensures { (found : List Found) × Improve problem.now found × MatchResult result
         (λ r. ((T.taken out.new).bytes ≡ (T.taken out.old).bytes ++ cost_lines found)
         × ((T.taken out.new).faults ≡ (T.taken out.old).faults)
+        × (IsStopped found → ⊥)
         × ReturnsLast problem.now found r)
         (λ _. PrintsBeginning (cost_lines found) (T.taken out.old) (T.taken out.new)
         × ((T.taken out.new).faults ≡ (T.taken out.old).faults + 1)) }

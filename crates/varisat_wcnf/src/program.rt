@@ -3,7 +3,7 @@ ghost use Rattle.std.specs.Prelude.{◌≡◌, ◌⊎◌, ◌-◌, ◌^◌, ◌<
 ghost use Rattle.varisat_wcnf.specs.promises.Printed.{value_digits, solution_text, verdict_line, solution_status, PrintsText, PrintsAnswer, AnswersText};
 
 use crate::costs::optimize_printing;
-use crate::wcnf::parse;
+use crate::wcnf::{WcnfError, parse};
 use std::alloc::{AllocError, Allocator};
 use std::fmt::Display;
 use std::io::Write;
@@ -12,11 +12,14 @@ use varisat_maxsat::problem::Problem;
 use varisat_maxsat::solving::Solution;
 use varisat_proof::program::print_text;
 
-/// The status where a limit was met.
+/// The status where a limit was met before a solution was found.
 pub const STATUS_UNKNOWN: u8 = 0;
 
 /// The status of a fault.
 pub const STATUS_FAULT: u8 = 2;
+
+/// The status of a solution that is not known to be an optimum.
+pub const STATUS_SATISFIABLE: u8 = 10;
 
 /// The status where no assignment satisfies the hard clauses.
 pub const STATUS_UNSATISFIABLE: u8 = 20;
@@ -26,12 +29,13 @@ pub const STATUS_OPTIMUM: u8 = 30;
 
 /// Solves the problem of a WCNF text, and prints the answer as the MaxSAT Evaluations ask for it: a line `o` with the
 /// cost of each solution that costs less than those before it, at once; then `s OPTIMUM FOUND` and `v`, status 30; `s
-/// UNSATISFIABLE`, status 20; or `s UNKNOWN`, status 0, where the searches made the steps that they may, with `v` of
-/// the best solution until then, if there is one, or where they met another limit, as of memory, which is reported on
-/// `err`. A fault of the text or the target, and memory that runs out as the text is read or values are written, are
-/// reported on `err`, and the status is 2.
+/// UNSATISFIABLE`, status 20; where a limit is met, as of steps or of memory, `s SATISFIABLE` and `v` of the best
+/// solution until then, status 10, or where there is none `s UNKNOWN`, status 0, and `err` gets which limit. A fault of
+/// the text is reported on `err` as `PATH:LINE: ` and what was expected, and the status is 2, as where the target fails,
+/// or memory runs out as the text is read or values are written.
 pub fn solve_lines<A: Allocator + Copy, T: ProofTarget, E: Write>(
     alloc: A,
+    path: &str,
     text: &[u8],
     steps: Option<u64>,
     out: &mut T,
@@ -42,7 +46,7 @@ pub fn solve_lines<A: Allocator + Copy, T: ProofTarget, E: Write>(
 {
     match parse(text, alloc) {
         Ok(problem) => solve_problem(alloc, &problem, steps, out, err),
-        Err(error) => tell(err, &error),
+        Err(error) => tell_line(err, path, &error),
     }
 }
 
@@ -110,7 +114,7 @@ fn verdict_of(is_optimum: bool) -> &'static [u8]
     if is_optimum {
         b"s OPTIMUM FOUND\n"
     } else {
-        b"s UNKNOWN\n"
+        b"s SATISFIABLE\n"
     }
 }
 
@@ -121,7 +125,7 @@ fn status_of(is_optimum: bool) -> u8
     if is_optimum {
         STATUS_OPTIMUM
     } else {
-        STATUS_UNKNOWN
+        STATUS_SATISFIABLE
     }
 }
 
@@ -159,6 +163,14 @@ pub fn tell<E: Write, F: Display>(err: &mut E, fault: &F) -> u8
 {
     let _ = writeln!(err, "error: {fault}");
     STATUS_FAULT
+}
+
+/// Tells in which line of a file a fault is, and returns its status.
+fn tell_line<E: Write>(err: &mut E, path: &str, error: &WcnfError) -> u8
+    ensures { result ≡ 2 }
+{
+    let WcnfError { line, fault } = *error;
+    tell(err, &format_args!("{path}:{line}: {fault}"))
 }
 
 /// Tells why a file cannot be read, and returns the status for it.

@@ -1,5 +1,5 @@
 -- What is asked of a solver, and what its answer says.
-use Rattle.std.specs.Prelude.{◌≡◌, ℕ, ◌+◌, ◌^◌, ◌≤◌, ◌<◌, ◌↔◌, max, Option, Some, None, IsSomeAnd, MatchOption, Result, MatchResult, Bool, true, false, if◌then◌else◌, List, [], ◌∷◌, ◌++◌, length}
+use Rattle.std.specs.Prelude.{◌≡◌, ◌≢◌, ℕ, ◌+◌, ◌^◌, ◌≤◌, ◌<◌, ◌↔◌, max, Option, Some, None, IsSomeAnd, MatchOption, Result, MatchResult, Bool, true, false, if◌then◌else◌, List, [], ◌∷◌, ◌++◌, length}
 use Rattle.varisat_theory.specs.promises.Literals.{Clause, Assignment, SatisfiesAll, IsSatisfiable}
 use Rattle.varisat_formula.specs.promises.Values.{assignment_of, is_satisfied}
 use Rattle.varisat_maxsat.specs.declared.refusal.MaxSatError.{MaxSatError}
@@ -97,9 +97,9 @@ last_found (f ∷ fs) = Some f
 abbrev pub IsStopped : List Found → Type 0
 IsStopped fs = IsSomeAnd (last_found fs) (λ f. f.goes_on ≡ false)
 
--- What a search returned that handed these solutions on: the last one, or none where there is none; or an error, which
--- is that it was ended where, and only where, who took them ended it.
+-- What a search returned that handed these solutions on: the last one, or none where there is none; or an error: that it
+-- was ended where, and only where, who took them ended it, and any other one only where there is no solution.
 abbrev pub ReturnsFound : {A : Type 0} → List Found → Result (Option (Solution A)) MaxSatError → Type 0
 ReturnsFound found result =
     MatchResult result (λ o. MatchOption o (found ≡ []) (λ s. last_found found ≡ Some (found_of true s)))
-    (λ e. e ≡ Ended ↔ IsStopped found)
+    (λ e. (e ≡ Ended ↔ IsStopped found) × (e ≢ Ended → found ≡ []))

@@ -1,5 +1,5 @@
 -- How the program's `solve` decides a text, whose formula it may simplify before it searches, and when it fails.
-use Rattle.std.specs.Prelude.{◌≡◌, ◌≢◌, ◌⊎◌, ℕ, ◌^◌, ◌<◌, nat_le, Bool, true, false, ◌&&◌, not, List, Option, Some, None, Result, Ok, Err}
+use Rattle.std.specs.Prelude.{◌≡◌, ◌≢◌, ◌⊎◌, ℕ, ◌^◌, ◌<◌, nat_le, Bool, true, false, ◌&&◌, not, List, Option, Some, None, Result, Ok, Err, codes}
 use Rattle.varisat_theory.specs.promises.Membership.{◌∈◌}
 use Rattle.varisat_theory.specs.promises.Literals.{Literal, Clause}
 use Rattle.varisat_theory.specs.promises.Derivations.{Line}
@@ -12,15 +12,15 @@ use Rattle.varisat_lines.specs.declared.writer.WriteError.{WriteError}
 use Rattle.varisat_lines.specs.declared.writer.WriteError.TheVariants as write
 use Rattle.varisat_lines.specs.promises.Lines.{encoding_of, has_marks, plain_lines}
 use Rattle.varisat_lines.specs.promises.Steps.{PutsLines}
-use Rattle.varisat_proof.specs.promises.Verified.{fault_status}
+use Rattle.varisat_proof.specs.promises.Verified.{fault_status, EndsPrinting}
 use Rattle.varisat_simplify.specs.promises.Simplified.{literal_count, IsMadeOf}
 use Rattle.varisat_solver.specs.promises.States.{State}
 use Rattle.varisat_solver.specs.promises.Calls.{Solves, by_state}
 use Rattle.varisat_solver.specs.promises.ClauseCalls.{AddsFormula}
 use Rattle.varisat_solver.specs.promises.Refusals.{IsRefusedText}
 use Rattle.varisat_solver.specs.promises.ProofCalls.{ClosesProof}
-use Rattle.varisat.specs.promises.Decided.{Conclusion, Decided, IsConclusion}
-use Rattle.varisat.specs.promises.Proven.{prepared, Concludes, IsProvenIf, DecidesBy, SearchesText, FailsBy, Prints}
+use Rattle.varisat.specs.promises.Decided.{Conclusion, Decided, Unknown, IsConclusion, conclusion_text, conclusion_status}
+use Rattle.varisat.specs.promises.Proven.{prepared, Concludes, IsProvenIf, DecidesBy, SearchesText, FailsBy}
 use Rattle.varisat.specs.declared.deciding.SolveOptions.{SolveOptions}
 use Rattle.varisat_solver.specs.declared.solver.SolverError.{SolverError}
 use Rattle.varisat_solver.specs.declared.solver.SolverError.TheVariants.{Interrupted, OutOfMemory, ProofIoError}
@@ -162,11 +162,23 @@ pub data FailsFirst {W : Type 0} (taken : W → Taken) (o : ProgramOptions) (tar
       FailsSimplified taken o.search target f e →
       FailsFirst taken o target old new e
 
+-- what is printed for a conclusion: of a model that is not to be shown only that there is one
+abbrev pub shown_text : Bool → Conclusion → List ℕ
+shown_text true conclusion = conclusion_text conclusion
+shown_text false (Decided None) = conclusion_text (Decided None)
+shown_text false (Decided (Some model)) = codes "s SATISFIABLE\n"
+shown_text false (Unknown reason) = conclusion_text (Unknown reason)
+
+-- the conclusion is printed with its status, or a beginning of it where a call of the target fails
+abbrev pub Shows : Bool → Conclusion → ℕ → Taken → Taken → Type 0
+Shows shows_model conclusion status before printed =
+    EndsPrinting (conclusion_status conclusion) (shown_text shows_model conclusion) status before printed
+
 -- What the program's `solve` does: deciding fails, nothing is printed, and the status is that of a fault; or the text is searched as the
--- options ask, with a proof from its own clauses, and the conclusion is one for these, and is printed.
+-- options ask, with a proof from its own clauses, and the conclusion is one for these, and is printed, with a model if that is to be shown.
 abbrev pub SolvesFirst : {W : Type 0} → (W → Taken) → ProgramOptions → Input → Input → Option W → Option W → Taken →
     Taken → ℕ → Type 0
 SolvesFirst taken o old new target back before printed status =
     ((error : SolverError) × FailsFirst taken o target old new error × (status ≡ fault_status) × (printed ≡ before))
     ⊎ ((conclusion : Conclusion) × DecidesBy taken o.search old new target back conclusion
-    × SearchesFirst taken o target old new conclusion × Prints conclusion status before printed)
+    × SearchesFirst taken o target old new conclusion × Shows o.shows_model conclusion status before printed)

@@ -83,13 +83,20 @@ const COVER: &[u8] =
 fn the_best_solution_is_printed_where_the_steps_are_spent(rt: HostRuntime) {
     let rows: [(Option<u64>, &[u8], u8); 4] = [
         (Some(0), b"s UNKNOWN\n", 0),
-        (Some(1), b"o ", 0),
+        (Some(1), b"o ", 10),
         (Some(1000), b"o 6\ns OPTIMUM FOUND\n", 30),
         (None, b"o 6\ns OPTIMUM FOUND\n", 30),
     ];
     for (steps, beginning, wanted) in rows {
         let mut out = MemoryTarget::new_in(rt.alloc());
-        let status = solve_lines(rt.alloc(), COVER, steps, &mut out, &mut rt.stderr());
+        let status = solve_lines(
+            rt.alloc(),
+            "cover.wcnf",
+            COVER,
+            steps,
+            &mut out,
+            &mut rt.stderr(),
+        );
         assert!(rt; status == wanted && out.bytes().starts_with(beginning));
     }
 }

@@ -15,12 +15,12 @@ value_digits (v ∷ vs) = (if v then 49 else 48) ∷ value_digits vs
 -- what is printed of an optimum, or of a solution that is not known to be one
 abbrev pub verdict_line : Bool → List ℕ
 verdict_line true = codes "s OPTIMUM FOUND\n"
-verdict_line false = codes "s UNKNOWN\n"
+verdict_line false = codes "s SATISFIABLE\n"
 
 -- and the status
 abbrev pub solution_status : Bool → ℕ
 solution_status true = 30
-solution_status false = 0
+solution_status false = 10
 
 -- the verdict on a solution, and the values of the variables in turn
 abbrev pub solution_text : Bool → List Bool → List ℕ
@@ -47,9 +47,9 @@ PrintsText text status old new result =
     ⊎ (PrintsBeginning text old new × (new.faults ≡ old.faults + 1) × (result ≡ 2))
 
 -- What is printed of a problem: the costs of solutions, each less than the one before it, and the last one as an
--- optimum, or as one that is not known to be; or that no assignment satisfies its hard clauses; or such costs and no
--- solution, as a limit was met; or such costs alone, with the status of a fault, where memory ran out for the text of
--- the last solution.
+-- optimum, or as one that is not known to be; or that no assignment satisfies its hard clauses; or that nothing is
+-- known, as a limit was met before a solution was found; or such costs alone, with the status of a fault, where memory
+-- ran out for the text of the last solution; or a beginning of such costs, where a call of the target failed.
 pub data PrintsAnswer (p : Problem) (old new : Taken) (result : ℕ) : Type 0 where
   Solved : (is_optimum : Bool) (f : Found) (fs : List Found) → Improve p (f ∷ fs) →
       IsOptimumOrSolution is_optimum p f.cost f.values →
@@ -57,10 +57,11 @@ pub data PrintsAnswer (p : Problem) (old new : Taken) (result : ℕ) : Type 0 wh
       old new result → PrintsAnswer p old new result
   Unsatisfiable : (IsSatisfiable p.hard → ⊥) → PrintsText (codes "s UNSATISFIABLE\n") 20 old new result →
       PrintsAnswer p old new result
-  Unknown : (fs : List Found) → Improve p fs → PrintsText (cost_lines fs ++ codes "s UNKNOWN\n") 0 old new result →
-      PrintsAnswer p old new result
+  Unknown : PrintsText (codes "s UNKNOWN\n") 0 old new result → PrintsAnswer p old new result
   CostsAlone : (f : Found) (fs : List Found) → Improve p (f ∷ fs) → new.bytes ≡ old.bytes ++ cost_lines (f ∷ fs) →
       new.faults ≡ old.faults → result ≡ 2 → PrintsAnswer p old new result
+  BrokenOff : (fs : List Found) → Improve p fs → PrintsBeginning (cost_lines fs) old new → new.faults ≡ old.faults + 1 →
+      result ≡ 2 → PrintsAnswer p old new result
 
 -- What is printed of a text: that of its problem; or nothing, where the text has a fault, or memory ran out for it.
 pub data AnswersText (text : List ℕ) (old new : Taken) (result : ℕ) : Type 0 where

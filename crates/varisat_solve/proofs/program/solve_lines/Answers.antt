@@ -1,23 +1,24 @@
 -- The status is that of the outcome, or is that of a fault.
 use Rattle.std.proofs.Common.{inl, inr, refl}
-use Rattle.varisat.specs.promises.Decided.{concluded, conclusion_status, conclusion_text}
+use Rattle.varisat.specs.promises.Decided.{concluded, conclusion_status}
 use Rattle.varisat_proof.proofs.PrintedTexts.{ends-printed}
 use Rattle.varisat.proofs.ProgramDecides.{outcome-is-true}
+use Rattle.varisat_solve.specs.promises.Solving.{shown_text}
 use Rattle.varisat_solve.proofs.program.solve_lines.Goals as goal
 
-pub returns-in-Ok-print_report-clause-truth : goal.returns-in-Ok-print_report-clause-truth
-returns-in-Ok-print_report-clause-truth g c = outcome-is-true _ _ _ _ _ c.in-Ok.ensures.decided.decides c.status_of.ensures
+pub returns-in-Ok-print_shown-clause-truth : goal.returns-in-Ok-print_shown-clause-truth
+returns-in-Ok-print_shown-clause-truth g c = outcome-is-true _ _ _ _ _ c.in-Ok.ensures.decided.decides c.status_of.ensures
 
-pub returns-in-Ok-print_report-clause-outcome : goal.returns-in-Ok-print_report-clause-outcome
-returns-in-Ok-print_report-clause-outcome g c =
+pub returns-in-Ok-print_shown-clause-outcome : goal.returns-in-Ok-print_shown-clause-outcome
+returns-in-Ok-print_shown-clause-outcome g c =
     let found = concluded c.in-Ok.report in
     inr (
       found,
       c.in-Ok.ensures.decided,
       c.in-Ok.ensures.searched,
-      ends-printed (conclusion_status found) (conclusion_text found) (conclusion_text found) _ _ _ refl
-          c.status_of.ensures c.in-Ok-print_report.ensures,
+      ends-printed (conclusion_status found) (shown_text c.args.options.shows_model found) (shown_text c.args.options.shows_model found) _ _ _ refl
+          c.status_of.ensures c.in-Ok-print_shown.ensures,
     )
 
 pub returns-clause-outcome : goal.returns-clause-outcome
-returns-clause-outcome g c = inl (c.in-Err.refusal, c.in-Err.ensures.fails, c.print_fault-in-Err.ensures, refl)
+returns-clause-outcome g c = inl (c.in-Err.refusal, c.in-Err.ensures.fails, c.print_refusal.ensures, refl)

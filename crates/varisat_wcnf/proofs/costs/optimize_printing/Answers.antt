@@ -4,8 +4,8 @@ use Rattle.varisat_wcnf.proofs.costs.optimize_printing.Goals as goal
 pub returns-in-None : goal.returns-in-None
 returns-in-None g c =
     let (found, improve, printed, said) = c.optimize_or_keep-found.ensures in
-    let (bytes, faults) = all-printed _ found _ _ c.in-None.is printed in
-    (found, improve, (bytes, faults, said))
+    let (bytes, faults, on) = all-printed _ found _ _ c.in-None.is printed in
+    (found, improve, (bytes, faults, on, said))
 
 pub returns-in-Some : goal.returns-in-Some
 returns-in-Some g c =

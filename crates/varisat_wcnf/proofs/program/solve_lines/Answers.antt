@@ -9,4 +9,4 @@ returns-in-Ok g c =
     r.2 c.solve_problem.ensures)
 
 pub returns-in-Err : goal.returns-in-Err
-returns-in-Err g c = Refused c.in-Err.error c.in-Err.ensures.err refl c.tell.ensures
+returns-in-Err g c = Refused c.in-Err.error c.in-Err.ensures.err refl c.tell_line.ensures

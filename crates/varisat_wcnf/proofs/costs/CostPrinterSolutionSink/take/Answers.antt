@@ -13,7 +13,7 @@ pub returns-in-Ok : goal.returns-in-Ok
 returns-in-Ok g c = λ x found h. (
   h.0,
   h.1,
-  λ none few. prints-line _ c.args.cost (record { cost = c.args.cost; values = c.args._values.now; goes_on = true }) found (g.T.ProofTarget.taken x.out.now) (g.T.ProofTarget.taken c.args.self.now.out.now) (g.T.ProofTarget.taken c.print_cost.new.out) (sym c.is_some.ensures ∙ c.if-is_some.false) refl c.in-Ok.ensures.whole
+  λ none few. prints-line _ c.args.cost (record { cost = c.args.cost; values = c.args._values.now; goes_on = true }) found (g.T.ProofTarget.taken x.out.now) (g.T.ProofTarget.taken c.args.self.now.out.now) (g.T.ProofTarget.taken c.print_cost.new.out) (sym c.is_some.ensures ∙ c.if-is_some.false) refl refl c.in-Ok.ensures.whole
       c.in-Ok.ensures.quiet (h.2 none few),
 )
 

@@ -1,0 +1,5 @@
+//! What the command lines of the programs have in common.
+#![tactic(auto)]
+
+pub mod amounts;
+pub mod mistakes;

@@ -18,8 +18,7 @@ CHECKER = "drat-trim"
 # What a run may take beside the better of the others: so many times their time and a second, so many times their memory and MiB more.
 TIME_RATIO, MORE_SECONDS = 3, 1
 MEMORY_RATIO, MORE_MEMORY = 4, 50
-# The exponents of growth: at most this, or the others' least one, where the longest run takes as many seconds, or MiB, at least. Time
-# grows faster than size where tables no longer fit the processor's caches.
+# The exponents of growth: at most this, where the longest run takes as many seconds, or MiB, at least.
 MOST_EXPONENT = 1.2
 LEAST_SECONDS = 0.5
 LEAST_MEMORY = 100
@@ -337,6 +336,11 @@ def two_literals(size):
 
 
 def three_literals(size):
+    """Random clauses of three literals, with three for each variable: most solvers guess a model."""
+    return random_clauses(max(size // 9, 3), size // 3, 3)
+
+
+def few_three_literals(size):
     """Random clauses of three literals, with two for each variable."""
     return random_clauses(max(size // 6, 3), size // 3, 3)
 
@@ -365,8 +369,8 @@ FAMILIES = {
         growing_back, nested, nested_back, nested_ends, windows, narrow_windows, far, far_many, names, hub, hub_both, hubs, star,
         star_back, ring, odd_ring, ladder, equals, equals_to_one, grid, biclique, at_most_one, counting, equal_clauses, equal_wide,
         permuted, tautologies, wide_tautology, doubles, wide_doubles, units_early, units_late, same_units, gates, xors, xor_tree, chain,
-        chain_back, chain_refuted, pairs_chain, pairs_chain_back, positives, two_literals, three_literals, long_literals, islands,
-        strengthened,
+        chain_back, chain_refuted, pairs_chain, pairs_chain_back, positives, two_literals, three_literals, few_three_literals,
+        long_literals, islands, strengthened,
     )
 }
 
@@ -471,9 +475,9 @@ def print_family(name, make, folder, every, arguments):
     words = missed(name, arguments.size * SIZES[-1], rows[-1])
     if all(row[0][1] is not None for row in rows):
         for index, least, title in ((1, LEAST_SECONDS, "time"), (2, LEAST_MEMORY, "memory")):
-            ours, *others = exponents(rows, index)
+            ours = exponents(rows, index)[0]
             print(f"   {ours:5.2f}", end="")
-            if rows[-1][0][index] >= least and ours > max(MOST_EXPONENT, min(others, default=0)):
+            if rows[-1][0][index] >= least and ours > MOST_EXPONENT:
                 words.append(f"{title}'s exponent")
     print("   " + ", ".join(words), flush=True)
     return words

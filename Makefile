@@ -34,6 +34,8 @@ check:
 
 # What contrib/certify reads of install/, from where it lies beside the program.
 CERTIFY_PARTS = start.sh prove.sh jobs.sh
+# The pages for man that come with the program.
+PAGES = varisat.1 varisat-certify.1
 
 build-program:
 	@$(WHICH) >/dev/null
@@ -46,7 +48,8 @@ install-program:
 	sh install/command.sh varisat '$(call from,$(BINDIR),$(LIBEXEC))' "$$program" "$$(install/identity)" \
 	  >'$(DESTDIR)$(BINDIR)/varisat.new' && \
 	chmod 755 '$(DESTDIR)$(BINDIR)/varisat.new' && mv '$(DESTDIR)$(BINDIR)/varisat.new' '$(DESTDIR)$(BINDIR)/varisat'
-	@install -d '$(DESTDIR)$(MAN1)' && sed '1s/@VERSION@/$(VERSION)/' install/varisat.1 >'$(DESTDIR)$(MAN1)/varisat.1' && chmod 644 '$(DESTDIR)$(MAN1)/varisat.1'
+	@install -d '$(DESTDIR)$(MAN1)' && $(foreach page,$(PAGES),sed '1s/@VERSION@/$(VERSION)/' install/$(page) >'$(DESTDIR)$(MAN1)/$(page)' && \
+	chmod 644 '$(DESTDIR)$(MAN1)/$(page)' &&) :
 	@install -D -m 644 install/completion.bash '$(DESTDIR)$(BASH)/varisat'
 	@install -D -m 644 install/completion.zsh '$(DESTDIR)$(ZSH)/_varisat'
 	@install -D -m 644 install/completion.fish '$(DESTDIR)$(FISH)/varisat.fish'
@@ -55,7 +58,7 @@ install-program:
 	ln -sf '$(call from,$(BINDIR),$(LIBEXEC))/contrib/certify' '$(DESTDIR)$(BINDIR)/varisat-certify'
 
 uninstall-program:
-	@rm -f '$(DESTDIR)$(BINDIR)/varisat' '$(DESTDIR)$(LIBEXEC)/varisat' '$(DESTDIR)$(MAN1)/varisat.1'
+	@rm -f '$(DESTDIR)$(BINDIR)/varisat' '$(DESTDIR)$(LIBEXEC)/varisat' $(PAGES:%='$(DESTDIR)$(MAN1)/%')
 	@rm -f '$(DESTDIR)$(BINDIR)/varisat-certify' '$(DESTDIR)$(LIBEXEC)/contrib/certify' $(CERTIFY_PARTS:%='$(DESTDIR)$(LIBEXEC)/install/%')
 	@rmdir '$(DESTDIR)$(LIBEXEC)/contrib' '$(DESTDIR)$(LIBEXEC)/install' 2>/dev/null || true
 	@rm -f '$(DESTDIR)$(BASH)/varisat' '$(DESTDIR)$(ZSH)/_varisat' '$(DESTDIR)$(FISH)/varisat.fish'

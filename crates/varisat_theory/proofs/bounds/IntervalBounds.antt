@@ -58,7 +58,7 @@ total_bound n =
     omega (arith, a, b, c)
 
 -- A call's steps: those before its first restart, those of whole intervals, and those after its last restart.
-pub intervals_bound : (n scale j r first last : ℕ) → 0 < scale → first < 2 ^ suc n → last < 2 ^ suc n →
+pub intervals_bound : (n scale j r first last : ℕ) → 0 < scale → first < 2 ^ suc n → last ≤ 2 ^ suc n →
     ((t : ℕ) → t < r → scale * luby (suc j + t) < 2 ^ suc n) → first + scale * sum_from luby (suc j) r + last < (n + 2) * 2 ^ (n + 2)
 intervals_bound n scale j r first last h a b f =
     let s = restart_sum n scale j r h f in

@@ -11,7 +11,7 @@ use Rattle.varisat_theory.specs.inside.Example.{small_clauses, small_conflict, s
 use Rattle.varisat_theory.specs.promises.Renaming.{KeepsOpposites, IsOneToOneOn, IsWithin, rename, rename_line, named_back}
 use Rattle.varisat_theory.specs.inside.Rank.{rank, with_units}
 use Rattle.varisat_theory.specs.inside.Luby.{luby, sum_from, saturated, restart_point, walk_at}
-use Rattle.varisat_theory.specs.promises.CallBounds.{CallSetting, call_point, IsCall, CallProgress}
+use Rattle.varisat_theory.specs.promises.CallBounds.{CallSetting, call_point, IsInShortInterval, IsCall, CallProgress}
 
 -- where propagation conflicts, no assignment satisfies the clauses and makes the base true
 abbrev pub ConflictIsSound : Type 0
@@ -381,10 +381,11 @@ RisingIsShort = (n : ℕ) (trail : ℕ → List Bool) (k : ℕ) →
 abbrev pub DistinctIsShort : Type 0
 DistinctIsShort = (xs ys : List ℕ) → IsDistinct xs → xs ⊆ ys → length xs ≤ length ys
 
--- The steps before a first restart, those of whole intervals and those after the last one, where each stretch is shorter than 2^(n+1).
+-- The steps before a first restart, those of whole intervals and those after the last one: each stretch is shorter than 2^(n+1),
+-- the last at most that.
 abbrev pub IntervalsAreBounded : Type 0
 IntervalsAreBounded =
-    (n scale i r first last : ℕ) → 0 < scale → first < 2 ^ suc n → last < 2 ^ suc n →
+    (n scale i r first last : ℕ) → 0 < scale → first < 2 ^ suc n → last ≤ 2 ^ suc n →
     ((t : ℕ) → t < r → scale * luby (suc i + t) < 2 ^ suc n) →
     first + scale * sum_from luby (suc i) r + last < (n + 2) * 2 ^ (n + 2)
 
@@ -393,12 +394,17 @@ abbrev pub CallIsBounded : Type 0
 CallIsBounded = (c : CallSetting) (steps : ℕ) (trail : ℕ → List Bool) → IsCall c steps trail →
     steps < (c.variables + 2) * 2 ^ (c.variables + 2)
 
--- The same step by step: what a loop of steps keeps holds at first, goes on where a step raises the rank or restarts, and bounds the steps with one step more.
+-- The same step by step: what a loop of steps keeps holds at first, goes on where a step raises the rank, begins at a restart
+-- point or restarts within a short interval, and bounds the steps with one step more.
 abbrev pub ProgressIsBounded : Type 0
 ProgressIsBounded =
     ((c : CallSetting) (top : ℕ) → CallProgress c 0 top)
-    × ((c : CallSetting) (t top next : ℕ) → top < next → CallProgress c t top → CallProgress c (suc t) next)
+    × ((c : CallSetting) (t top next : ℕ) → top < next → c.start + t < 2 ^ 64 - 1 → top < 2 ^ suc c.variables →
+    CallProgress c t top → CallProgress c (suc t) next)
     × ((c : CallSetting) (t top next i : ℕ) → c.start + t ≡ call_point c i → c.start + t < 2 ^ 64 - 1 →
+    top < 2 ^ suc c.variables → 0 < next →
+    CallProgress c t top → CallProgress c (suc t) next)
+    × ((c : CallSetting) (t top next i : ℕ) → IsInShortInterval c (c.start + t) i → c.start + t < 2 ^ 64 - 1 →
     top < 2 ^ suc c.variables → 0 < next →
     CallProgress c t top → CallProgress c (suc t) next)
     × ((c : CallSetting) (t top : ℕ) → 0 < c.scale → top + 2 ≤ 2 ^ suc c.variables → CallProgress c t top →

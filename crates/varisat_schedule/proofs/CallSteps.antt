@@ -1,14 +1,14 @@
 -- How the steps of a call by a schedule stand to the rank of the trail.
-use Rattle.std.proofs.Common.{◌≡◌, ℕ, suc, ◌+◌, ◌-◌, ◌*◌, ◌^◌, ◌<◌, ◌≤◌, Bool, List, length, ◌⊎◌, ⊎_elim, inl, inr, subst, ap, ◌∙◌, arith}
+use Rattle.std.proofs.Common.{◌≡◌, ℕ, suc, ◌+◌, ◌-◌, ◌*◌, ◌^◌, ◌<◌, ◌≤◌, ◌↔◌, Bool, IsTrue, List, length, ◌⊎◌, ⊎_elim, inl, inr, subst, sym, ap, ◌∙◌, refl, arith, ne_eqb}
 use Rattle.std.proofs.lemmas.Bool.{cases_lt}
 use Rattle.varisat_theory.specs.inside.Rank.{rank}
 use Rattle.varisat_theory.specs.promises.CallBounds.{AreFew, CallSetting, CallProgress}
 use Rattle.varisat_theory.proofs.bounds.Ranks.{rank_bound}
 use Rattle.varisat_theory.proofs.bounds.IntervalBounds.{total_bound}
-use Rattle.varisat_theory.proofs.bounds.CallBounds.{progress_start, progress_rises, progress_restarts, progress_bound}
-use Rattle.varisat_schedule.specs.Plans.{Plan, IsPlan, IsDue, next_plan, plan_after, PlannedCall, setting_of}
-use Rattle.varisat_schedule.specs.CallSteps.{steps_since, IsPlannedStep, HasComeTo, AreSpent}
-use Rattle.varisat_schedule.proofs.RestartPlans.{due-point}
+use Rattle.varisat_theory.proofs.bounds.CallBounds.{progress_start, progress_rises, progress_restarts, progress_within, progress_bound}
+use Rattle.varisat_schedule.specs.Plans.{Plan, IsPlan, IsDue, step_begun, next_plan, plan_after, PlannedCall, setting_of}
+use Rattle.varisat_schedule.specs.CallSteps.{steps_since, AllowsRestart, IsPlannedStep, HasComeTo, AreSpent}
+use Rattle.varisat_schedule.proofs.RestartPlans.{due-point, short-interval}
 
 -- the call over n variables
 abbrev over : ℕ → PlannedCall → CallSetting
@@ -42,9 +42,31 @@ due-or-not q =
     (λ (y : q.steps ≤ q.next_restart). inl (omega (arith, x, y))) (cases_lt q.next_restart q.steps))
     (cases_lt q.steps q.next_restart)
 
+-- a step that begins where no restart is due leaves the plan as it was
+begun-same : (scale : ℕ) (p : Plan) → (IsDue p → ⊥) → step_begun scale p ≡ p
+begun-same scale p n = rw (ne_eqb p.steps p.next_restart n) refl
+
+-- what the plan behind a step's beginning tells of the plan before it
+pub allowed-begun : (n scale : ℕ) (p q : Plan) (b : Bool) → q ≡ step_begun scale p → (IsTrue b ↔ IsDue p) →
+    IsTrue b ⊎ (q.next_restart < 2 ^ suc n) → AllowsRestart n p
+allowed-begun n scale p q b e d (inl t) = inl (d.0 t)
+allowed-begun n scale p q b e d (inr s) =
+    ⊎_elim inl
+    (λ (k : IsDue p → ⊥). let f = ap (λ (x : Plan). x.next_restart) (e ∙ begun-same scale p k) in inr (omega (arith, s, f)))
+    (due-or-not p)
+
+pub allows-or-not : (n : ℕ) (q : Plan) → AllowsRestart n q ⊎ (AllowsRestart n q → ⊥)
+allows-or-not n q =
+    ⊎_elim
+    (λ d. inl (inl d))
+    (λ (d : IsDue q → ⊥).
+    ⊎_elim (λ (s : q.next_restart < 2 ^ suc n). inl (inr s)) (λ (s : 2 ^ suc n ≤ q.next_restart). inr (λ a. ⊎_elim d (λ (b : q.next_restart < 2 ^ suc n). omega (arith, b, s)) a))
+    (cases_lt q.next_restart (2 ^ suc n)))
+    (due-or-not q)
+
 -- one more step
 module _ (c : PlannedCall) (q : Plan) (before after : List Bool) (h : 0 < c.scale) (l : q.steps < 2 ^ 64 - 1) (short : length before ≤ c.variables)
-    (s : IsPlannedStep q before after) (r : HasComeTo c q before) where
+    (s : IsPlannedStep c.variables q before after) (r : HasComeTo c q before) where
   made : ℕ
   made = steps_since c.begins q
 
@@ -62,16 +84,34 @@ module _ (c : PlannedCall) (q : Plan) (before after : List Bool) (h : 0 < c.scal
       let e = so-far in
       let (i, p) = due-point c h r.is_plan made (omega (arith, e, l)) (subst IsDue r.plan d) in
       let b = rank_bound n before (omega (arith, short, v)) in
-      let up = s.restarts d n (omega (arith, short, v)) in
+      let up = s.restarts (inl d) n (omega (arith, short, v)) in
       progress_restarts (over n c) made (rank n before) (rank n after) i p (omega (arith, e, l)) (omega (arith, b)) up (r.progress n v)
 
-  not-due : (IsDue q → ⊥) → (n : ℕ) → c.variables ≤ n → CallProgress (over n c) (suc made) (rank n after)
+  -- a step that may restart between two points
+  within : (IsDue q → ⊥) → q.next_restart < 2 ^ suc c.variables → (n : ℕ) → c.variables ≤ n → CallProgress (over n c) (suc made) (rank n after)
   unfolding made
-  not-due d n v =
-      progress_rises (over n c) made (rank n before) (rank n after) (s.rises d n (omega (arith, short, v))) (r.progress n v)
+  within d w n v =
+      let e = so-far in
+      let (i, p) = short-interval c h r.is_plan n made v (omega (arith, e, l)) (λ x. d (subst IsDue (sym r.plan) x))
+      (subst (λ (x : Plan). x.next_restart < 2 ^ suc c.variables) r.plan w) in
+      let b = rank_bound n before (omega (arith, short, v)) in
+      let up = s.restarts (inr w) n (omega (arith, short, v)) in
+      progress_within (over n c) made (rank n before) (rank n after) i p (omega (arith, e, l)) (omega (arith, b)) up (r.progress n v)
+
+  may : AllowsRestart c.variables q → (n : ℕ) → c.variables ≤ n → CallProgress (over n c) (suc made) (rank n after)
+  may (inl d) n v = due d n v
+  may (inr w) n v = ⊎_elim (λ d. due d n v) (λ d. within d w n v) (due-or-not q)
+
+  not-allowed : (AllowsRestart c.variables q → ⊥) → (n : ℕ) → c.variables ≤ n → CallProgress (over n c) (suc made) (rank n after)
+  unfolding made
+  not-allowed d n v =
+      let e = so-far in
+      let b = rank_bound n before (omega (arith, short, v)) in
+      progress_rises (over n c) made (rank n before) (rank n after) (s.rises d n (omega (arith, short, v))) (omega (arith, e, l)) (omega (arith, b))
+      (r.progress n v)
 
   progress-next : (n : ℕ) → c.variables ≤ n → CallProgress (over n c) (suc made) (rank n after)
-  progress-next n v = ⊎_elim (λ d. due d n v) (λ d. not-due d n v) (due-or-not q)
+  progress-next n v = ⊎_elim (λ d. may d n v) (λ d. not-allowed d n v) (allows-or-not c.variables q)
 
   pub goes-on : HasComeTo c (next_plan c.scale q) after
   unfolding made

@@ -1,8 +1,9 @@
 -- Which steps of a schedule begin with a restart.
-use Rattle.std.proofs.Common.{◌≡◌, ℕ, zero, suc, pred, ◌+◌, ◌-◌, ◌*◌, ◌^◌, ◌<◌, ◌≤◌, ◌↔◌, ⊎_elim, subst, refl, sym, ap, ◌∙◌, arith, eq-eqb, ne_eqb, mul-le-mul_right}
-use Rattle.std.proofs.lemmas.Bool.{cases_lt}
+use Rattle.std.proofs.Common.{◌≡◌, ℕ, zero, suc, pred, ◌+◌, ◌-◌, ◌*◌, ◌/◌, ◌^◌, ◌<◌, ◌≤◌, ◌↔◌, IsTrue, nat_eq, ⊎_elim, subst, refl, sym, ap, ◌∙◌, arith, eq-eqb, ne_eqb, mul-le-mul_right, pow_pos}
+use Rattle.std.proofs.Math.Nat.{div-eq_of_lt, div-lt_iff_lt-mul, pow-le-pow_right}
+use Rattle.std.proofs.lemmas.Bool.{cases_lt, eqb-true}
 use Rattle.varisat_theory.specs.inside.Luby.{luby, saturated, restart_point}
-use Rattle.varisat_theory.specs.promises.CallBounds.{CallSetting, call_point}
+use Rattle.varisat_theory.specs.promises.CallBounds.{CallSetting, call_point, interval_begin, IsInShortInterval}
 use Rattle.varisat_theory.proofs.bounds.RestartPoints.{luby_positive, call_point_zero, call_point_next, call_point_first}
 use Rattle.varisat_schedule.specs.Plans.{Plan, IsPlan, IsDue, first_plan, next_plan, plan_after, PlannedCall, setting_of}
 
@@ -47,6 +48,16 @@ restarted-plan scale p w e l h =
             (cases_lt p.next_term 3);
       },
       omega (arith, a, b, e, l),
+    )
+
+-- a number below a power is one whose quotient by it is 0
+pub short-below : (x n : ℕ) → IsTrue (nat_eq (x / 2 ^ (n + 1)) 0) ↔ (x < 2 ^ suc n)
+short-below x n =
+    let e : suc n ≡ n + 1 = omega arith in
+    subst (λ k. IsTrue (nat_eq (x / 2 ^ k) 0) ↔ (x < 2 ^ suc n)) e (
+      λ t. let z = eqb-true (x / 2 ^ suc n) 0 t in let d = (div-lt_iff_lt-mul {k = 2 ^ suc n} {x = x} {y = 1} (pow_pos (suc n))).0 (omega (arith, z)) in
+          omega (arith, d),
+      λ h. eq-eqb (x / 2 ^ suc n) 0 (div-eq_of_lt h),
     )
 
 -- the points rise
@@ -135,6 +146,25 @@ module _ (c : PlannedCall) (h : 0 < c.scale) (w : IsPlan c.begins) where
 
   pub due-point : (k : ℕ) → c.begins.steps + k < 2 ^ 64 - 1 → IsDue (plan_after c.scale c.begins k) → (i : ℕ) × (c.begins.steps + k ≡ point i)
   due-point k l d = let (i, a) = at-point k (omega (arith, l)) in (i, subst IsDue a.plan d)
+
+  -- where the next restart is due before step 2^(n+1), the step lies in a short interval of the call over n variables or more
+  pub short-interval : (n k : ℕ) → c.variables ≤ n → c.begins.steps + k < 2 ^ 64 - 1 → (IsDue (plan_after c.scale c.begins k) → ⊥) →
+      (plan_after c.scale c.begins k).next_restart < 2 ^ suc c.variables →
+      (i : ℕ) × IsInShortInterval (setting_of (record c { variables = n })) (c.begins.steps + k) i
+  short-interval n k v l d s =
+      let (i, a) = at-point k (omega (arith, l)) in
+      let p = pow-le-pow_right {n = 2} (omega arith) {i = suc c.variables} {j = suc n} (omega (arith, v)) in
+      let r = ap (λ (q : Plan). q.next_restart) a.plan in
+      let e = a.ahead in
+      let later : c.begins.steps + k < point i =
+      ⊎_elim (λ (b : c.begins.steps + k < point i). b)
+      (λ (b : point i ≤ c.begins.steps + k). absurd (d (subst IsDue (sym a.plan) (omega (arith, b, e)))))
+      (cases_lt (c.begins.steps + k) (point i)) in
+      (i, record { begun = begins-behind i a.behind; ahead = later; short = omega (arith, p, r, s) })
+    where
+      begins-behind : (i : ℕ) → ((m : ℕ) → m < i → point m < c.begins.steps + k) → interval_begin (setting_of (record c { variables = n })) i ≤ c.begins.steps + k
+      begins-behind zero b = omega arith
+      begins-behind (suc i) b = let h = b i (omega arith) in omega (arith, h)
 
   point-due : (k : ℕ) → c.begins.steps + k < 2 ^ 64 - 1 → (i : ℕ) × (c.begins.steps + k ≡ point i) → IsDue (plan_after c.scale c.begins k)
   point-due k l (m, e) =

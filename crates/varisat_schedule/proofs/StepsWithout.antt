@@ -2,7 +2,7 @@
 use Rattle.std.proofs.Common.{◌≡◌, ℕ, zero, suc, pred, ◌+◌, ◌-◌, ◌^◌, ◌<◌, ◌≤◌, Bool, true, List, ◌∷◌, ◌++◌, length, replicate, sym, ap, ◌∙◌, subst, arith, append_assoc, pow_pos}
 use Rattle.std.proofs.lemmas.List.{length-replicate, replicate-append-replicate}
 use Rattle.varisat_theory.specs.inside.Rank.{rank, with_units}
-use Rattle.varisat_theory.specs.promises.CallBounds.{AreFew, CallSetting, CallProgress, HasRestarted, BeforeRestart, AfterRestart}
+use Rattle.varisat_theory.specs.promises.CallBounds.{AreFew, CallSetting, CallProgress, IsLastStretch, ByRank, ByLength, HasRestarted, BeforeRestart, AfterRestart}
 use Rattle.varisat_theory.proofs.bounds.Ranks.{rank_grows}
 use Rattle.varisat_theory.proofs.bounds.RestartPoints.{length_with_units}
 use Rattle.varisat_schedule.specs.Plans.{Plan, IsPlan, next_plan, PlannedCall, setting_of}
@@ -10,16 +10,21 @@ use Rattle.varisat_schedule.specs.CallSteps.{steps_since, IsPlannedStep, HasCome
 use Rattle.varisat_schedule.proofs.CallSteps.{begins, is-short, goes-on}
 
 -- an implied literal more in front of both trails
-one-unit : (q : Plan) (before after : List Bool) → IsPlannedStep q before after → IsPlannedStep q (true ∷ before) (true ∷ after)
-one-unit q before after s = record {
+one-unit : (v : ℕ) (q : Plan) (before after : List Bool) → IsPlannedStep v q before after → IsPlannedStep v q (true ∷ before) (true ∷ after)
+one-unit v q before after s = record {
   rises = λ d n h. let r = s.rises d (pred n) (omega (arith, h)) in omega (arith, r);
   restarts = λ d n h. let p = pow_pos n in omega (arith, p);
 }
 
 -- a step is one also where units have left
-pub step-with-units : (u : ℕ) (q : Plan) (before after : List Bool) → IsPlannedStep q before after → IsPlannedStep q (with_units u before) (with_units u after)
-step-with-units zero q before after s = s
-step-with-units (suc u) q before after s = one-unit q (with_units u before) (with_units u after) (step-with-units u q before after s)
+pub step-with-units : (v u : ℕ) (q : Plan) (before after : List Bool) → IsPlannedStep v q before after →
+    IsPlannedStep v q (with_units u before) (with_units u after)
+step-with-units v zero q before after s = s
+step-with-units v (suc u) q before after s = one-unit v q (with_units u before) (with_units u after) (step-with-units v u q before after s)
+
+stretch-lifts : (c : CallSetting) (t since top next : ℕ) → top ≤ next → IsLastStretch c t since top → IsLastStretch c t since next
+stretch-lifts c t since top next h (ByRank l) = ByRank (omega (arith, l, h))
+stretch-lifts c t since top next h (ByLength i l s) = ByLength i l s
 
 more-restarted : (c : CallSetting) (t top next : ℕ) → top ≤ next → HasRestarted c t top → HasRestarted c t next
 more-restarted c t top next h m =
@@ -31,14 +36,13 @@ more-restarted c t top next h m =
       total = m.total;
       point = m.point;
       small = m.small;
-      early =
-          m.early;
-      late = let l = m.late in omega (arith, l, h);
+      early = m.early;
+      late = stretch-lifts c t m.since top next h m.late;
     }
 
 -- a trail of greater rank, with no step
 pub progress-lifts : (c : CallSetting) (t top next : ℕ) → top ≤ next → CallProgress c t top → CallProgress c t next
-progress-lifts c t top next h (BeforeRestart l) = BeforeRestart (omega (arith, l, h))
+progress-lifts c t top next h (BeforeRestart l) = BeforeRestart (stretch-lifts c t t top next h l)
 progress-lifts c t top next h (AfterRestart m) = AfterRestart (more-restarted c t top next h m)
 
 come-lifts : (c : PlannedCall) (q : Plan) (trail after : List Bool) → ((n : ℕ) → rank n trail ≤ rank n after) → HasComeTo c q trail → HasComeTo c q after
@@ -53,10 +57,10 @@ pub begins-anywhere : (c : PlannedCall) (trail : List Bool) → IsPlan c.begins 
 begins-anywhere c trail i h = record { come = begins c trail i; short = omega (arith, h) }
 
 pub goes-on-without : (c : PlannedCall) (q : Plan) (units : ℕ) (before after : List Bool) → 0 < c.scale → q.steps < 2 ^ 64 - 1 →
-    IsPlannedStep q before after → units + length after ≤ c.variables → HasComeWithout c q units before → HasComeWithout c (next_plan c.scale q) units after
+    IsPlannedStep c.variables q before after → units + length after ≤ c.variables → HasComeWithout c q units before → HasComeWithout c (next_plan c.scale q) units after
 goes-on-without c q units before after h l s b r = record {
   come = goes-on c q (with_units units before) (with_units units after) h l
-      (let a = length_with_units units before in let k = r.short in omega (arith, a, k)) (step-with-units units q before after s) r.come;
+      (let a = length_with_units units before in let k = r.short in omega (arith, a, k)) (step-with-units c.variables units q before after s) r.come;
   short = b;
 }
 

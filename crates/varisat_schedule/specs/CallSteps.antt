@@ -8,11 +8,16 @@ use Rattle.varisat_schedule.specs.Plans.{Plan, IsPlan, IsDue, next_plan, plan_af
 abbrev pub steps_since : Plan → Plan → ℕ
 steps_since p q = q.steps - p.steps
 
--- What a step by the plan makes of the trail, given by its flags, over each number that its length before does not pass: the
--- rank rises, or it is above 0 where the step begins with a restart.
-pub record IsPlannedStep (q : Plan) (before after : List Bool) : Type 0 where
-  pub rises : (IsDue q → ⊥) → (n : ℕ) → length before ≤ n → rank n before < rank n after
-  pub restarts : IsDue q → (n : ℕ) → length before ≤ n → 0 < rank n after
+-- A search over n variables may restart at the next step: where a restart is due, or where the next one is due before step
+-- 2^(n+1). Then the steps up to it are fewer than that, so that restarts between them cost no more than the rank bounds.
+abbrev pub AllowsRestart : ℕ → Plan → Type 0
+AllowsRestart n q = IsDue q ⊎ (q.next_restart < 2 ^ suc n)
+
+-- What a step by the plan over so many variables makes of the trail, given by its flags, over each number that its length
+-- before does not pass: the rank rises, or it is above 0 where the step may begin with a restart.
+pub record IsPlannedStep (variables : ℕ) (q : Plan) (before after : List Bool) : Type 0 where
+  pub rises : (AllowsRestart variables q → ⊥) → (n : ℕ) → length before ≤ n → rank n before < rank n after
+  pub restarts : AllowsRestart variables q → (n : ℕ) → length before ≤ n → 0 < rank n after
 
 -- The call came to the plan, and its steps are counted against the rank of the trail now, over each number that bounds the
 -- variables.
@@ -44,7 +49,7 @@ GoesOnWithout =
     (c : PlannedCall) (q : Plan) (units : ℕ) (before after : List Bool) →
     0 < c.scale →
     q.steps < 2 ^ 64 - 1 →
-    IsPlannedStep q before after →
+    IsPlannedStep c.variables q before after →
     units + length after ≤ c.variables →
     HasComeWithout c q units before →
     HasComeWithout c (next_plan c.scale q) units after

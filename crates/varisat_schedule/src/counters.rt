@@ -22,10 +22,15 @@ pub struct Counters {
     pub collections: u64,
     /// Literals of level 0 that left the trail with their variables.
     pub removed_units: u64,
-    /// The moving average of the glue of learned clauses over the last 32 of them or so, in parts of 2^20.
+    /// The moving average of the glue of the clauses that were learned in focused mode, over the last 32 of them or so, in
+    /// parts of 2^20.
     pub recent_glue: u64,
     /// The same over the last 50,000 or so.
     pub usual_glue: u64,
+    /// Conflicts in focused mode whose clause is in both averages.
+    pub focused_conflicts: u64,
+    /// How many conflicts had been analysed as the last restart was made.
+    pub restarted_at: u64,
 }
 
 /// Counts so many more.
@@ -42,6 +47,9 @@ const USUAL: u64 = 50000;
 
 const PARTS: u64 = 1 << 20;
 
+// In what units the lengths of modes are. A search is in stable mode for so many conflicts at first.
+const MODE_CONFLICTS: u64 = 1024;
+
 /// The moving average over so many numbers, in parts, once another number came.
 fn average_with(average: u64, number: u64, over: u64) -> u64
     requires { 0 < over }
@@ -51,13 +59,48 @@ fn average_with(average: u64, number: u64, over: u64) -> u64
 }
 
 impl Counters {
-    /// Takes the glue of a clause that was learned into both averages, which are over all clauses at first.
+    /// Whether the search is in focused mode, where it restarts often, or else in stable mode, where it seldom does. It
+    /// begins stable, and changes its mode whenever it has had about 1.4 times as many conflicts. So both have their share
+    /// in a search of any length: some formulas take far fewer conflicts in the one, and some in the other.
+    pub fn is_focused(&self) -> bool {
+        let units = self.conflicts / MODE_CONFLICTS;
+        units.saturating_mul(units).leading_zeros() % 2 == 1
+    }
+
+    /// Takes the glue of a clause that was learned into both averages, which are over all clauses at first. What is
+    /// learned in stable mode is passed over: its glue is another, and restarts of focused mode are decided by the averages.
     pub fn count_glue(&mut self, glue: usize)
-        ensures { self.new ≡ record self.old { recent_glue = self.new.recent_glue; usual_glue = self.new.usual_glue } }
+        ensures { self.new ≡ record self.old {
+          recent_glue = self.new.recent_glue;
+          usual_glue = self.new.usual_glue;
+          focused_conflicts = self.new.focused_conflicts;
+        } }
     {
-        let learned = self.conflicts.max(1);
+        if !self.is_focused() {
+            return;
+        }
+        count(&mut self.focused_conflicts, 1);
+        let learned = self.focused_conflicts.max(1);
         self.recent_glue = average_with(self.recent_glue, glue as u64, learned.min(RECENT));
         self.usual_glue = average_with(self.usual_glue, glue as u64, learned.min(USUAL));
+    }
+
+    /// Counts a restart.
+    pub fn count_restart(&mut self)
+        ensures { self.new ≡ record self.old {
+          restarts = min (self.old.restarts + 1) (2 ^ 64 - 1);
+          restarted_at = self.old.conflicts;
+        } }
+    {
+        count(&mut self.restarts, 1);
+        self.restarted_at = self.conflicts;
+    }
+
+    /// How many conflicts were analysed since the last restart.
+    pub fn conflicts_since_restart(&self) -> u64
+        ensures { result ≡ self.now.conflicts - self.now.restarted_at }
+    {
+        self.conflicts.saturating_sub(self.restarted_at)
     }
 
     /// Whether the recent glue is above so many hundredths of the usual one.

@@ -62,6 +62,14 @@ impl Schedule {
         self.next_restart - self.steps
     }
 
+    /// Whether the next step that begins with a restart has a number below 2^(n+1), for so many variables. Up to it a search
+    /// over these may restart at any step.
+    pub fn is_interval_short(&self, variables: usize) -> bool
+        ensures { IsTrue result ↔ (self.now.next_restart < 2 ^ suc variables) }
+    {
+        variables >= 63 || self.next_restart >> (variables + 1) == 0
+    }
+
     /// Begins a step, and returns whether it begins with a restart. If so, the next restart is later by the scale times
     /// the next term of the sequence, and stays at 2^64-1 once it is there.
     pub fn begin_step(&mut self, scale: u64) -> bool

@@ -106,7 +106,7 @@ InprocessesIfDue {A} =
     (InTurn (λ lines x y. ReducesMidsIfDue x y × NoLines lines)
     (λ lines x y. CollectsIfDue x y × NoLines lines))
 
--- A step begins: a restart down to the last assumption, where that is due, and then inprocessing, by lines for which
+-- A step begins: a restart down to the last assumption, by the policy, and then inprocessing, by lines for which
 -- `are` holds.
 pub record BeginsStep {A : Type 0} (are : List Line → Type 0) (x z : Context A) : Type 0 where
   pub begun : Context A
@@ -118,7 +118,7 @@ pub record BeginsStep {A : Type 0} (are : List Line → Type 0) (x z : Context A
   pub inprocesses : Inprocesses InprocessesIfDue are begun z
   pub rest : ChangesPlaces begun z
 
--- A step begins with a restart down to the last assumption, where that is due; then comes inprocessing; then, at level
+-- A step begins with a restart down to the last assumption, by the policy; then comes inprocessing; then, at level
 -- 0, the root level is simplified; then lines lead from what is left to the search after the step. The lines are these, in
 -- turn.
 pub record GoesBySchedule {A : Type 0} (lines : List Line) (x z : Context A) : Type 0 where
@@ -142,7 +142,8 @@ StepsBySchedule are x y = StepsTo (λ lines. GoesBySchedule lines x y × are lin
 -- those that are fixed, and what is remembered of values.
 pub record MakesScheduledStep {A : Type 0} (are : List Line → Type 0) (x y : Context A) : Type 0 where
   pub steps : StepsBySchedule are x y
-  pub rises : y.solver_state.sat_state ≡ verdict.Unknown → IsPlannedStep x.schedule (kinds (view x)) (kinds (view y))
+  pub rises : y.solver_state.sat_state ≡ verdict.Unknown →
+      IsPlannedStep (length (view x).values) x.schedule (kinds (view x)) (kinds (view y))
   pub keeps : KeepsVariables x y
   pub assumes : KeepsAssumptions (search_of (view x)) (outcome_at y) x.assumptions y.assumptions
   pub last : RestartsAndRemembers x.solver_config.restart_glue x.schedule x.assumptions.levels (view x)

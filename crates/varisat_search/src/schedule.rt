@@ -1,5 +1,5 @@
 //! The steps of a search by its schedule.
-ghost use Rattle.std.specs.Prelude.{◌≡◌, ◌-◌, ◌^◌, ◌<◌, IsTrue, List, length, OnOk, IfErr};
+ghost use Rattle.std.specs.Prelude.{◌≡◌, ◌-◌, ◌^◌, ◌<◌, suc, ◌⊎◌, IsTrue, List, length, OnOk, IfErr};
 ghost use Rattle.varisat_search.specs.Contexts.{view, IsReady};
 ghost use Rattle.varisat_search.specs.Frames.{ChangesBegun, ChangesReduced, ChangesPlaces, ChangesStore, ChangesTiers, CountsStep};
 ghost use Rattle.varisat_search.specs.Decisions.{SameDecidable};
@@ -19,43 +19,40 @@ use crate::levels::restart;
 use crate::reduce::{reduce_locals, reduce_mids};
 use crate::state::SatState;
 use std::alloc::{AllocError, Allocator};
-use varisat_schedule::counters::count;
 pub use varisat_schedule::luby::LubySequence;
 pub use varisat_schedule::schedule::Schedule;
 use varisat_steps::{ProofTracer, TraceError};
 
-// In what units the lengths of modes are. A search is in stable mode for so many conflicts at first.
-const MODE_CONFLICTS: u64 = 1024;
-
 // A restart is made in stable mode where the next one is as many steps away or more.
 const STABLE_INTERVAL: u64 = 1024;
 
-/// Whether a search that had so many conflicts is in stable mode, where restarts are few, or else in focused mode. It
-/// begins stable, and changes its mode whenever it has had about 1.4 times as many. So both have their share in a search
-/// of any length: some formulas take far fewer conflicts in the one, and some in the other.
-fn is_stable(conflicts: u64) -> bool {
-    let units = conflicts / MODE_CONFLICTS;
-    units.saturating_mul(units).leading_zeros() % 2 == 0
-}
+// In focused mode as many conflicts pass from one restart to the next at least, so that the search gets somewhere.
+const FOCUSED_INTERVAL: u64 = 2;
 
-/// The policy: whether a restart that is due is made. The bound on steps needs no restart, so any answer would do. At the
-/// setting 0 each is made. Else those are made before a long interval, in stable mode, or where the glue of the last
-/// learned clauses is high, as where a search got stuck.
-fn is_restart_wanted<A: Allocator + Copy>(ctx: &Context<A>) -> bool
-    ensures { ctx.now.solver_config.restart_glue ≡ 0 → IsTrue result }
+/// The policy: whether the search restarts as a step begins, where a restart is due or not. The bound on steps needs no
+/// restart, and stands wherever one is allowed, so that any answer would do that keeps to `allowed`. At the setting 0 each
+/// that is due is made, and no other. Else those are made before a long interval, in stable mode. In focused mode it
+/// restarts at any step where it may and the glue of the last learned clauses is high, as where a search got stuck.
+fn is_restart_wanted<A: Allocator + Copy>(ctx: &Context<A>, is_due: bool) -> bool
+    ensures each { ctx.now.solver_config.restart_glue ≡ 0 → result ≡ is_due }
+    ensures allowed { IsTrue result →
+        IsTrue is_due ⊎ (ctx.now.schedule.next_restart < 2 ^ suc (length ctx.now.assignment.current)) }
 {
     let hundredths = ctx.solver_config.restart_glue();
     if hundredths == 0 {
-        return true;
+        return is_due;
     }
-    if is_stable(ctx.counters.conflicts) {
-        return ctx.schedule.steps_to_restart() >= STABLE_INTERVAL;
+    if !ctx.counters.is_focused() {
+        return is_due && ctx.schedule.steps_to_restart() >= STABLE_INTERVAL;
     }
-    ctx.counters.is_glue_high(hundredths)
+    let variables = ctx.assignment.assignment().len();
+    (is_due || ctx.schedule.is_interval_short(variables))
+        && ctx.counters.conflicts_since_restart() >= FOCUSED_INTERVAL
+        && ctx.counters.is_glue_high(hundredths)
 }
 
-/// Begins a step of the schedule, which restarts the search where a restart is due. Assumptions keep their levels.
-fn restart_if_due<A: Allocator + Copy>(ctx: &mut Context<A>)
+/// Begins a step of the schedule, which restarts the search where the policy wants it. Assumptions keep their levels.
+fn restart_if_wanted<A: Allocator + Copy>(ctx: &mut Context<A>)
     requires ready { IsReady ctx.old }
     requires counted { ctx.old.schedule.steps < 2 ^ 64 - 1 }
     ensures ready { IsReady ctx.new }
@@ -68,13 +65,11 @@ fn restart_if_due<A: Allocator + Copy>(ctx: &mut Context<A>)
     ensures frame { ChangesBegun ctx.old ctx.new }
 {
     let scale = ctx.solver_config.luby_restart_interval_scale();
-    if !ctx.schedule.begin_step(scale) {
+    let is_due = ctx.schedule.begin_step(scale);
+    if !is_restart_wanted(ctx, is_due) {
         return;
     }
-    if !is_restart_wanted(ctx) {
-        return;
-    }
-    count(&mut ctx.counters.restarts, 1);
+    ctx.counters.count_restart();
     restart(ctx);
 }
 
@@ -127,8 +122,8 @@ fn inprocess_if_due<A: Allocator + Copy, P: ProofTracer>(
     Ok(())
 }
 
-/// Begins a step of the schedule: a restart, and then inprocessing, each where it is due. Fails where it is out of memory
-/// or the tracer fails.
+/// Begins a step of the schedule: a restart where the policy wants it, and then inprocessing where it is due. Fails where
+/// it is out of memory or the tracer fails.
 pub fn begin_step<A: Allocator + Copy, P: ProofTracer>(
     ctx: &mut Context<A>,
     proof: &mut P,
@@ -143,12 +138,12 @@ pub fn begin_step<A: Allocator + Copy, P: ProofTracer>(
     ensures frame { ChangesReduced ctx.old ctx.new }
     ensures broken { IfErr result (λ error. BreaksOff P.breaks_off proof.old (faults_of error) proof.new) }
 {
-    restart_if_due(ctx);
+    restart_if_wanted(ctx);
     inprocess_if_due(ctx, proof)?;
     Ok(())
 }
 
-/// Makes one step of the schedule: a restart and inprocessing, each where it is due, then a conflict step. The step is
+/// Makes one step of the schedule: a restart, inprocessing where it is due, then a conflict step. The step is
 /// counted, unless it fails. Fails where it is out of memory, the clause store is full or the tracer fails.
 pub fn schedule_step<A: Allocator + Copy, P: ProofTracer>(
     ctx: &mut Context<A>,

@@ -66,7 +66,7 @@ module _ {glue : ℕ} (q : Plan) (level : ℕ) (s t : View) (w : WellFormed s) (
   begun-steps u o lines k = part_step (search_of s) (search_of t) (search_of u) o [] lines begun-view.proves k
 
   -- and the rank after it
-  pub begun-rises : (u : View) → ((n : ℕ) → length t.trail ≤ n → rank n (kinds t) < rank n (kinds u)) → IsPlannedStep q (kinds s) (kinds u)
+  pub begun-rises : (u : View) → ((n : ℕ) → length t.trail ≤ n → rank n (kinds t) < rank n (kinds u)) → IsPlannedStep (length s.values) q (kinds s) (kinds u)
   begun-rises u rises =
       let flags = length-map s.trail (λ l. is_implied (node_of s l)) in
       let b = begun-view.shorter in

@@ -27,8 +27,8 @@ use Rattle.varisat_theory.proofs.journals.Renaming.{map-∈}
 use Rattle.varisat_literals.specs.promises.Numbers.{polarity_of}
 use Rattle.varisat_theory.specs.inside.Luby.{luby, saturated}
 use Rattle.varisat_theory.proofs.bounds.RestartPoints.{length_with_units}
-use Rattle.varisat_schedule.specs.Plans.{Plan, IsPlan, IsDue, first_plan, step_begun, next_plan, PlannedCall}
-use Rattle.varisat_schedule.specs.CallSteps.{steps_since, HasComeTo, HasComeWithout}
+use Rattle.varisat_schedule.specs.Plans.{Plan, IsPlan, first_plan, step_begun, next_plan, PlannedCall}
+use Rattle.varisat_schedule.specs.CallSteps.{steps_since, AllowsRestart, HasComeTo, HasComeWithout}
 use Rattle.varisat_schedule.proofs.CallSteps.{goes-on}
 use Rattle.varisat_schedule.proofs.StepsWithout.{begins-anywhere, is-short-without}
 use Rattle.varisat_prop.specs.Leaving.{leaves, staying}
@@ -132,7 +132,7 @@ room-same x y n m g room vs d h = room vs d (λ v i. (g v).1 (h v i))
 
 -- as a step begins
 begun-without : (c : PlannedCall) (q : Plan) (units : ℕ) (before trail : List Bool) → 0 < c.scale → q.steps < 2 ^ 64 - 1 →
-    ((IsDue q → ⊥) → trail ≡ before) → HasComeWithout c q units before → HasBegunWithout c q units trail
+    ((AllowsRestart c.variables q → ⊥) → trail ≡ before) → HasComeWithout c q units before → HasBegunWithout c q units trail
 begun-without c q units before trail h l same r after rises short =
     let m = c.variables in
     let first = with_units units before in
@@ -180,7 +180,7 @@ come-begun {A} are x z r h l b f c k =
     come-settled (as-inprocessed InprocessesIfDue are t z) t z b.inprocesses.goes_on (f ∙ sym config) c x.schedule
     (record {
       units = k.units;
-      begun = begun-without c x.schedule k.units (kinds (view x)) (kinds (view t)) positive l (λ d. ap kinds (b.restarts.may.stays d)) k.come;
+      begun = begun-without c x.schedule k.units (kinds (view x)) (kinds (view t)) positive l (λ d. ap kinds (b.restarts.may.stays (subst (λ n. AllowsRestart n x.schedule → ⊥) k.variables d))) k.come;
       scale = k.scale ∙ sym (ap (λ (s : Settings). s.luby_restart_interval_scale) config);
       variables = k.variables ∙ sym count;
       room = room-same x t k.units c.variables b.decidable k.room;

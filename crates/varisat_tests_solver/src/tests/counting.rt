@@ -4,6 +4,7 @@ use std::io::Cursor;
 use varisat::search::Counters;
 use varisat::solver::{Solver, SolverError};
 use varisat_formula::io::{MemoryTarget, ReadSource};
+use varisat_literals::{Lit, Var};
 use varisat_names::config::SolverConfigUpdate;
 
 type TestSolver = Solver<MemoryTarget<Global>, Global>;
@@ -34,6 +35,59 @@ fn counted_in_new(
     let counted = counted(&mut solver, restart_glue, text);
     drop(solver);
     counted
+}
+
+// The pigeon, of eight, sits in the hole, of seven.
+fn sits(pigeon: usize, hole: usize) -> Lit {
+    Var::from_index(pigeon % 8 * 7 + hole % 7).positive()
+}
+
+// Each pigeon sits in a hole, and no two in the same.
+fn add_pigeons(solver: &mut TestSolver) -> Result<(), SolverError> {
+    for pigeon in 0..8 {
+        solver.add_clause(&[
+            sits(pigeon, 0),
+            sits(pigeon, 1),
+            sits(pigeon, 2),
+            sits(pigeon, 3),
+            sits(pigeon, 4),
+            sits(pigeon, 5),
+            sits(pigeon, 6),
+        ])?;
+        for hole in 0..7 {
+            for other in 0..pigeon {
+                solver.add_clause(&[!sits(pigeon, hole), !sits(other, hole)])?;
+            }
+        }
+    }
+    Ok(())
+}
+
+// How many restarts a search of them makes, where the second one is due at the step.
+fn restarts_of_pigeons(solver: &mut TestSolver, second: u64) -> Result<u64, SolverError> {
+    let mut update = SolverConfigUpdate::new();
+    update.luby_restart_interval_scale = Some(second);
+    update.restart_glue = Some(110);
+    solver.config(&update)?;
+    add_pigeons(solver)?;
+    let _ = solver.solve()?;
+    Ok(solver.statistics().restarts)
+}
+
+fn restarts_in_new(alloc: Global, second: u64) -> Option<u64> {
+    let mut solver = Solver::new_in(alloc);
+    let restarts = restarts_of_pigeons(&mut solver, second).ok();
+    drop(solver);
+    restarts
+}
+
+// They are 56 variables, so that an interval is short which ends before step 2^57. The first step begins with a restart, and the
+// search takes more than 1,024 conflicts.
+#[test]
+fn restarts_come_between_points(rt: HostRuntime) {
+    let short = restarts_in_new(rt.alloc(), (1 << 57) - 1);
+    assert!(rt; short.is_some_and(|restarts| restarts > 1));
+    assert!(rt; restarts_in_new(rt.alloc(), 1 << 57) == Some(1));
 }
 
 // By the first decision both clauses of two literals with it conflict, so that one unit clause is learned; it makes the

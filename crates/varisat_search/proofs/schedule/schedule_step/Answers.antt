@@ -45,7 +45,7 @@ module _ {A : Type 0} (x t u : Context A) (r : IsReady x) (b : RestartsByPolicy 
       )
 
   scheduled-rises : (z : View) → WellFormed z → length z.values ≡ length (view u).values →
-      ((n : ℕ) → length (view u).trail ≤ n → rank n (kinds (view u)) < rank n (kinds z)) → IsPlannedStep x.schedule (kinds (view x)) (kinds z)
+      ((n : ℕ) → length (view u).trail ≤ n → rank n (kinds (view u)) < rank n (kinds z)) → IsPlannedStep (length (view x).values) x.schedule (kinds (view x)) (kinds z)
   scheduled-rises z w count rises =
       let (more, e) = k.kinds_more in
       let begun = begun-view x.schedule x.assumptions.levels (view x) (view t) r.well r.settled b in

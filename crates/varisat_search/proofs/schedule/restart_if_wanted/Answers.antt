@@ -1,18 +1,30 @@
-use Rattle.std.proofs.Common.{◌≡◌, ◌≤◌, length, ⊎_elim, inl, inr, refl, ap, ◌∙◌}
+use Rattle.std.proofs.Common.{◌≡◌, ◌≤◌, IsTrue, length, subst, ⊎_elim, inl, inr, refl, ap, ◌∙◌}
 use Rattle.std.proofs.lemmas.Bool.{cases_lt}
-use Rattle.varisat_schedule.specs.Plans.{step_begun}
+use Rattle.varisat_schedule.specs.Plans.{IsDue, step_begun}
 use Rattle.varisat_vsids.specs.Activities.{Activities}
 use Rattle.varisat_search.specs.declared.context.Context.{Context}
 use Rattle.varisat_search.specs.Contexts.{view}
 use Rattle.varisat_search.specs.Frames.{begun_plan}
 use Rattle.varisat_search.specs.Restarts.{RestartsByPolicy}
+use Rattle.varisat_schedule.specs.CallSteps.{AllowsRestart}
+use Rattle.varisat_schedule.proofs.CallSteps.{allowed-begun}
 use Rattle.varisat_search.proofs.assuming.AssumptionContexts.{own-levels}
 use Rattle.varisat_search.proofs.stepping.Frames.{cut-activities}
 use Rattle.varisat_search.proofs.stepping.Backtrack.{cut-changes}
 use Rattle.varisat_search.proofs.stepping.ReadyAfter.{backtracked-ready, ready-with}
-use Rattle.varisat_search.proofs.schedule.restart_if_due.Given.{Over}
-use Rattle.varisat_search.proofs.schedule.restart_if_due.Goals.{After-restart}
-use Rattle.varisat_search.proofs.schedule.restart_if_due.Goals as goal
+use Rattle.varisat_search.proofs.schedule.restart_if_wanted.Given.{Over}
+use Rattle.varisat_search.proofs.schedule.restart_if_wanted.Goals.{After-restart}
+use Rattle.varisat_search.proofs.schedule.restart_if_wanted.Goals as goal
+
+-- what the policy wanted may be done
+allowed-restart : (g : Over) (c : After-restart g) → AllowsRestart (length (view c.args.ctx.now).values) c.args.ctx.now.schedule
+allowed-restart g c =
+    allowed-begun (length c.args.ctx.now.assignment.current) _ c.args.ctx.now.schedule c.begin_step-is_due.new.self _ c.begin_step-is_due.ensures.plan
+    c.begin_step-is_due.ensures.due (c.is_restart_wanted.ensures.allowed c.if-not-is_restart_wanted.false)
+
+-- and was due, where no other is wanted
+due-restart : (g : Over) (c : After-restart g) → c.args.ctx.now.solver_config.restart_glue ≡ 0 → IsDue c.args.ctx.now.schedule
+due-restart g c z = c.begin_step-is_due.ensures.due.0 (subst IsTrue (c.is_restart_wanted.ensures.each z) c.if-not-is_restart_wanted.false)
 
 restarts : (g : Over) (c : After-restart g) →
     RestartsByPolicy c.args.ctx.now.solver_config.restart_glue c.args.ctx.now.schedule c.args.ctx.now.assumptions.levels (view c.args.ctx.now)
@@ -20,19 +32,20 @@ restarts : (g : Over) (c : After-restart g) →
 restarts g c =
     let s = view c.args.ctx.now in
     let level = c.args.ctx.now.assumptions.levels in
-    let due = c.begin_step.ensures.due.0 c.if-not-begin_step.false in
+    let allowed = allowed-restart g c in
+    let due = due-restart g c in
     let undecided : length s.decisions ≤ level → view c.restart.new.ctx ≡ s = λ e. ap (λ (x : Context g.row.A.Denot). view x) (c.restart.ensures.same e) in
     record {
       may = record {
-        stays = λ n. absurd (n due);
+        stays = λ n. absurd (n allowed);
         undone = ⊎_elim (λ h. inr (h, c.restart.ensures.cut h)) (λ h. inl (undecided h)) (cases_lt level (length s.decisions));
       };
-      each = λ z. record { stays = λ n. absurd (n due); undecided = undecided; undone = λ d. c.restart.ensures.cut };
+      each = λ z. record { stays = λ n. absurd (n (due z)); undecided = undecided; undone = λ d. c.restart.ensures.cut };
     }
 
 -- the context whose levels were undone
 abbrev before : (g : Over) (c : After-restart g) → Context g.row.A.Denot
-before g c = record c.args.ctx.now { counters = record c.args.ctx.now.counters { restarts = c.count.new.counter }; schedule = c.begin_step.new.self }
+before g c = record c.args.ctx.now { counters = c.count_restart.new.self; schedule = c.begin_step-is_due.new.self }
 
 -- no assumption lost its level
 assumptions-stay : (g : Over) (c : After-restart g) → c.restart.new.ctx.assumptions ≡ c.args.ctx.now.assumptions
@@ -70,7 +83,7 @@ returns-clause-frame g c =
       trail = c.restart.new.ctx.trail;
       vsids = c.restart.new.ctx.vsids;
       schedule =
-          c.begin_step.new.self;
+          c.begin_step-is_due.new.self;
     }) (assumptions-stay g here)
     ∙ ap (λ p. record c.args.ctx.now {
       assignment = c.restart.new.ctx.assignment;
@@ -79,7 +92,7 @@ returns-clause-frame g c =
       vsids = c.restart.new.ctx.vsids;
       schedule = p;
     })
-    (c.begin_step.ensures.plan ∙ ap (λ n. step_begun n c.args.ctx.now.schedule) c.luby_restart_interval_scale-scale.ensures.value)
+    (c.begin_step-is_due.ensures.plan ∙ ap (λ n. step_begun n c.args.ctx.now.schedule) c.luby_restart_interval_scale-scale.ensures.value)
     ∙ ap (λ (v : Activities). record c.args.ctx.now {
       assignment = c.restart.new.ctx.assignment;
       counters = c.restart.new.ctx.counters;

@@ -27,7 +27,9 @@ pub struct Counters {
     pub recent_glue: u64,
     /// The same over the last 50,000 or so.
     pub usual_glue: u64,
-    /// Conflicts in focused mode whose clause is in both averages.
+    /// The same of the levels that a conflict in focused mode undid.
+    pub usual_jump: u64,
+    /// Conflicts in focused mode, which the averages are over.
     pub focused_conflicts: u64,
     /// How many conflicts had been analysed as the last restart was made.
     pub restarted_at: u64,
@@ -50,6 +52,11 @@ const PARTS: u64 = 1 << 20;
 // In what units the lengths of modes are. A search is in stable mode for so many conflicts at first.
 const MODE_CONFLICTS: u64 = 1024;
 
+// Where a conflict undoes more than so many quarters of a level in the mean, the search jumps between parts of the formula.
+// Formulas whose conflicts undo 2.0 to 6.3 levels are searched as fast or faster by what conflicts met last: orders, caches,
+// register files, counters. Those of 1.1 to 1.6 are not: random clauses, colourings, products, puzzles.
+const FAR_QUARTERS: u64 = 7;
+
 /// The moving average over so many numbers, in parts, once another number came.
 fn average_with(average: u64, number: u64, over: u64) -> u64
     requires { 0 < over }
@@ -67,12 +74,14 @@ impl Counters {
         units.saturating_mul(units).leading_zeros() % 2 == 1
     }
 
-    /// Takes the glue of a clause that was learned into both averages, which are over all clauses at first. What is
-    /// learned in stable mode is passed over: its glue is another, and restarts of focused mode are decided by the averages.
-    pub fn count_glue(&mut self, glue: usize)
+    /// Takes the glue of a clause that was learned, and how many levels its conflict undid, into the averages, which are over
+    /// all conflicts at first. Those in stable mode are passed over: their glue is another, and the averages are what focused
+    /// mode goes by.
+    pub fn count_learned(&mut self, glue: usize, undone: usize)
         ensures { self.new ≡ record self.old {
           recent_glue = self.new.recent_glue;
           usual_glue = self.new.usual_glue;
+          usual_jump = self.new.usual_jump;
           focused_conflicts = self.new.focused_conflicts;
         } }
     {
@@ -83,6 +92,12 @@ impl Counters {
         let learned = self.focused_conflicts.max(1);
         self.recent_glue = average_with(self.recent_glue, glue as u64, learned.min(RECENT));
         self.usual_glue = average_with(self.usual_glue, glue as u64, learned.min(USUAL));
+        self.usual_jump = average_with(self.usual_jump, undone as u64, learned.min(USUAL));
+    }
+
+    /// Whether conflicts in focused mode undo many levels in the mean.
+    pub fn jumps_far(&self) -> bool {
+        self.usual_jump > PARTS * FAR_QUARTERS / 4
     }
 
     /// Counts a restart.

@@ -1,5 +1,5 @@
 -- What a conflict that is learned from does to activities, and where the learned clause is stored.
-use Rattle.std.specs.Prelude.{◌≡◌, ◌<◌, List, length}
+use Rattle.std.specs.Prelude.{◌≡◌, ℕ, zero, suc, ◌<◌, List, length}
 use Rattle.varisat_theory.specs.promises.Derivations.{Line}
 use Rattle.varisat_prop.specs.declared.prop.graph.Reason.{Reason}
 use Rattle.varisat_prop.specs.declared.prop.graph.Conflict.{Conflict}
@@ -8,7 +8,7 @@ use Rattle.varisat_clause.specs.Stores.{Store}
 use Rattle.varisat_analysis.specs.Learned.{Analysis, AreInvolved}
 use Rattle.varisat_analysis.specs.Bumps.{literals_among, AreVariablesAbove, BumpsInvolved}
 use Rattle.varisat_analysis.specs.Assessments.{glue_of, assessed, BumpsClauses}
-use Rattle.varisat_vsids.specs.Activities.{Activities}
+use Rattle.varisat_vsids.specs.Activities.{Activities, decayed}
 use Rattle.varisat_search.specs.declared.context.Context.{Context}
 use Rattle.varisat_search.specs.Contexts.{view, IsNotUnsat}
 use Rattle.varisat_search.specs.Conflicts.{IsStoredAsReason}
@@ -20,10 +20,21 @@ use Rattle.varisat_search.specs.Steps.{SavesSome}
 abbrev pub HasMet : View → Analysis → Type 0
 HasMet s x = AreVariablesAbove s.nodes (literals_among s.clauses x.involved) x.met
 
+-- activities after so many decays
+abbrev pub decayed_further : ℕ → Activities → Activities
+decayed_further zero a = a
+decayed_further (suc k) a = decayed (decayed_further k a)
+
+-- The variables of the named clauses are bumped, and activities decay: once where the setting is 0, and else once or more.
+abbrev pub BumpsAndDecays : ℕ → View → List Conflict → Activities → Activities → Type 0
+BumpsAndDecays glue s names a c =
+    (b : Activities) × (k : ℕ) × (glue ≡ 0 → k ≡ 0) × (c ≡ decayed_further k b) × BumpsInvolved s names a b
+
 -- These variables are bumped, and activities decay. Which variables are available is left open.
 abbrev pub BumpsVariables : {A : Type 0} → Context A → Context A → Type 0
 BumpsVariables x y =
-    (b : Activities) × BumpsInvolved (view x) y.analyze_conflict.involved x.vsids b
+    (b : Activities)
+    × BumpsAndDecays x.solver_config.restart_glue (view x) y.analyze_conflict.involved x.vsids b
     × (y.vsids ≡ record b { available = y.vsids.available })
 
 -- the named clauses of the store are bumped by the levels at the conflict, and activities decay

@@ -249,6 +249,7 @@ fn learn_from_conflict<A: Allocator + Copy, P: ProofTracer>(
     bump_involved_clauses(ctx)?;
     // The glue of the learned clause is known by the levels at the conflict.
     let header = assess_learned(ctx);
+    let above = ctx.trail.current_level().saturating_sub(level);
     // At this level the learned clause leaves its first literal, and no earlier propagation is lost.
     backtrack(ctx, level);
     let Some(first) = first_of(ctx.analyze_conflict.clause()) else {
@@ -263,7 +264,7 @@ fn learn_from_conflict<A: Allocator + Copy, P: ProofTracer>(
         first,
         reason,
     )?;
-    ctx.counters.count_glue(header.glue());
+    ctx.counters.count_learned(header.glue(), above);
     Ok(())
 }
 

@@ -34,7 +34,8 @@ use Rattle.varisat_search.specs.Decisions.{HasActivities, AreDecidable, SameDeci
 use Rattle.varisat_clause.specs.Stores.{Store}
 use Rattle.varisat_clause.specs.Collected.{live_clauses}
 use Rattle.varisat_clause.specs.ClauseActivities.{ActivityScale}
-use Rattle.varisat_analysis.specs.Bumps.{BumpsInvolved, AreVariablesAbove, literals_among}
+use Rattle.varisat_analysis.specs.Bumps.{AreVariablesAbove, literals_among}
+use Rattle.varisat_search.specs.Learning.{BumpsAndDecays}
 use Rattle.varisat_analysis.specs.Assessments.{BumpsClauses, IsAssigned}
 use Rattle.varisat_analysis.specs.HeaderChanges.{SameButHeaders, ChangesHeaders}
 use Rattle.varisat_search.proofs.simplifying.HeaderChanges.{header-seen, store-view, headers-ready}
@@ -206,13 +207,16 @@ analysis-met {A} x0 x k m =
     (sym (ap (λ (y : Context A). view y) k)) m
 
 pub bumps-learned : {A : Type 0} (x0 x x1 z : Context A) → ChangesAnalysis x0 x →
-    (0 < length x.trail.decisions → BumpsInvolved (view x) x.analyze_conflict.involved x.vsids x1.vsids) → z.analyze_conflict ≡ x.analyze_conflict →
-    0 < length x0.trail.decisions → BumpsInvolved (view x0) z.analyze_conflict.involved x0.vsids x1.vsids
+    (0 < length x.trail.decisions →
+    BumpsAndDecays x.solver_config.restart_glue (view x) x.analyze_conflict.involved x.vsids x1.vsids) → z.analyze_conflict ≡ x.analyze_conflict →
+    0 < length x0.trail.decisions → BumpsAndDecays x0.solver_config.restart_glue (view x0) z.analyze_conflict.involved x0.vsids x1.vsids
 bumps-learned {A} x0 x x1 z k b e h =
     let n = ap (λ (y : Context A). length y.trail.decisions) k in
-    subst (λ s. BumpsInvolved s z.analyze_conflict.involved x0.vsids x1.vsids) (ap (λ (y : Context A). view y) k)
-    (subst (λ a. BumpsInvolved (view x) z.analyze_conflict.involved a x1.vsids) (ap (λ (y : Context A). y.vsids) k)
-    (subst (λ ps. BumpsInvolved (view x) ps x.vsids x1.vsids) (sym (ap (λ (y : Analysis). y.involved) e)) (b (omega (arith, h, n)))))
+    subst (λ g. BumpsAndDecays g (view x0) z.analyze_conflict.involved x0.vsids x1.vsids) (ap (λ (y : Context A). y.solver_config.restart_glue) k)
+    (subst (λ s. BumpsAndDecays x.solver_config.restart_glue s z.analyze_conflict.involved x0.vsids x1.vsids) (ap (λ (y : Context A). view y) k)
+    (subst (λ a. BumpsAndDecays x.solver_config.restart_glue (view x) z.analyze_conflict.involved a x1.vsids) (ap (λ (y : Context A). y.vsids) k)
+    (subst (λ ps. BumpsAndDecays x.solver_config.restart_glue (view x) ps x.vsids x1.vsids) (sym (ap (λ (y : Analysis). y.involved) e))
+    (b (omega (arith, h, n))))))
 
 -- What the bumps of clauses and the learned clause's header need of the context after analysis and bumps.
 module _ {A : Type 0} {x0 x1 : Context A} {i : Conflict} {level : ℕ} (d : Analyzed x0 x1 i level) where

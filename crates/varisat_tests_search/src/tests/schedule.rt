@@ -3,11 +3,11 @@
 use varisat_schedule::counters::{Counters, count};
 use varisat_schedule::schedule::Schedule;
 
-// So many clauses of the glue are learned.
+// So many clauses of the glue are learned, by conflicts each of which undoes a level.
 fn learn(counters: &mut Counters, clauses: u8, glue: usize) {
     for _ in 0..clauses {
         count(&mut counters.conflicts, 1);
-        counters.count_glue(glue);
+        counters.count_learned(glue, 1);
     }
 }
 
@@ -41,6 +41,26 @@ fn stable_glue_is_passed_over(rt: HostRuntime) {
     learn(&mut counters, 40, 4);
     assert!(rt; counters.focused_conflicts == 40);
     assert!(rt; !counters.is_glue_high(101));
+}
+
+// Two levels a conflict are many, one and a half are not. In stable mode none counts.
+#[test]
+fn jumps_are_far_above_a_mean(rt: HostRuntime) {
+    let mut counters = counters_at(100);
+    for _ in 0..50 {
+        count(&mut counters.conflicts, 1);
+        counters.count_learned(4, 9);
+    }
+    assert!(rt; !counters.jumps_far());
+    counters.conflicts = 1024;
+    for undone in [1, 2, 1, 2, 1, 2] {
+        counters.count_learned(4, undone);
+    }
+    assert!(rt; !counters.jumps_far());
+    for _ in 0..12 {
+        counters.count_learned(4, 2);
+    }
+    assert!(rt; counters.jumps_far());
 }
 
 // Stable up to 1,024 conflicts, focused up to 3,072, and so on: each two modes take twice as many as the two before.

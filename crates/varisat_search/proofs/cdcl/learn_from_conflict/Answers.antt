@@ -25,7 +25,7 @@ use Rattle.varisat_analysis.proofs.BumpedClauses.{tier-redundant}
 use Rattle.varisat_search.proofs.stepping.Frames.{schedule-through, cut-activities}
 use Rattle.varisat_search.proofs.learning.LearnContext.{analysis-ready, analysis-met, bumps-learned, Analyzed, analyzed-bumped, analyzed-well, analyzed-tracks, analyzed-clear, learned-assigned, analyzed-named, analyzed-assigned, with_store, analyzed-noted, noted-further, noted-saves, noted-bumps, analyzed-flags, Backtracked, learned-length, learned-count, saves-some, learned-listed, learned-paired, learned-tracks, Learning, learning-fits, learning-free, learning-node, learning-further, learning-activities, learning-fixed, refuted-undecided, refuted-further}
 use Rattle.varisat_search.proofs.cdcl.learn_from_conflict.Given.{Over}
-use Rattle.varisat_search.proofs.cdcl.learn_from_conflict.Goals.{After-backtrack, In_ok-reason, After-count_glue}
+use Rattle.varisat_search.proofs.cdcl.learn_from_conflict.Goals.{After-backtrack, In_ok-reason, After-count_learned}
 use Rattle.varisat_search.proofs.cdcl.learn_from_conflict.Goals as goal
 use Rattle.varisat_steps.specs.Traces.{TakesLines}
 
@@ -170,9 +170,9 @@ learning g c b = record {
   watched = c.in_ok-reason.ensures.watched;
 }
 
-abbrev last : (g : Over) (c : After-count_glue g) → Context g.row.A.Denot
+abbrev last : (g : Over) (c : After-count_learned g) → Context g.row.A.Denot
 last g c = record c.keep_learned.new.ctx
-    { assignment = c.enqueue_assignment.new.assignment; counters = c.count_glue.new.self; impl_graph = c.enqueue_assignment.new.impl_graph; trail = c.enqueue_assignment.new.trail }
+    { assignment = c.enqueue_assignment.new.assignment; counters = c.count_learned.new.self; impl_graph = c.enqueue_assignment.new.impl_graph; trail = c.enqueue_assignment.new.trail }
 
 pub keep_learned-requires : goal.keep_learned-requires
 keep_learned-requires g c =
@@ -197,18 +197,18 @@ enqueue_assignment-requires g c =
     record { assignable = (f.0, learning-node d, f.1); level = omega (arith, fits.0); depth = fits.1 }
 
 -- What comes of a clause that has literals.
-learned-further : (g : Over) (c : After-count_glue g) → IsStepFurther
+learned-further : (g : Over) (c : After-count_learned g) → IsStepFurther
     (λ lines. AddOne lines × TakesLines g.P.ProofTracer.takes c.args.proof.now lines c.trace_learned.new.proof) c.args.ctx.now (last g c)
 learned-further g c =
     let here = goal.at.returns-clause-learned g c in
     let d = learning g here.In_ok-reason (undone g here.After-backtrack) in
-    further g here.After-backtrack (last g here.After-count_glue)
-    (learning-further d (last g here.After-count_glue) refl
+    further g here.After-backtrack (last g here.After-count_learned)
+    (learning-further d (last g here.After-count_learned) refl
     (c.in_ok-enqueue_assignment.ensures.view c.keep_learned.new.ctx.clause_alloc c.keep_learned.new.ctx.binary_clauses)
     (taken g here.After-backtrack) (taken-is g here.After-backtrack (c.in-Some.first ∷ c.in-Some.ensures.0)
     (sym c.clause.ensures ∙ c.in-Some.ensures.1)))
 
-learned-bumps : (g : Over) (c : After-count_glue g) → 0 < length c.args.ctx.now.trail.decisions → BumpsVariables c.args.ctx.now (last g c)
+learned-bumps : (g : Over) (c : After-count_learned g) → 0 < length c.args.ctx.now.trail.decisions → BumpsVariables c.args.ctx.now (last g c)
 learned-bumps g c h =
     let here = goal.at.returns-clause-learned g c in
     let d = learning g here.In_ok-reason (undone g here.After-backtrack) in
@@ -217,7 +217,7 @@ learned-bumps g c h =
     let x1 = c.bump_involved.new.ctx in
     let y = c.assess_learned-header.new.ctx in
     let w = c.backtrack.new.ctx in
-    let z = last g here.After-count_glue in
+    let z = last g here.After-count_learned in
     let same : y.vsids ≡ x1.vsids = ap activities c.assess_learned-header.ensures.frame.0 ∙ ap activities c.bump_involved_clauses.ensures.frame.0 in (
       x1.vsids,
       bumps-learned c.args.ctx.now c.analyze.new.ctx x1 z c.analyze.ensures.frame c.bump_involved.ensures.bumps
@@ -227,7 +227,7 @@ learned-bumps g c h =
           ∙ ap (λ (v : Activities). record v { available = w.vsids.available }) same),
     )
 
-learned-stored : (g : Over) (c : After-count_glue g) → 0 < length c.args.ctx.now.trail.decisions → BumpsAndStores c.args.ctx.now (last g c)
+learned-stored : (g : Over) (c : After-count_learned g) → 0 < length c.args.ctx.now.trail.decisions → BumpsAndStores c.args.ctx.now (last g c)
 learned-stored g c h =
     let here = goal.at.returns-clause-learned g c in
     let b = here.After-backtrack in
@@ -280,7 +280,7 @@ returns-clause-learned g c =
       bumps = learned-bumps g c;
       stored = learned-stored g c;
       last = subst (λ xs. SavesSome (view x0) x0.assignment.last xs) (sym e) (saves g b);
-      fixed = λ n. learning-fixed (learning g here.In_ok-reason (undone g b)) (last g here.After-count_glue) refl
+      fixed = λ n. learning-fixed (learning g here.In_ok-reason (undone g b)) (last g here.After-count_learned) refl
           (c.in_ok-enqueue_assignment.ensures.view c.keep_learned.new.ctx.clause_alloc c.keep_learned.new.ctx.binary_clauses);
     }
 

@@ -3,11 +3,15 @@ use Rattle.std.proofs.Common.{◌≡◌, ℕ, suc, ◌+◌, ◌-◌, ◌^◌, �
 use Rattle.std.proofs.lemmas.List.{take-append-drop, take_more}
 use Rattle.varisat_theory.specs.promises.Literals.{Clause}
 use Rattle.varisat_theory.specs.promises.Propagation.{Conflicts}
+use Rattle.varisat_theory.specs.promises.Derivations.{TakesOut}
+use Rattle.varisat_theory.proofs.clauses.Growth.{conflicts_more, covered_by_more}
+use Rattle.varisat_theory.proofs.clauses.Sound.{takes_less}
+use Rattle.varisat_plain.proofs.Scans.{answers_false}
 use Rattle.varisat_plain.specs.promises.Checking.{IsAbsent}
 use Rattle.varisat_lines.specs.declared.format.Encoding.{Encoding}
 use Rattle.varisat_lines.specs.declared.format.Encoding.TheVariants.{Text, Binary}
 use Rattle.varisat_lines.specs.declared.format.LineKind.{LineKind}
-use Rattle.varisat_lines.specs.declared.format.LineKind.TheVariants.{Adds, Deletes}
+use Rattle.varisat_lines.specs.declared.format.LineKind.TheVariants.{Adds, Deletes, Accepts, Assumes, Fails}
 use Rattle.varisat_proof.specs.declared.checker.line.LineStatus.{LineStatus}
 use Rattle.varisat_proof.specs.declared.checker.line.LineStatus.TheVariants.{Taken, Unproved, Absent, Unassumed}
 use Rattle.varisat_lines.specs.declared.token.Symbol.{Symbol}
@@ -24,7 +28,10 @@ use Rattle.varisat_lines.specs.promises.Grammar.{Accepted, Faulty, tag_kind}
 use Rattle.varisat_lines.specs.inside.Machine.{ParserState, Parsed, ReaderState, line_at, number_event, begin_event, event, begin_line, after_number, moved, last_symbol, put, at_end, happens, after, parsed, parsed_from, begin, last_event, last_place, last_offset}
 use Rattle.varisat_lines.specs.promises.Means.{BytesMean, Means}
 use Rattle.varisat_proof.specs.promises.Marked.{MarkedLog, ProofState, Rules, strict_rules, GoesBy, IsCheckBy, state_of}
-use Rattle.varisat_proof.specs.inside.Checks.{IsLineStatus, StopsBehind, IsAfterLines, LastIsWrong, IsWrongLast, with_lines, HasRead, CheckBreaksOff, EndsWith, result_at_end}
+use Rattle.varisat_proof.specs.declared.checker.line.LineRules.{LineRules}
+use Rattle.varisat_proof.specs.declared.checker.line.LineRules.TheVariants.{Strict, Drat}
+use Rattle.varisat_proof.specs.promises.DratChecks.{rules_of}
+use Rattle.varisat_proof.specs.inside.Checks.{IsRefutedBehind, IsLineStatus, StopsBehind, IsAfterLines, LastIsWrong, IsWrongLast, with_lines, HasRead, CheckBreaksOff, EndsWith, result_at_end}
 use Rattle.varisat_lines.proofs.TokenLines.{parsed_means}
 
 -- 1. Lines.
@@ -40,6 +47,28 @@ error_of status step = CheckFailed step
 
 pub state_is : (P P' : List Clause) (logged logged' : MarkedLog) → P' ≡ P → logged' ≡ logged → (let s : ProofState = state_of P' logged' in s) ≡ state_of P logged
 state_is P P' logged logged' e h = ap (λ x. let s : ProofState = state_of x logged' in s) e ∙ ap (λ x. let s : ProofState = state_of P x in s) h
+
+-- nothing conflicts once a clause was taken out
+calm_without : (P : List Clause) (c : Clause) (Q : List Clause) → TakesOut P c Q → (Conflicts P [] → ⊥) → (f : Bool) → f ≡ false → IsTrue f ↔ Conflicts Q []
+calm_without P c Q t n f e =
+    subst (λ x. IsTrue x ↔ Conflicts Q []) (sym e)
+    (answers_false _ (λ k. n (conflicts_more Q P [] [] (covered_by_more Q P (takes_less P c Q t)) (λ l m. m) k)))
+
+calm_still : (P Q : List Clause) → Q ≡ P → (Conflicts P [] → ⊥) → (f : Bool) → f ≡ false → IsTrue f ↔ Conflicts Q []
+calm_still P Q q n f e =
+    subst (λ x. IsTrue x ↔ Conflicts Q []) (sym e) (answers_false _ (λ k. n (subst (λ (x : List Clause). Conflicts x []) q k)))
+
+-- what was said behind a line that was taken is right, by both rules
+pub refuted_behind : (mode : LineRules) (t r : ProofState) (kind : LineKind) (c : Clause) (f : Bool) → IsRefutedBehind kind r.present f →
+    (Conflicts t.present [] → ⊥) → (rules_of mode).takes t (line_of_kind kind c) r → IsTrue f ↔ Conflicts r.present []
+refuted_behind Strict t r Deletes c f e n h =
+    subst (λ (x : ProofState). IsTrue f ↔ Conflicts x.present []) (sym h.2) (calm_without t.present c h.0 h.1 n f e)
+refuted_behind Drat t r Deletes c f e n (inl h, _) = calm_still t.present r.present h.1 n f e
+refuted_behind Drat t r Deletes c f e n (inr h, _) = calm_without t.present c r.present h.0 n f e
+refuted_behind mode t r Adds c f e n h = e
+refuted_behind mode t r Accepts c f e n h = e
+refuted_behind mode t r Assumes c f e n h = e
+refuted_behind mode t r Fails c f e n h = e
 
 module _ (R : Rules) where
   pub goes_more : (lines : List ProofLine) (s t : ProofState) (line : ProofLine) (r : ProofState) → GoesBy R s lines t → (Conflicts t.present [] → ⊥) →
@@ -120,9 +149,11 @@ module _ (R : Rules) where
     )
 
     pub on_taken : (status : LineStatus) (f : Bool) → status ≡ Taken → ((Conflicts t.present [] → ⊥) → IsLineStatus R t line status r) →
-        IsTrue f ↔ Conflicts r.present [] →
+        ((Conflicts t.present [] → ⊥) → R.takes t line r → IsTrue f ↔ Conflicts r.present []) →
         StopsBehind R f s (lines ++ line ∷ []) r step
-    on_taken status f e h k = taken f k (subst (λ x. IsLineStatus R t line x r) e (h now.1))
+    on_taken status f e h k =
+        let w = subst (λ x. IsLineStatus R t line x r) e (h now.1) in
+        taken f (k now.1 w) w
 
   -- 2. Results.
   fault_result : (b : Bool) (f : Encoding) (P : ProofState) (bytes : List ℕ) (lines : List ProofLine) (o : ℕ) (Q : ProofState) (n : ℕ) →

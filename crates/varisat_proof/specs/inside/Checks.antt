@@ -1,5 +1,5 @@
 -- How a checker stands behind lines of a proof, and behind its bytes.
-use Rattle.std.specs.Prelude.{◌≡◌, ◌≢◌, ℕ, suc, List, [], ◌∷◌, ◌++◌, length, Bool, true, false, if◌then◌else◌, Result, Ok, Err}
+use Rattle.std.specs.Prelude.{◌≡◌, ◌≢◌, ℕ, suc, List, [], ◌∷◌, ◌++◌, length, Bool, true, false, IsTrue, ◌↔◌, if◌then◌else◌, Result, Ok, Err}
 use Rattle.varisat_theory.specs.promises.Literals.{Literal, Clause}
 use Rattle.varisat_theory.specs.promises.Derivations.{Line, Add, Delete, Derives}
 use Rattle.varisat_plain.specs.promises.Checking.{IsWrong}
@@ -8,6 +8,7 @@ use Rattle.varisat_formula.specs.declared.dimacs.error.DimacsError.{DimacsError}
 use Rattle.varisat_formula.specs.declared.dimacs.error.DimacsErrorKind.TheVariants as kind
 use Rattle.varisat_lines.specs.declared.format.Encoding.{Encoding}
 use Rattle.varisat_lines.specs.declared.format.LineKind.{LineKind}
+use Rattle.varisat_lines.specs.declared.format.LineKind.TheVariants.{Deletes}
 use Rattle.varisat_proof.specs.declared.checker.line.LineStatus.{LineStatus}
 use Rattle.varisat_proof.specs.declared.checker.line.LineStatus.TheVariants.{Taken, Unproved, Absent, Unassumed}
 use Rattle.varisat_proof.specs.declared.checker.error.CheckVerdict.{CheckVerdict}
@@ -39,6 +40,11 @@ pub record HasRefuted (R : Rules) (s : ProofState) (lines : List ProofLine) (t :
   pub splits : lines ≡ front ++ back
   pub goes : GoesBy R s front t
   pub conflict : Conflicts t.present []
+
+-- What is said of whether propagation over P conflicts behind a line of this kind, before which it did not.
+abbrev pub IsRefutedBehind : LineKind → List Clause → Bool → Type 0
+IsRefutedBehind Deletes P found = found ≡ false
+IsRefutedBehind kind P found = IsTrue found ↔ Conflicts P []
 
 -- t is there behind lines that have refuted, or behind all of them, which have not
 abbrev pub StopsBehind : Rules → Bool → ProofState → List ProofLine → ProofState → ℕ → Type 0

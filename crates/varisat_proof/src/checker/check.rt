@@ -15,7 +15,7 @@ ghost use Rattle.varisat_lines.specs.promises.Lines.{line_of_kind};
 ghost use Rattle.varisat_proof.specs.promises.Marked.{state_of, strict_rules};
 ghost use Rattle.varisat_proof.specs.promises.Results.{IsResult};
 ghost use Rattle.varisat_proof.specs.promises.DratChecks.{rules_of, IsDratStatusOf, IsDratResult, ChecksDrat};
-ghost use Rattle.varisat_proof.specs.inside.Checks.{ReturnsStatus, TakesNext, position_of, ReadsNext, EndsBehind, ChecksFrom, result_at_end, ChecksLine, ChecksUnits, ChecksCore, RefusesText};
+ghost use Rattle.varisat_proof.specs.inside.Checks.{ReturnsStatus, TakesNext, position_of, ReadsNext, EndsBehind, IsRefutedBehind, ChecksFrom, result_at_end, ChecksLine, ChecksUnits, ChecksCore, RefusesText};
 ghost use Rattle.varisat_proof.specs.promises.Calls.{with_clause, at_input, BecomesOrRefuses, AddsText, IsStep, Checks, ChecksMarked, IsMarkedResult, IsTrueReport, IsRightFor, spends};
 
 use crate::checker::drat::{DratCounts, take_drat_line};
@@ -217,6 +217,21 @@ impl<A: Allocator + Copy> Checker<A> {
         Ok(found)
     }
 
+    /// The same behind a line of this kind, before which it did not. Where a clause was taken out it does not either, so that
+    /// a row of deletions costs nothing to propagate.
+    fn is_refuted_behind(&mut self, kind: LineKind) -> Result<bool, AllocError>
+        ensures found { IfOk result (λ found. IsRefutedBehind kind self.old.clauses found) }
+        ensures frame { self.new ≡ self.old }
+    {
+        match kind {
+            LineKind::Deletes => Ok(false),
+            LineKind::Adds | LineKind::Accepts | LineKind::Assumes | LineKind::Fails => {
+                let found = self.is_refuted()?;
+                Ok(found)
+            }
+        }
+    }
+
     /// Adds a clause, if it follows.
     fn add_line(&mut self, clause: &[Lit]) -> Result<bool, AllocError>
         ensures added { IfOk result
@@ -374,7 +389,7 @@ impl<A: Allocator + Copy> Checker<A> {
             LineStatus::Unassumed => return Err(CheckerError::CoreNotAssumed { step }),
             LineStatus::Taken => {}
         }
-        let refuted = match self.is_refuted() {
+        let refuted = match self.is_refuted_behind(kind) {
             Ok(refuted) => refuted,
             Err(_) => return Err(CheckerError::OutOfMemory),
         };

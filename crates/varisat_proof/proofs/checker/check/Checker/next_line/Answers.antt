@@ -4,7 +4,7 @@ use Rattle.varisat_proof.specs.declared.checker.line.LineStatus.TheVariants.{Tak
 use Rattle.varisat_proof.specs.declared.checker.error.CheckerError.TheVariants.{CheckFailed, NoSuchClause, CoreNotAssumed}
 use Rattle.varisat_lines.specs.promises.Lines.{line_of_kind}
 use Rattle.varisat_proof.specs.inside.Checks.{StopsBehind}
-use Rattle.varisat_proof.proofs.CheckedLines.{error_of, still_refuted, on_wrong, on_taken}
+use Rattle.varisat_proof.proofs.CheckedLines.{error_of, refuted_behind, still_refuted, on_wrong, on_taken}
 use Rattle.varisat_proof.specs.promises.Marked.{state_of}
 use Rattle.varisat_proof.proofs.checker.check.Checker.next_line.Goals as goal
 use Rattle.varisat_proof.specs.promises.DratChecks.{rules_of}
@@ -35,12 +35,14 @@ returns-in-Unassumed-clause-takes g c =
 
 pub returns-clause-takes : goal.returns-clause-takes
 returns-clause-takes g c =
-    λ s lines h. subst (λ (Q : List Clause). StopsBehind (rules_of c.args.rules) c.in-Ok-is_refuted.refuted s (lines ++ line_of_kind c.args.kind c.args.clause.now ∷ [])
-    (state_of Q c.take_line.new.builder) c.saturating_add-step.result) (sym (ap (λ h. h.clauses) c.is_refuted.ensures.frame))
+    λ s lines h. subst (λ (Q : List Clause). StopsBehind (rules_of c.args.rules) c.in-Ok-is_refuted_behind.refuted s (lines ++ line_of_kind c.args.kind c.args.clause.now ∷ [])
+    (state_of Q c.take_line.new.builder) c.saturating_add-step.result) (sym (ap (λ h. h.clauses) c.is_refuted_behind.ensures.frame))
     (on_taken (rules_of c.args.rules) c.args.count.now.refuted s lines (state_of c.args.self.now.clauses c.args.builder.now)
     (state_of c.take_line.new.self.clauses c.take_line.new.builder) c.args.count.now.steps c.saturating_add-step.result
-    (line_of_kind c.args.kind c.args.clause.now) c.if-count.false h c.saturating_add-step.ensures c.in-Ok.status c.in-Ok-is_refuted.refuted
-    c.in-Taken.is c.in-Ok.ensures.status c.in-Ok-is_refuted.ensures.found)
+    (line_of_kind c.args.kind c.args.clause.now) c.if-count.false h c.saturating_add-step.ensures c.in-Ok.status c.in-Ok-is_refuted_behind.refuted
+    c.in-Taken.is c.in-Ok.ensures.status
+    (refuted_behind c.args.rules (state_of c.args.self.now.clauses c.args.builder.now) (state_of c.take_line.new.self.clauses c.take_line.new.builder)
+    c.args.kind c.args.clause.now c.in-Ok-is_refuted_behind.refuted c.in-Ok-is_refuted_behind.ensures.found))
 
 pub returns-then-count-clause-takes : goal.returns-then-count-clause-takes
 returns-then-count-clause-takes g c = λ s lines h.

@@ -8,3 +8,4 @@ pub mod LeadingLemmas
 pub mod EliminateSteps
 pub mod UnitLemmas
 pub mod NotingLemmas
+pub mod DeriveLemmas

@@ -7,7 +7,7 @@ use Rattle.varisat_theory.specs.promises.Literals.{Literal, Clause, variable_of}
 use Rattle.varisat_theory.proofs.clauses.Members.{∈-append_cases, equal_or_not}
 use Rattle.varisat_theory.proofs.clauses.Values.{variable-literal}
 use Rattle.varisat_database.specs.Names.{short_of}
-use Rattle.varisat_rules.specs.inside.Noting.{StandsAt, AreNoted}
+use Rattle.varisat_rules.specs.inside.Noting.{StandsAt, NotesPositions}
 use Rattle.varisat_rules.specs.inside.Resolving.{IsOfOthers}
 use Rattle.varisat_rules.proofs.ResolveLemmas.{none_taken}
 
@@ -19,7 +19,7 @@ pub named_alike : (names : List ℕ) (m l : Literal) → variable_of m ≡ varia
 named_alike names m l q = name_of names m ∙ ap (λ v. get_or names v v) q ∙ sym (name_of names l)
 
 -- a variable is in no literal of the clause if none stands at its position
-pub absent_past : (names ps : List ℕ) (c : Clause) (l p : ℕ) → AreNoted names ps c → short_of names l / 2 < length ps →
+pub absent_past : (names ps : List ℕ) (c : Clause) (l p : ℕ) → NotesPositions names ps c → short_of names l / 2 < length ps →
     p ≡ get_or ps (short_of names l / 2) 0 → length c ≤ p → IsOfOthers c l
 absent_past names ps c l p n h e k m i q =
     let s = named_alike names m l q in
@@ -28,20 +28,20 @@ absent_past names ps c l p n h e k m i q =
     omega (arith, a, b, k)
 
 -- or one of another short name
-pub absent_other : (names ps : List ℕ) (c : Clause) (l p o : ℕ) → AreNoted names ps c → short_of names l / 2 < length ps →
+pub absent_other : (names ps : List ℕ) (c : Clause) (l p o : ℕ) → NotesPositions names ps c → short_of names l / 2 < length ps →
     p ≡ get_or ps (short_of names l / 2) 0 → o ≡ get_or c p 0 → (short_of names o / 2 ≡ short_of names l / 2 → ⊥) → IsOfOthers c l
 absent_other names ps c l p o n h e g d m i q =
     let s = named_alike names m l q in
     let a = (n m i (subst (λ x. x < length ps) (sym s) h)).1 in
     d (ap (λ x. short_of names x / 2) (g ∙ ap (λ j. get_or c j 0) (e ∙ sym (ap (λ x. get_or ps x 0) s))) ∙ a ∙ s)
 
-pub noted_none : (names ps : List ℕ) (c : Clause) → AreNoted names ps (take 0 c)
+pub noted_none : (names ps : List ℕ) (c : Clause) → NotesPositions names ps (take 0 c)
 noted_none names ps c m i h = absurd (none_taken m c i)
 
 -- one more literal, at the position behind the others
-pub noted_more : (names ps qs : List ℕ) (c : Clause) (l p : ℕ) → qs ≡ set ps (short_of names l / 2) p → p ≡ length c → AreNoted names ps c →
-    AreNoted names qs (c ++ l ∷ [])
-noted_more names ps qs c l p e q n = subst (λ (zs : List ℕ). AreNoted names zs (c ++ l ∷ [])) (sym e) go
+pub noted_more : (names ps qs : List ℕ) (c : Clause) (l p : ℕ) → qs ≡ set ps (short_of names l / 2) p → p ≡ length c → NotesPositions names ps c →
+    NotesPositions names qs (c ++ l ∷ [])
+noted_more names ps qs c l p e q n = subst (λ (zs : List ℕ). NotesPositions names zs (c ++ l ∷ [])) (sym e) go
   where
     there : get_or (c ++ l ∷ []) p 0 ≡ l
     there = subst (λ j. get_or (c ++ l ∷ []) j 0 ≡ l) (sym q) (get_or-append_seam c l [] 0)
@@ -57,7 +57,7 @@ noted_more names ps qs c l p e q n = subst (λ (zs : List ℕ). AreNoted names z
         let b = s.0 in
         (omega (arith, a, b), ap (λ x. short_of names x / 2) (get_or_append_left c (l ∷ []) 0 r b) ∙ s.1)
 
-    go : AreNoted names (set ps (short_of names l / 2) p) (c ++ l ∷ [])
+    go : NotesPositions names (set ps (short_of names l / 2) p) (c ++ l ∷ [])
     go m i h =
         let z = length-set ps (short_of names l / 2) p in
         ⊎_elim
@@ -73,10 +73,10 @@ taken_next c k h = rw add-one (take-suc c k 0 h)
 
 -- the same of the clause's first literals
 pub noted_next : (names ps qs : List ℕ) (c : Clause) (k l : ℕ) → k < length c → l ≡ get_or c k 0 → qs ≡ set ps (short_of names l / 2) k →
-    AreNoted names ps (take k c) → AreNoted names qs (take (k + 1) c)
+    NotesPositions names ps (take k c) → NotesPositions names qs (take (k + 1) c)
 noted_next names ps qs c k l h g e n =
     let t : take (k + 1) c ≡ take k c ++ l ∷ [] = taken_next c k h ∙ ap (λ x. take k c ++ x ∷ []) (sym g) in
-    subst (λ (d : Clause). AreNoted names qs d) (sym t) (noted_more names ps qs (take k c) l k e (sym (length-take-le k c (omega (arith, h)))) n)
+    subst (λ (d : Clause). NotesPositions names qs d) (sym t) (noted_more names ps qs (take k c) l k e (sym (length-take-le k c (omega (arith, h)))) n)
 
-pub noted_all : (names ps : List ℕ) (c : Clause) (k : ℕ) → length c ≤ k → AreNoted names ps (take k c) → AreNoted names ps c
-noted_all names ps c k h n = subst (λ (d : Clause). AreNoted names ps d) (take_all k c h) n
+pub noted_all : (names ps : List ℕ) (c : Clause) (k : ℕ) → length c ≤ k → NotesPositions names ps (take k c) → NotesPositions names ps c
+noted_all names ps c k h n = subst (λ (d : Clause). NotesPositions names ps d) (take_all k c h) n

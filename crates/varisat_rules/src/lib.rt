@@ -2,6 +2,7 @@
 //! models.
 #![tactic(auto)]
 
+pub mod derive;
 pub mod eliminate;
 pub mod positions;
 pub mod resolve;

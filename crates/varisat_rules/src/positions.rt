@@ -2,7 +2,7 @@
 ghost use Rattle.std.specs.Prelude.{◌≡◌, ◌/◌, ◌<◌, ◌^◌, true, length, slice_index_or, slice_set};
 ghost use Rattle.varisat_database.specs.Names.{short_of};
 ghost use Rattle.varisat_rules.specs.inside.Resolving.{OccursAs};
-ghost use Rattle.varisat_rules.specs.inside.Noting.{AreNoted};
+ghost use Rattle.varisat_rules.specs.inside.Noting.{NotesPositions};
 
 use crate::resolve::{Sign, sign_of};
 use std::alloc::Allocator;
@@ -28,7 +28,7 @@ pub fn note<A: Allocator + Copy>(
 /// Notes where each literal of the clause stands.
 pub fn note_all<A: Allocator + Copy>(positions: &mut [u32], names: &ShortNames<A>, clause: &[Lit])
     requires { length clause.now < 2 ^ 32 }
-    ensures { AreNoted names.now positions.new clause.now }
+    ensures { NotesPositions names.now positions.new clause.now }
 {
     for index in 0..clause.len() {
         note(positions, names, clause[index], index);
@@ -50,7 +50,7 @@ fn sign_noted<A: Allocator + Copy>(
     names: &ShortNames<A>,
     positions: &[u32],
 ) -> Sign
-    requires { AreNoted names.now positions.now clause.now }
+    requires { NotesPositions names.now positions.now clause.now }
     ensures { OccursAs clause.now lit result }
 {
     let short = names.of(lit).index();
@@ -82,7 +82,7 @@ pub fn sign_by<A: Allocator + Copy>(
     names: &ShortNames<A>,
     positions: &[u32],
 ) -> Sign
-    requires { is_noted ≡ true → AreNoted names.now positions.now clause.now }
+    requires { is_noted ≡ true → NotesPositions names.now positions.now clause.now }
     ensures { OccursAs clause.now lit result }
 {
     if is_noted {

@@ -2,7 +2,7 @@
 ghost use Rattle.std.specs.Prelude.{◌≡◌, ◌↔◌, true, false, IsTrue, IfOk, OnOk, MatchBool};
 ghost use Rattle.varisat_theory.specs.promises.Literals.{opposite};
 ghost use Rattle.varisat_theory.specs.promises.Membership.{◌∈◌};
-ghost use Rattle.varisat_rules.specs.inside.Noting.{AreNoted};
+ghost use Rattle.varisat_rules.specs.inside.Noting.{NotesPositions};
 ghost use Rattle.varisat_rules.specs.inside.Resolving.{OccursAs, Relates, LeavesOut, Resolves, Clashes};
 
 use crate::positions::sign_by;
@@ -67,7 +67,7 @@ pub fn relation_of<A: Allocator + Copy>(
     names: &ShortNames<A>,
     positions: &[u32],
 ) -> Relation
-    requires { is_noted ≡ true → AreNoted names.now positions.now other.now }
+    requires { is_noted ≡ true → NotesPositions names.now positions.now other.now }
     ensures { Relates clause.now other.now result }
 {
     let mut flipped: Option<Lit> = None;

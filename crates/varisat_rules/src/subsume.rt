@@ -1,7 +1,7 @@
 //! What a clause makes of another one in a database.
 ghost use Rattle.std.specs.Prelude.{◌≡◌, true, OnOk};
 ghost use Rattle.varisat_rules.specs.inside.States.{IsLaterState};
-ghost use Rattle.varisat_rules.specs.inside.Noting.{AreNoted};
+ghost use Rattle.varisat_rules.specs.inside.Noting.{NotesPositions};
 ghost use Rattle.varisat_rules.specs.inside.Resolving.{Compares};
 
 use crate::positions::note_all;
@@ -34,7 +34,7 @@ fn note_if_long<A: Allocator + Copy>(
     names: &ShortNames<A>,
     positions: &mut [u32],
 ) -> bool
-    ensures { result ≡ true → AreNoted names.now positions.new other.now }
+    ensures { result ≡ true → NotesPositions names.now positions.new other.now }
 {
     if other.len() > MOST_LITERALS {
         return false;

@@ -7,7 +7,7 @@ use Rattle.varisat_theory.specs.promises.Literals.{Literal, Clause, opposite, va
 use Rattle.varisat_theory.proofs.clauses.Members.{distinct_append, ∈-append_left, ∈-append_right, ∈-append_cases}
 use Rattle.varisat_theory.proofs.clauses.Places.{∈-get_or, ∈-take_more, ∈-take_all}
 use Rattle.varisat_theory.specs.promises.Searches.{IsTautology}
-use Rattle.varisat_rules.specs.inside.Noting.{AreNoted}
+use Rattle.varisat_rules.specs.inside.Noting.{NotesPositions}
 use Rattle.varisat_rules.specs.inside.Resolving.{IsOfOthers}
 use Rattle.varisat_rules.proofs.NotingLemmas.{noted_none}
 use Rattle.varisat_rules.proofs.ResolveLemmas.{none_taken, taken_in, taken_before, taken_last}
@@ -75,14 +75,14 @@ pub distinct_none : (c : Clause) → IsDistinct (map variable_of (take 0 c))
 distinct_none [] = tt
 distinct_none (x ∷ c) = tt
 
-pub noted_before : (names ps : List ℕ) (c : Clause) (i x : ℕ) → i < length c → x ≡ get_or c i 0 → AreNoted names ps (take i c ++ x ∷ []) →
-    AreNoted names ps (take (i + 1) c)
-noted_before names ps c i x h q = subst (λ (e : Clause). AreNoted names ps e) (ap (λ y. take i c ++ y ∷ []) q ∙ sym (take_next c i 0 h))
+pub noted_before : (names ps : List ℕ) (c : Clause) (i x : ℕ) → i < length c → x ≡ get_or c i 0 → NotesPositions names ps (take i c ++ x ∷ []) →
+    NotesPositions names ps (take (i + 1) c)
+noted_before names ps c i x h q = subst (λ (e : Clause). NotesPositions names ps e) (ap (λ y. take i c ++ y ∷ []) q ∙ sym (take_next c i 0 h))
 
 -- The same, and where the list's literals stand was noted if the flag says so.
 pub record ReadsBefore (names : List ℕ) (t : Bool) (ps : List ℕ) (c : Clause) (i : ℕ) (e : Clause) : Type 0 where
   pub takes : TakesBefore c i e
-  pub noted : t ≡ true → AreNoted names ps e
+  pub noted : t ≡ true → NotesPositions names ps e
 
 pub reads_none : (names : List ℕ) (t : Bool) (ps : List ℕ) (c e : Clause) → e ≡ [] → ReadsBefore names t ps c 0 e
 reads_none names t ps c e q = record {
@@ -94,12 +94,12 @@ pub reads_same : (names : List ℕ) (t : Bool) (ps qs : List ℕ) (c e f : Claus
     ReadsBefore names t ps c i e → ReadsBefore names t qs c (i + 1) f
 reads_same names t ps qs c e f i x q p r z s = record {
   takes = set_same c e f i x q p r s.takes;
-  noted = λ u. subst (λ (d : Clause). AreNoted names qs d) (sym r) (subst (λ (ws : List ℕ). AreNoted names ws e) (sym z) (s.noted u));
+  noted = λ u. subst (λ (d : Clause). NotesPositions names qs d) (sym r) (subst (λ (ws : List ℕ). NotesPositions names ws e) (sym z) (s.noted u));
 }
 
 pub reads_added : (names : List ℕ) (t : Bool) (ps qs ws : List ℕ) (c e f g : Clause) (i x : ℕ) → i < length c → x ≡ get_or c i 0 → IsOfOthers e x →
-    f ≡ g → qs ≡ ws → g ≡ e ++ x ∷ [] → (t ≡ true → AreNoted names ws g) → ReadsBefore names t ps c i e → ReadsBefore names t qs c (i + 1) f
+    f ≡ g → qs ≡ ws → g ≡ e ++ x ∷ [] → (t ≡ true → NotesPositions names ws g) → ReadsBefore names t ps c i e → ReadsBefore names t qs c (i + 1) f
 reads_added names t ps qs ws c e f g i x h q o r z a n s = record {
   takes = set_added c e f i x h q o (r ∙ a) s.takes;
-  noted = λ u. subst (λ (d : Clause). AreNoted names qs d) (sym r) (subst (λ (vs : List ℕ). AreNoted names vs g) (sym z) (n u));
+  noted = λ u. subst (λ (d : Clause). NotesPositions names qs d) (sym r) (subst (λ (vs : List ℕ). NotesPositions names vs g) (sym z) (n u));
 }

@@ -83,12 +83,51 @@ fn resolvent_length(clause: &[Lit], other: &[Lit], lit: Lit) -> Option<usize> {
     Some(length)
 }
 
-/// Whether the resolvents are few and short enough.
+/// How many literals the clauses at the places have.
+fn literals_at<A: Allocator + Copy>(db: &Database<A>, places: &[u32]) -> u64 {
+    let mut sum: u64 = 0;
+    for place in places {
+        sum = sum.saturating_add(db.clause(*place as usize).len() as u64);
+    }
+    sum
+}
+
+/// How many literals the resolvents have, if they are few and short enough.
+fn literals_of_resolvents<A: Allocator + Copy>(
+    db: &Database<A>,
+    lit: Lit,
+    with: &[u32],
+    against: &[u32],
+    most: usize,
+    limits: &Limits,
+) -> Option<u64> {
+    let mut count: usize = 0;
+    let mut sum: u64 = 0;
+    for one in with {
+        for other in against {
+            if let Some(length) = resolvent_length(
+                db.clause(*one as usize),
+                db.clause(*other as usize),
+                lit,
+            ) {
+                count = count.saturating_add(1);
+                if count > most || length > limits.resolvent_literals {
+                    return None;
+                }
+                sum = sum.saturating_add(length as u64);
+            }
+        }
+    }
+    Some(sum)
+}
+
+/// Whether the resolvents are few and short enough, and there is room for them in place of so many literals.
 fn is_worth<A: Allocator + Copy>(
     db: &Database<A>,
     lit: Lit,
     with: &[u32],
     against: &[u32],
+    before: u64,
     limits: &Limits,
 ) -> bool {
     let most = with
@@ -100,28 +139,18 @@ fn is_worth<A: Allocator + Copy>(
         return false;
     }
     let pairs = with.len().saturating_mul(against.len());
-    if pairs <= most && length <= limits.resolvent_literals {
+    let is_small = pairs <= most && length <= limits.resolvent_literals;
+    if is_small && limits.has_room(before, pairs.saturating_mul(length) as u64) {
         return true;
     }
-    let mut count: usize = 0;
-    for one in with {
-        for other in against {
-            if let Some(length) = resolvent_length(
-                db.clause(*one as usize),
-                db.clause(*other as usize),
-                lit,
-            ) {
-                count = count.saturating_add(1);
-                if count > most || length > limits.resolvent_literals {
-                    return false;
-                }
-            }
-        }
+    match literals_of_resolvents(db, lit, with, against, most, limits) {
+        Some(after) => limits.has_room(before, after),
+        None => false,
     }
-    true
 }
 
-/// Resolves the literal's variable away where that is worth it. The literal stands in no more clauses than its opposite.
+/// Resolves the literal's variable away where that is worth it. The literal stands in no more clauses than its
+/// opposite.
 fn eliminate_by<A: Allocator + Copy>(
     db: &mut Database<A>,
     lit: Lit,
@@ -147,10 +176,13 @@ fn eliminate_by<A: Allocator + Copy>(
     if !collect(db, lit, with)? || !collect(db, !lit, against)? {
         return Ok(false);
     }
-    if !is_worth(db, lit, with, against, limits) {
+    let before = literals_at(db, with).saturating_add(literals_at(db, against));
+    if !is_worth(db, lit, with, against, before, limits) {
         return Ok(false);
     }
+    let count = db.literal_count();
     resolve_away(db, lit, with, against, literals)?;
+    limits.replace(before, db.literal_count().saturating_sub(count) as u64);
     Ok(true)
 }
 

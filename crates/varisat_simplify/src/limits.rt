@@ -1,18 +1,31 @@
-//! How much work a simplification may take, counted in literals, so that it takes no longer than a constant times the given ones, and
-//! which eliminations are worth it.
+//! How much work a simplification may take, counted in literals, so that it takes no longer than a constant times the
+//! given ones, and which eliminations are worth it.
 use std::alloc::Allocator;
 use varisat_database::database::Database;
 
-/// How much work a simplification may take, and which variables it eliminates. What is done is taken off; what comes too
-/// late stays as it is.
+/// In a longer formula no equal or failed literals are looked for: simplifying one of three million literals took half as
+/// long again.
+const MOST_LOOKED_THROUGH: u64 = 2_000_000;
+
+/// How much work a simplification may take, and which variables it eliminates. What is done is taken off; what comes
+/// too late stays as it is.
 #[derive(Clone, Copy)]
 pub struct Limits {
-    /// How many literals are looked at, at most, to compare clauses. Each place where a clause is passed over counts as one.
+    /// How many literals are looked at, at most, to compare clauses. Each place where a clause is passed over counts as
+    /// one.
     pub comparisons: u64,
     /// How many pairs of literals are looked at, at most, to resolve clauses.
     pub resolvents: u64,
+    /// How many places of clauses are looked at, at most, to find equal literals. If it is 0, neither these nor failed
+    /// ones are looked for.
+    pub visits: u64,
+    /// How many places of clauses are looked at, at most, to find failed literals.
+    pub probes: u64,
     /// How many literals the clauses may have in all that there ever were. Where they have as many, none is added.
     pub literals: u64,
+    /// How many literals eliminations may add in all to those of the live clauses, beside as many as eliminations took
+    /// away.
+    pub room: u64,
     /// How many literals a resolvent has at most by which a variable is eliminated.
     pub resolvent_literals: usize,
     /// How many clauses fewer each elimination leaves at least.
@@ -28,7 +41,14 @@ impl Limits {
         Limits {
             comparisons: size.saturating_mul(4).saturating_add(20_000_000),
             resolvents: size.saturating_mul(100).saturating_add(50_000_000),
+            visits: if size <= MOST_LOOKED_THROUGH {
+                size.saturating_add(1_000_000)
+            } else {
+                0
+            },
+            probes: (size / 8).saturating_add(100_000),
             literals: size.saturating_mul(3).saturating_add(1_000_000),
+            room: u64::MAX,
             resolvent_literals: 20,
             fewer_clauses: 0,
             ends_without_gain: false,
@@ -43,7 +63,10 @@ impl Limits {
         Limits {
             comparisons: size.saturating_mul(16).saturating_add(20_000),
             resolvents: size.saturating_mul(100).saturating_add(200_000),
+            visits: 0,
+            probes: 0,
             literals: size.saturating_mul(3).saturating_add(10_000),
+            room: u64::MAX,
             resolvent_literals: 4,
             fewer_clauses: 1,
             ends_without_gain: true,
@@ -67,5 +90,30 @@ impl Limits {
         }
         self.resolvents -= pairs;
         true
+    }
+
+    /// Takes off so many places that are looked at, if any are left. Returns whether they were.
+    pub fn visit(&mut self, places: usize) -> bool {
+        if self.visits == 0 {
+            return false;
+        }
+        self.visits = self.visits.saturating_sub(places as u64);
+        true
+    }
+
+    /// Takes off so many places that are looked at to find failed literals.
+    pub fn probe(&mut self, places: usize) {
+        self.probes = self.probes.saturating_sub(places as u64);
+    }
+
+    /// Whether clauses with so many literals may replace some with so many.
+    pub fn has_room(&self, before: u64, after: u64) -> bool {
+        after <= before.saturating_add(self.room)
+    }
+
+    /// Takes off the room the literals that clauses have more than those that they replaced, or adds those that they
+    /// have less.
+    pub fn replace(&mut self, before: u64, after: u64) {
+        self.room = self.room.saturating_add(before).saturating_sub(after);
     }
 }

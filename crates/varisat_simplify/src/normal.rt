@@ -2,7 +2,7 @@
 ghost use Rattle.std.specs.Prelude.{◌≡◌, ◌<◌, ◌≤◌, ◌^◌, ◌⊎◌, ◌++◌, ◌∷◌, [], true, false, length, map, IfOk, OnOk, IsTrue, MatchBool};
 ghost use Rattle.varisat_theory.specs.promises.Membership.{SameSet, IsDistinct};
 ghost use Rattle.varisat_theory.specs.promises.Literals.{Clause, variable_of};
-ghost use Rattle.varisat_rules.specs.inside.Noting.{AreNoted};
+ghost use Rattle.varisat_rules.specs.inside.Noting.{NotesPositions};
 ghost use Rattle.varisat_theory.specs.promises.Searches.{IsTautology};
 
 use std::alloc::{AllocError, Allocator};
@@ -26,8 +26,8 @@ fn note_if<A: Allocator + Copy>(
     position: usize,
 )
     requires { position < 2 ^ 32 }
-    ensures { (c : Clause) → length c ≡ position → (is_noted ≡ true → AreNoted names.now positions.old c) →
-        is_noted ≡ true → AreNoted names.now positions.new (c ++ lit ∷ []) }
+    ensures { (c : Clause) → length c ≡ position → (is_noted ≡ true → NotesPositions names.now positions.old c) →
+        is_noted ≡ true → NotesPositions names.now positions.new (c ++ lit ∷ []) }
 {
     if !is_noted {
         return;
@@ -44,9 +44,9 @@ fn add_noted<A: Allocator + Copy>(
     positions: &mut [u32],
 ) -> Result<(), AllocError>
     requires few { length out.old.items < 2 ^ 32 }
-    requires noted { is_noted ≡ true → AreNoted names.now positions.old out.old.items }
+    requires noted { is_noted ≡ true → NotesPositions names.now positions.old out.old.items }
     ensures added { OnOk result (out.new.items ≡ out.old.items ++ lit ∷ []) }
-    ensures noted { OnOk result (is_noted ≡ true → AreNoted names.now positions.new out.new.items) }
+    ensures noted { OnOk result (is_noted ≡ true → NotesPositions names.now positions.new out.new.items) }
 {
     note_if(is_noted, positions, names, lit, out.len());
     out.push(lit)?;

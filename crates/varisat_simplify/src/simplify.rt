@@ -11,6 +11,7 @@ ghost use Rattle.varisat_simplify.specs.promises.Simplified.{formula_over, liter
 ghost use Rattle.varisat_theory.specs.promises.Held.{SameClauses};
 
 use crate::eliminate::{Scratch, eliminate};
+use crate::equate::equate;
 pub use crate::limits::Limits;
 use crate::normal::{MOST_SHORT, is_normal, normalize};
 use crate::propagate::propagate;
@@ -218,16 +219,39 @@ fn eliminate_in_parts<A: Allocator + Copy>(
     Ok(Some(place))
 }
 
-/// Simplifies until nothing changes, or for so many rounds, or until the work is spent that the limits allow.
-fn run<A: Allocator + Copy>(
+/// Finds equal and failed literals, if the limits say so, and then lets eliminations add literals as long as the
+/// formula is one of 20 shorter than the given literals. Returns the place of the first clause that was not used on
+/// others.
+fn find_equal<A: Allocator + Copy>(
     db: &mut Database<A>,
+    alloc: A,
+    given: usize,
+    first: usize,
+    limits: &mut Limits,
+    scratch: &mut Scratch<A>,
+) -> Result<usize, AllocError>
+    ensures { OnOk result (IsLaterState db.old db.new) }
+{
+    if limits.visits == 0 {
+        return Ok(first);
+    }
+    let place = equate(db, alloc, first, limits, scratch)?;
+    limits.room = (given - given / 20).saturating_sub(live_literals(db)) as u64;
+    Ok(place)
+}
+
+/// Eliminates variables until nothing changes, or for so many rounds, or until the work is spent that the limits allow.
+/// `first` is the place of the first clause that was not used on others.
+fn eliminate_by_rounds<A: Allocator + Copy>(
+    db: &mut Database<A>,
+    first: usize,
     limits: &mut Limits,
     order: &mut Vec<u64, A>,
     scratch: &mut Scratch<A>,
 ) -> Result<(), AllocError>
     ensures { OnOk result (IsLaterState db.old db.new) }
 {
-    let mut place = subsume_from(db, 0, limits, scratch)?;
+    let mut place = first;
     for _ in 0..MOST_ROUNDS {
         candidates(db, order)?;
         if order.is_empty() {
@@ -239,6 +263,23 @@ fn run<A: Allocator + Copy>(
         };
         place = next;
     }
+    Ok(())
+}
+
+/// Simplifies the clauses, of which so many literals were given, within the limits.
+fn run<A: Allocator + Copy>(
+    db: &mut Database<A>,
+    alloc: A,
+    given: usize,
+    limits: &mut Limits,
+    order: &mut Vec<u64, A>,
+    scratch: &mut Scratch<A>,
+) -> Result<(), AllocError>
+    ensures { OnOk result (IsLaterState db.old db.new) }
+{
+    let first = subsume_from(db, 0, limits, scratch)?;
+    let place = find_equal(db, alloc, given, first, limits, scratch)?;
+    eliminate_by_rounds(db, place, limits, order, scratch)?;
     Ok(())
 }
 
@@ -292,9 +333,10 @@ fn reduce<A: Allocator + Copy>(
     load(db, &formula, scratch)?;
     drop(formula);
     let count = db.len();
+    let given = db.literal_count();
     propagate(db, alloc, limits, &mut scratch.literals)?;
     db.list_all()?;
-    run(db, limits, order, scratch)?;
+    run(db, alloc, given, limits, order, scratch)?;
     db.unlist();
     Ok(count)
 }

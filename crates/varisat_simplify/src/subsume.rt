@@ -4,6 +4,7 @@ ghost use Rattle.varisat_rules.specs.inside.States.{IsLaterState};
 
 use crate::eliminate::Scratch;
 use crate::limits::Limits;
+use crate::tables::{place_at, place_count};
 use std::alloc::{AllocError, Allocator};
 use varisat_database::database::Database;
 use varisat_literals::Lit;
@@ -24,20 +25,6 @@ fn rarest<A: Allocator + Copy>(db: &Database<A>, clause: &[Lit]) -> Option<Lit> 
         }
     }
     Some(best)
-}
-
-/// How long the literal's list is.
-fn place_count<A: Allocator + Copy>(db: &Database<A>, lit: Lit) -> usize {
-    match db.places(lit) {
-        Some(places) => places.len(),
-        None => 0,
-    }
-}
-
-/// The place at the index of the literal's list, which may be out of date.
-fn place_at<A: Allocator + Copy>(db: &Database<A>, lit: Lit, index: usize) -> Option<usize> {
-    let place = db.places(lit)?.get(index)?;
-    Some(*place as usize)
 }
 
 /// Takes off the limits what comparing the clauses takes. Returns whether they may be: clauses of one literal always are,

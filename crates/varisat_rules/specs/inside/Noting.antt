@@ -9,7 +9,7 @@ abbrev pub StandsAt : List ℕ → Clause → Literal → ℕ → Type 0
 StandsAt names c m p = (p < length c) × (short_of names (slice_index_or c p 0) / 2 ≡ short_of names m / 2)
 
 -- so it is of the position that was noted for each literal of the clause whose short name has one
-abbrev pub AreNoted : List ℕ → List ℕ → Clause → Type 0
-AreNoted names positions c =
+abbrev pub NotesPositions : List ℕ → List ℕ → Clause → Type 0
+NotesPositions names positions c =
     (m : Literal) → m ∈ c → short_of names m / 2 < length positions →
     StandsAt names c m (slice_index_or positions (short_of names m / 2) 0)

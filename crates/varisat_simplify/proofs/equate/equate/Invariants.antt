@@ -1,5 +1,5 @@
 use Rattle.varisat_rules.specs.inside.States.{IsLaterState}
-use Rattle.varisat_simplify.proofs.simplify.run.Given as goal
+use Rattle.varisat_simplify.proofs.equate.equate.Given as goal
 
 abbrev pub invariant-loop : goal.invariant-loop
 invariant-loop g l = IsLaterState l.fn.db l.db

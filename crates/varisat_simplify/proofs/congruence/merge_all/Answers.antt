@@ -1,0 +1,6 @@
+use Rattle.varisat_rules.proofs.StateLemmas.{becomes_then}
+use Rattle.varisat_simplify.proofs.congruence.merge_all.Goals as goal
+
+pub loop-index-preserved : goal.loop-index-preserved
+loop-index-preserved g c =
+    becomes_then c.args.db.now c.loop-index.db c.merge_next.new.db c.loop-index.invariant (c.in_ok-merge_next.ensures {u = tt})

@@ -1,0 +1,5 @@
+use Rattle.varisat_rules.specs.inside.States.{IsLaterState}
+use Rattle.varisat_simplify.proofs.equal.reach.Given as goal
+
+abbrev pub invariant-loop : goal.invariant-loop
+invariant-loop g l = IsLaterState l.fn.db l.db

@@ -1,0 +1,6 @@
+use Rattle.varisat_rules.proofs.StateLemmas.{becomes_then}
+use Rattle.varisat_simplify.proofs.equal.spread.Goals as goal
+
+pub loop-index-preserved : goal.loop-index-preserved
+loop-index-preserved g c =
+    becomes_then c.args.db.now c.loop-index.db c.spread_by.new.db c.loop-index.invariant (c.in_ok-spread_by.ensures {u = tt})

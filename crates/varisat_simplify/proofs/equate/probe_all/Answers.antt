@@ -1,0 +1,6 @@
+use Rattle.varisat_rules.proofs.StateLemmas.{becomes_then}
+use Rattle.varisat_simplify.proofs.equate.probe_all.Goals as goal
+
+pub loop-lit-preserved : goal.loop-lit-preserved
+loop-lit-preserved g c =
+    becomes_then c.args.db.now c.loop-lit.db c.probe_one.new.db c.loop-lit.invariant (c.in_ok-probe_one.ensures {u = tt})

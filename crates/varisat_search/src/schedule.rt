@@ -23,15 +23,30 @@ pub use varisat_schedule::luby::LubySequence;
 pub use varisat_schedule::schedule::Schedule;
 use varisat_steps::{ProofTracer, TraceError};
 
-// A restart is made in stable mode where the next one is as many steps away or more.
+// A restart is made in stable mode where the next one is as many steps away or more: seldom, but for the first conflicts.
+// What a search decided before them knew nothing of the formula, and easy ones with many variables are decided by it anew.
 const STABLE_INTERVAL: u64 = 1024;
+
+const EARLY_INTERVAL: u64 = 32;
+
+const EARLY_CONFLICTS: u64 = 1024;
 
 // In focused mode as many conflicts pass from one restart to the next at least, so that the search gets somewhere.
 const FOCUSED_INTERVAL: u64 = 2;
 
+/// How many steps away the next restart is at least where one is made in stable mode.
+fn stable_interval(conflicts: u64) -> u64 {
+    if conflicts < EARLY_CONFLICTS {
+        EARLY_INTERVAL
+    } else {
+        STABLE_INTERVAL
+    }
+}
+
 /// The policy: whether the search restarts as a step begins, where a restart is due or not. The bound on steps needs no
 /// restart, and stands wherever one is allowed, so that any answer would do that keeps to `allowed`. At the setting 0 each
-/// that is due is made, and no other. Else those are made before a long interval, in stable mode. In focused mode it
+/// that is due is made, and no other. Else those are made before a long interval, in stable mode, where few conflicts were
+/// made also before a shorter one. In focused mode it
 /// restarts at any step where it may and the glue of the last learned clauses is high, as where a search got stuck.
 fn is_restart_wanted<A: Allocator + Copy>(ctx: &Context<A>, is_due: bool) -> bool
     ensures each { ctx.now.solver_config.restart_glue ≡ 0 → result ≡ is_due }
@@ -43,7 +58,8 @@ fn is_restart_wanted<A: Allocator + Copy>(ctx: &Context<A>, is_due: bool) -> boo
         return is_due;
     }
     if !ctx.counters.is_focused() {
-        return is_due && ctx.schedule.steps_to_restart() >= STABLE_INTERVAL;
+        let interval = stable_interval(ctx.counters.conflicts);
+        return is_due && ctx.schedule.steps_to_restart() >= interval;
     }
     let variables = ctx.assignment.assignment().len();
     (is_due || ctx.schedule.is_interval_short(variables))

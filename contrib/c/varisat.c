@@ -446,6 +446,11 @@ int32_t varisat_val(varisat *solver, int32_t literal) {
 
 int varisat_is_failed(varisat *solver, int32_t literal) { return look_up(solver, caller_is_failed, literal); }
 
+int varisat_fixed(varisat *solver, int32_t literal) {
+    BEGIN(enter(solver, literal));
+    return leave(solver, !solver->proof_failed && caller_is_fixed(&solver->handle, literal));
+}
+
 /* Variables. */
 
 int varisat_new_var(varisat *solver) {
@@ -461,6 +466,16 @@ static int set_mode(varisat *solver, int32_t variable, uint8_t mode) {
 int varisat_sample_var(varisat *solver, int32_t variable) { return set_mode(solver, variable, 0); }
 int varisat_witness_var(varisat *solver, int32_t variable) { return set_mode(solver, variable, 1); }
 int varisat_hide_var(varisat *solver, int32_t variable) { return set_mode(solver, variable, 2); }
+
+int varisat_set_phase(varisat *solver, int32_t literal) {
+    BEGIN(enter_change(solver, literal));
+    return leave(solver, -caller_set_phase(&solver->handle, literal));
+}
+
+int varisat_unset_phase(varisat *solver, int32_t variable) {
+    BEGIN(enter_change(solver, variable > 0));
+    return leave(solver, -caller_unset_phase(&solver->handle, variable));
+}
 
 int varisat_var_count(varisat *solver) {
     BEGIN(enter(solver, true));

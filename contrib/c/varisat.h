@@ -138,6 +138,11 @@ int varisat_failed_core(varisat *solver, int32_t *literals, size_t room);
 /* Whether the literal is one of this core, 1 or 0. */
 int varisat_is_failed(varisat *solver, int32_t literal);
 
+/* Whether the literal is fixed, 1 or 0: 1 if its variable has this value whatever is decided, so that the clauses entail the literal. 0 if
+ * no search and no clause of one literal has fixed it yet, if the variable is not in use, and once the solver is invalid. It takes no step,
+ * and changes nothing. */
+int varisat_fixed(varisat *solver, int32_t literal);
+
 /* The list that was returned last once more, as for one that was longer than its room; none after one for which memory ran out. */
 int varisat_last_list(varisat *solver, int32_t *numbers, size_t room);
 
@@ -157,6 +162,13 @@ int varisat_hide_var(varisat *solver, int32_t variable);
  * forced, or that no clause of several literals names, may stay hidden. Where a valid solver has no memory for that list they are back all
  * the same, and the next model lists them. */
 int varisat_observe_internal_vars(varisat *solver, int32_t *variables, size_t room);
+
+/* Sets the phase of the literal's variable: a search decides the variable first so that the literal is true. After that it decides the
+ * variable as it was last assigned, and it begins anew at least each 1000 steps. The phase stays until another one is set, varisat_unset_phase
+ * is called, or the variable is hidden; that of a variable which is not in use waits for it. No answer depends on it, except which model is
+ * found. The call brings no variable into use, and a search takes time for each variable once a phase was set. */
+int varisat_set_phase(varisat *solver, int32_t literal);
+int varisat_unset_phase(varisat *solver, int32_t variable);
 
 /* The highest variable that the calls of this solver named or returned, 0 if there is none. A call that was refused counts, unless as
  * VARISAT_BAD_ARGUMENT, VARISAT_INVALID or VARISAT_BUSY, and so does a list as far as there was room for it; a text counts once it ended

@@ -88,6 +88,9 @@ public:
     /// Whether the literal is one of the core. An Error with VARISAT_NOTHING if there is no core.
     bool is_failed(int32_t literal) { return done(varisat_is_failed(get(), literal)) == 1; }
 
+    /// Whether the literal is fixed: the clauses entail it. False if no search and no clause of one literal has fixed it yet.
+    bool fixed(int32_t literal) { return done(varisat_fixed(get(), literal)) == 1; }
+
     /// Brings the least free variable into use, and returns it.
     int32_t new_var() { return done(varisat_new_var(get())); }
     void witness_var(int32_t variable) { done(varisat_witness_var(get(), variable)); }
@@ -95,6 +98,9 @@ public:
     void hide_var(int32_t variable) { done(varisat_hide_var(get(), variable)); }
     /// Brings hidden variables back as witnesses, and returns their new names.
     std::vector<int32_t> observe_internal_vars() { return list(varisat_observe_internal_vars(get(), nullptr, 0)); }
+    /// Has searches decide the literal's variable first so that the literal is true, and ends that. No verdict depends on it.
+    void set_phase(int32_t literal) { done(varisat_set_phase(get(), literal)); }
+    void unset_phase(int32_t variable) { done(varisat_unset_phase(get(), variable)); }
     /// The highest variable that a call named or returned.
     int32_t var_count() { return done(varisat_var_count(get())); }
 

@@ -135,10 +135,27 @@ class Calls(unittest.TestCase):
         with Solver([[1, 2]]) as solver:
             self.assertFalse(solver.supports_atmost())
             for call in (lambda: solver.add_atmost([1, 2], k=1), lambda: solver.add_atmost(lits=[1, 2], k=1, no_return=False),
-                         lambda: solver.propagate(assumptions=[1], phase_saving=2), lambda: solver.set_phases(literals=[1])):
+                         lambda: solver.propagate(assumptions=[1], phase_saving=2)):
                 self.assertRaises(NotImplementedError, call)
             self.assertTrue(solver.solve())
             self.assertIsNone(solver.get_proof())
+
+    def test_phases(self):
+        with Solver([[1, 2, 3], [-1, -2, -3]]) as solver:
+            for phases in ([1, 2, -3], [-1, -2, 3], [1, -2, -3]):
+                solver.set_phases(literals=phases)
+                self.assertTrue(solver.solve(assumptions=[-phases[0]]))
+                self.assertTrue(solver.solve())
+                self.assertEqual(solver.get_model(), phases)
+            for variable in (1, 2, 3):
+                solver.unset_phase(variable)
+            # Then they are decided as they were last assigned.
+            self.assertTrue(solver.solve([-1, 2, 3]))
+            self.assertTrue(solver.solve())
+            self.assertEqual(solver.get_model(), [-1, 2, 3])
+            self.assertRaises(ValueError, solver.set_phases, [1, 0])
+            self.assertRaises(ValueError, solver.unset_phase, 0)
+            self.assertRaises(OverflowError, solver.unset_phase, (1 << 32) + 1)
 
     def test_budgets(self):
         with Solver(pigeons(10)) as solver:
@@ -296,6 +313,8 @@ class Calls(unittest.TestCase):
             self.assertRaises(OverflowError, solver.solve, steps=-1)
             self.assertRaises(ValueError, solver.solve, [1, 0])
             self.assertRaises(ValueError, solver.hide_var, -1)
+            self.assertRaises(ValueError, solver.is_fixed, 0)
+            self.assertRaises(OverflowError, solver.is_fixed, (1 << 32) + 1)
             self.assertRaises(TypeError, solver.read_dimacs, io.StringIO("1 0"))
             solver.delete()
             self.assertRaisesRegex(VarisatError, "deleted", solver.solve)

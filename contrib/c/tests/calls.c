@@ -132,6 +132,55 @@ static void highest_variables(void) {
     CHECK(varisat_free(s) == 0);
 }
 
+/* Which literals are fixed, before a search and after one. */
+static void fixed_literals(void) {
+    varisat *s = varisat_new(0);
+    CHECK(varisat_fixed(s, 1) == 0 && varisat_fixed(s, 0) == VARISAT_BAD_ARGUMENT && varisat_fixed(NULL, 1) == VARISAT_BAD_ARGUMENT);
+    CHECK(varisat_add_clauses(s, LITS(-1, 2, 0, 3, 4, 0, 5, 6, 0, 5, -6, 0)) == 0 && varisat_fixed(s, 1) == 0);
+    CHECK(varisat_add_clause(s, LITS(1)) == 0 && varisat_fixed(s, 1) == 1 && varisat_fixed(s, -1) == 0);
+    CHECK(varisat_assume(s, LITS(-3)) == 0 && varisat_solve(s) == VARISAT_SATISFIABLE);
+    /* What follows from an assumption is not fixed. */
+    CHECK(varisat_fixed(s, 2) == 1 && varisat_fixed(s, -2) == 0 && varisat_fixed(s, -3) == 0 && varisat_fixed(s, 4) == 0);
+    CHECK(varisat_value(s, 4) == 1 && varisat_fixed(s, 9) == 0 && varisat_fixed(s, INT32_MIN) == 0 && varisat_var_count(s) == 6);
+    /* A conflict teaches what is fixed from then on. */
+    CHECK(varisat_assume(s, LITS(-5)) == 0 && varisat_solve(s) == VARISAT_UNSATISFIABLE && varisat_fixed(s, 5) == 1);
+    CHECK(is_list(varisat_failed_core(s, list, ROOM), 1, (int32_t[]){-5}) && varisat_fixed(s, 1) == 1);
+    /* A name that is freed has no value, and the variable that takes it has a new one. */
+    CHECK(varisat_assume(s, NULL, 0) == 0 && varisat_hide_var(s, 2) == 0 && varisat_fixed(s, 2) == 0 && varisat_new_var(s) == 2);
+    CHECK(varisat_fixed(s, 2) == 0 && varisat_fixed(s, -2) == 0 && varisat_free(s) == 0);
+    /* An invalid solver has none. */
+    s = varisat_new(10000);
+    CHECK(varisat_add_clause(s, LITS(1)) == 0 && varisat_fixed(s, 1) == 1);
+    for (int32_t v = 2; varisat_is_valid(s) == 1; v++) varisat_add_clause(s, LITS(v, v + 1, v + 2));
+    CHECK(varisat_fixed(s, 1) == 0 && varisat_free(s) == 0);
+}
+
+/* Whether the model that a search finds has these values of 1, 2 and 3. */
+static int finds(varisat *s, int32_t first, int32_t second, int32_t third) {
+    return varisat_solve(s) == VARISAT_SATISFIABLE && varisat_model(s, list, 3) >= 3 && list[0] == first && list[1] == second && list[2] == third;
+}
+
+/* Phases that are set decide which model is found where several are. */
+static void phases(void) {
+    varisat *s = varisat_new(0);
+    CHECK(varisat_set_phase(NULL, 1) == VARISAT_BAD_ARGUMENT && varisat_set_phase(s, 0) == VARISAT_BAD_ARGUMENT);
+    CHECK(varisat_unset_phase(s, 0) == VARISAT_BAD_ARGUMENT && varisat_unset_phase(s, -1) == VARISAT_BAD_ARGUMENT && varisat_unset_phase(s, INT32_MAX) == 0);
+    CHECK(varisat_set_phase(s, 0x10000001) == VARISAT_VARIABLE_LIMIT && varisat_set_phase(s, INT32_MIN) == VARISAT_VARIABLE_LIMIT);
+    /* The phase of a name that is not in use waits, and brings none into use. */
+    CHECK(varisat_set_phase(s, 2) == 0 && varisat_model(s, list, ROOM) == VARISAT_NOTHING && varisat_var_count(s) == 0);
+    CHECK(varisat_add_clauses(s, LITS(1, 2, 3, 0, -1, -2, -3, 0)) == 0 && finds(s, -1, 2, -3));
+    CHECK(varisat_set_phase(s, 1) == 0 && varisat_set_phase(s, -2) == 0 && varisat_value(s, 2) == 1);
+    CHECK(varisat_assume(s, NULL, 0) == 0 && finds(s, 1, -2, -3));
+    /* It holds in each search, also after another model was found. */
+    CHECK(varisat_assume(s, LITS(-1, 2)) == 0 && finds(s, -1, 2, -3) && varisat_assume(s, NULL, 0) == 0 && finds(s, 1, -2, -3));
+    /* Without it a variable is decided as it was last assigned. */
+    CHECK(varisat_unset_phase(s, 1) == 0 && varisat_assume(s, LITS(-1)) == 0 && varisat_solve(s) == VARISAT_SATISFIABLE);
+    CHECK(varisat_assume(s, NULL, 0) == 0 && varisat_solve(s) == VARISAT_SATISFIABLE && varisat_value(s, -1) == 1);
+    /* It goes with the name of a variable that is hidden. */
+    CHECK(varisat_new_var(s) == 4 && varisat_set_phase(s, 4) == 0 && varisat_hide_var(s, 4) == 0 && varisat_add_clause(s, LITS(4, 5)) == 0);
+    CHECK(varisat_assume(s, LITS(5)) == 0 && varisat_solve(s) == VARISAT_SATISFIABLE && varisat_value(s, -4) == 1 && varisat_free(s) == 0);
+}
+
 static void modes(void) {
     varisat *s = varisat_new(0);
     CHECK(varisat_add_clauses(s, LITS(1, 2, 0)) == 0);
@@ -453,6 +502,6 @@ static void simplifiers(void) {
 }
 
 int main(void) {
-    right_calls(), lists(), signs(), errors_in_words(), highest_variables(), modes(), wrong_calls(), texts(), files(), proofs(), heaps(), interrupts(), threads(), checking(), simplifiers();
+    right_calls(), lists(), signs(), errors_in_words(), highest_variables(), fixed_literals(), phases(), modes(), wrong_calls(), texts(), files(), proofs(), heaps(), interrupts(), threads(), checking(), simplifiers();
     puts("all passed");
 }

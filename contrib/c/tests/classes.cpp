@@ -57,6 +57,10 @@ static void lists() {
     solver.assume({1, 3});
     CHECK(solver.solve() == Verdict::unsatisfiable && solver.failed_core().size() == 2 && solver.is_failed(3) && !solver.is_failed(2));
     CHECK(error_of([&] { solver.model(); }) == VARISAT_NOTHING && error_of([&] { solver.value(1); }) == VARISAT_NOTHING);
+    solver.set_phase(-1);
+    solver.unset_phase(1);
+    CHECK(error_of([&] { solver.set_phase(0); }) == VARISAT_BAD_ARGUMENT && error_of([&] { solver.unset_phase(-1); }) == VARISAT_BAD_ARGUMENT);
+    CHECK(!solver.fixed(1) && error_of([&] { solver.fixed(0); }) == VARISAT_BAD_ARGUMENT);
     solver.assume({});
     CHECK(solver.solve() == Verdict::satisfiable && solver.is_valid() && solver.var_count() == 3);
     solver.add_clause({});

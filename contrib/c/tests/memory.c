@@ -60,6 +60,7 @@ static int is_answered(varisat *solver, size_t *bytes) {
     all &= is_there(varisat_read_dimacs(solver, "4 5 0\n-4 5", 10), 0) && is_there(varisat_read_dimacs(solver, " 0\n", 3), 0);
     if (all) all &= is_there(varisat_end_dimacs(solver), 5);
     if (all) all &= is_there(varisat_add_clauses(solver, rules, 9), 0);
+    if (all) all &= is_there(varisat_set_phase(solver, 5), 0) && is_there(varisat_unset_phase(solver, 4), 0);
     if (all) all &= is_there(varisat_assume(solver, both, 2), 0) && is_there(varisat_solve(solver), VARISAT_UNSATISFIABLE);
     if (all) all &= is_there(varisat_failed_core(solver, list, 8), 2) && is_there(varisat_is_failed(solver, 1), 1);
     if (all) all &= is_there(varisat_assume(solver, NULL, 0), 0) && is_there(varisat_solve(solver), VARISAT_SATISFIABLE);
@@ -68,6 +69,7 @@ static int is_answered(varisat *solver, size_t *bytes) {
     if (all) all &= is_there(varisat_new_var(solver), 6) && is_there(varisat_hide_var(solver, 6), 0);
     if (all) all &= is_there(read_text(solver), 7) && is_there(varisat_var_count(solver), 7) && is_there(varisat_set_named(solver, "vsids_decay", 900), 0);
     if (all) all &= is_there(varisat_add(solver, 1), 0) && is_there(varisat_add(solver, 0), 0);
+    if (all) all &= is_there(varisat_fixed(solver, 1), 1) && is_there(varisat_fixed(solver, -1), 0);
     if (all) all &= is_there(varisat_assume(solver, none, 2), 0) && is_there(varisat_solve(solver), VARISAT_UNSATISFIABLE);
     if (all) all &= is_there(varisat_close_proof(solver), 0);
     return all;

@@ -88,6 +88,20 @@ static void check_core(varisat *solver, int variables) {
     CHECK(varisat_model(solver, core, ROOM) == VARISAT_NOTHING);
 }
 
+/* What is fixed is true wherever the clauses are, and to ask for it changes nothing. */
+static void check_fixed(varisat *solver, int variables) {
+    for (int v = 1; v <= variables; v++)
+        for (int sign = -1; sign <= 1; sign += 2) {
+            int32_t literal = v * sign, opposite = -literal;
+            int fixed = varisat_fixed(solver, literal);
+            CHECK(fixed == 0 || fixed == 1);
+            CHECK(!fixed || !is_satisfiable(variables, &opposite, 1));
+        }
+    /* A clause of one literal fixes it at once. */
+    for (size_t c = 0; c < clause_count; c++)
+        if (clauses[c].count == 1 && is_satisfiable(variables, NULL, 0)) CHECK(varisat_fixed(solver, clauses[c].literals[0]) == 1);
+}
+
 /* Gives the text through a pipe. */
 static void add_file(varisat *solver, const char *text, size_t size) {
     int ends[2];
@@ -128,7 +142,14 @@ static void play(void) {
             draw_clause(&assumed, variables, MOST_ASSUMED);
             CHECK(varisat_assume(solver, assumed.literals, assumed.count) == 0);
         }
+        if (draw(2)) check_fixed(solver, variables);
+        /* No verdict depends on phases. */
+        for (int more = draw(4); more > 0; more--) {
+            int variable = 1 + draw(variables);
+            CHECK((draw(3) ? varisat_set_phase(solver, draw(2) ? variable : -variable) : varisat_unset_phase(solver, variable)) == 0);
+        }
         int answer = draw(2) ? varisat_solve(solver) : varisat_solve_steps(solver, (uint64_t)draw(3));
+        if (draw(2)) check_fixed(solver, variables);
         if (answer == VARISAT_UNKNOWN) continue;
         CHECK(answer == (is_satisfiable(variables, assumed.literals, assumed.count) ? VARISAT_SATISFIABLE : VARISAT_UNSATISFIABLE));
         if (answer == VARISAT_SATISFIABLE) check_model(solver, variables);

@@ -17,6 +17,8 @@ SIGNATURES: Dict[str, Tuple[Any, List[Any]]] = {
     "strerror": (_text, [_int]), "add_clauses": (_int, _list), "assume": (_int, _list),
     "read_dimacs": (_int, [_pointer, _text, _size]), "end_dimacs": (_int, [_pointer]),
     "solve_steps": (_int, [_pointer, _long]), "is_valid": (_int, [_pointer]),
+    "fixed": (_int, [_pointer, ctypes.c_int32]),
+    "set_phase": (_int, [_pointer, ctypes.c_int32]), "unset_phase": (_int, [_pointer, ctypes.c_int32]),
     "model": (_int, _list), "failed_core": (_int, _list), "observe_internal_vars": (_int, _list), "last_list": (_int, _list),
     "new_var": (_int, [_pointer]), "witness_var": (_int, [_pointer, ctypes.c_int32]),
     "sample_var": (_int, [_pointer, ctypes.c_int32]), "hide_var": (_int, [_pointer, ctypes.c_int32]),
@@ -171,6 +173,13 @@ def variable_of(value: int) -> int:
     if (variable := fit("i", value)) < 1:
         raise ValueError(f"{variable} is no variable")
     return variable
+
+
+def literal_of(value: int) -> int:
+    """The literal, or ValueError."""
+    if not (literal := fit("i", value)):
+        raise ValueError("0 is no literal")
+    return literal
 
 
 def literals_of(numbers: Iterable[int]) -> array[int]:

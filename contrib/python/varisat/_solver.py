@@ -12,7 +12,7 @@ from typing import Any, BinaryIO, Callable, Dict, Iterable, Iterator, List, NoRe
 
 from varisat._library import (
     HIGHEST_VARIABLE, SATISFIABLE, UNKNOWN, UNSATISFIABLE, ErrorNumber, VarisatError, Writer, bytes_of, error_of, fit, format_number, library,
-    literals_of, numbers_of, refuse_copy, variable_of
+    literal_of, literals_of, numbers_of, refuse_copy, variable_of
 )
 
 # Between so many steps of a search Python looks at signals, interrupts and the function of set_terminate.
@@ -340,6 +340,16 @@ class Solver:
         """After False: some of the assumptions which fail with the clauses, none if those have no model. Otherwise None."""
         return self._listed(library.varisat_failed_core) if self._status is False else None
 
+    @_alone
+    def is_fixed(self, literal: int) -> bool:
+        """Whether the literal is fixed: the clauses entail it. False if no search and no clause of one literal has fixed it yet.
+
+        >>> with Solver([[1], [-1, 2], [3, 4]]) as solver:
+        ...     solver.solve(), [literal for literal in (1, 2, 3, -1) if solver.is_fixed(literal)]
+        (True, [1, 2])
+        """
+        return self._done(library.varisat_fixed(self._solver, literal_of(literal))) == 1
+
     def get_proof(self) -> Optional[List[str]]:
         """The lines of the proof so far, if the solver was made with with_proof. Otherwise None. Under a DRAT proof nothing can be assumed.
 
@@ -386,9 +396,23 @@ class Solver:
         """Raises NotImplementedError, as PySAT's solvers do that have no such call: the library has none."""
         raise NotImplementedError("varisat does not return what unit propagation finds")
 
+    @_alone
     def set_phases(self, literals: Iterable[int] = ()) -> None:
-        """Raises NotImplementedError, as PySAT's solvers do that have no such call: the library has none."""
-        raise NotImplementedError("varisat does not take preferred phases of variables")
+        """Has searches decide the variables of these literals first so that the literals are true. No answer depends on it, except which
+        model is found.
+
+        >>> with Solver([[1, 2, 3]]) as solver:
+        ...     solver.set_phases([2, -3])
+        ...     solver.solve(), solver.get_model()[1:]
+        (True, [2, -3])
+        """
+        for literal in literals_of(literals):
+            self._done(library.varisat_set_phase(self._solver, literal))
+
+    @_alone
+    def unset_phase(self, variable: int) -> None:
+        """Ends what set_phases did for the variable."""
+        self._done(library.varisat_unset_phase(self._solver, variable_of(variable)))
 
     @_alone
     def new_var(self) -> int:

@@ -44,6 +44,9 @@ extern "C" {
     fn varisat_witness_var(solver: Handle, variable: i32) -> c_int;
     fn varisat_sample_var(solver: Handle, variable: i32) -> c_int;
     fn varisat_hide_var(solver: Handle, variable: i32) -> c_int;
+    fn varisat_fixed(solver: Handle, literal: i32) -> c_int;
+    fn varisat_set_phase(solver: Handle, literal: i32) -> c_int;
+    fn varisat_unset_phase(solver: Handle, variable: i32) -> c_int;
     fn varisat_observe_internal_vars(solver: Handle, variables: *mut i32, room: usize) -> c_int;
     fn varisat_last_list(solver: Handle, numbers: *mut i32, room: usize) -> c_int;
     fn varisat_set(solver: Handle, setting: c_int, value: u64) -> c_int;
@@ -127,6 +130,18 @@ impl<'a> Library<'a> {
 
     pub fn hide_var(&mut self, variable: i32) -> c_int {
         unsafe { varisat_hide_var(self.at.as_ptr(), variable) }
+    }
+
+    pub fn fixed(&self, literal: i32) -> c_int {
+        unsafe { varisat_fixed(self.at.as_ptr(), literal) }
+    }
+
+    pub fn set_phase(&mut self, literal: i32) -> c_int {
+        unsafe { varisat_set_phase(self.at.as_ptr(), literal) }
+    }
+
+    pub fn unset_phase(&mut self, variable: i32) -> c_int {
+        unsafe { varisat_unset_phase(self.at.as_ptr(), variable) }
     }
 
     pub fn set(&mut self, setting: c_int, value: u64) -> c_int {

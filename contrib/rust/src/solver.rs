@@ -135,6 +135,25 @@ impl<'a> Solver<'a> {
         self.list(listed).unwrap_or_default().into_iter().map(Lit::var).collect()
     }
 
+    /// Whether the literal is fixed: the clauses entail it. False if no search and no clause of one literal has fixed it yet. The original
+    /// has no such call.
+    pub fn is_fixed(&self, lit: Lit) -> bool {
+        self.library.fixed(lit.to_dimacs() as i32) == 1
+    }
+
+    /// Has searches decide the literal's variable first so that the literal is true, until `unset_phase`. No verdict depends on it. The
+    /// original has no such call.
+    pub fn set_phase(&mut self, lit: Lit) {
+        let answer = self.library.set_phase(lit.to_dimacs() as i32);
+        self.changed(answer);
+    }
+
+    /// Ends what `set_phase` did for the variable. The original has no such call.
+    pub fn unset_phase(&mut self, var: Var) {
+        let answer = self.library.unset_phase(var.to_dimacs() as i32);
+        self.changed(answer);
+    }
+
     /// Check the satisfiability of the current formula.
     pub fn solve(&mut self) -> Result<bool, SolverError> {
         self.core = OnceCell::new();

@@ -51,6 +51,32 @@ fn hidden_variables() {
 }
 
 #[test]
+fn fixed_literals_and_phases() {
+    let mut solver = Solver::new();
+    solver.add_formula(&formula(&[&[-1, 2], &[3, 4, 5], &[-3, -4, -5]]));
+    assert!(!solver.is_fixed(Lit::from_dimacs(1)));
+    solver.add_clause(&lits(&[1]));
+    for phases in [[3, 4, -5], [-3, -4, 5]] {
+        for phase in lits(&phases) {
+            solver.set_phase(phase);
+        }
+        solver.assume(&[!Lit::from_dimacs(phases[0])]);
+        assert!(solver.solve().unwrap());
+        solver.assume(&[]);
+        assert!(solver.solve().unwrap());
+        assert_eq!(solver.model().unwrap()[2..], lits(&phases));
+    }
+    assert!(solver.is_fixed(Lit::from_dimacs(2)) && !solver.is_fixed(Lit::from_dimacs(-2)) && !solver.is_fixed(Lit::from_dimacs(5)));
+    for variable in 3..6 {
+        solver.unset_phase(Var::from_dimacs(variable));
+    }
+    solver.assume(&lits(&[3, -4, 5]));
+    assert!(solver.solve().unwrap());
+    solver.assume(&[]);
+    assert!(solver.solve().unwrap() && solver.model().unwrap()[2..] == lits(&[3, -4, 5]));
+}
+
+#[test]
 fn texts_and_settings() {
     let mut solver = Solver::new();
     let mut update = SolverConfigUpdate::new();

@@ -6,7 +6,7 @@ ghost use Rattle.std.specs.Prelude.{◌≡◌, ◌↔◌, ◌≤◌, min, length
 ghost use Rattle.varisat_solver.specs.promises.Calls.{AddsClause, Assumes};
 ghost use Rattle.varisat_solver.specs.promises.ProofCalls.{EnablesChecking};
 ghost use Rattle.varisat_calls.specs.Codes.{field_numbered, format_numbered, mode_numbered};
-ghost use Rattle.varisat_calls.specs.Callers.{IsNewCaller, MakesNumbered, MakesOver, PutsNumber, SetsMaxSteps, SolvesNumbered, IsSatisfiableNow, IsUnsatisfiableNow, TellsSteps, TellsValid, SetsField, SetsModeNumbered, ReturnsModel, ReturnsCore, ReturnsListOf, ShowsHidden, OpensFormat, ClosesNumbered, TakesWritten};
+ghost use Rattle.varisat_calls.specs.Callers.{IsNewCaller, MakesNumbered, MakesOver, PutsNumber, SetsMaxSteps, SolvesNumbered, IsSatisfiableNow, IsUnsatisfiableNow, TellsSteps, TellsValid, TellsFixed, SetsField, SetsModeNumbered, SetsPhaseNumbered, UnsetsPhaseNumbered, ReturnsModel, ReturnsCore, ReturnsListOf, ShowsHidden, OpensFormat, ClosesNumbered, TakesWritten};
 ghost use Rattle.varisat_calls.specs.Lookups.{LooksUpValue, LooksUpFailed};
 ghost use Rattle.varisat_calls.specs.Texts.{Feeds, IsRefutedText};
 ghost use Rattle.varisat_calls.specs.Checks.{ReturnsCheck};
@@ -338,6 +338,43 @@ pub extern "C" fn caller_is_valid(alloc: Global, handle: &mut Handle) -> bool
 {
     let caller = handle.take(alloc);
     let answer = caller.is_valid();
+    handle.put(alloc, caller);
+    answer
+}
+
+/// Sets the phase of the literal of the number.
+#[unsafe(no_mangle)]
+pub extern "C" fn caller_set_phase(alloc: Global, handle: &mut Handle, number: i32) -> u8
+    requires { IsSome handle.old.held }
+    ensures { MovesHeld (λ g h. SetsPhaseNumbered number g result h) handle.old.held handle.new.held }
+{
+    let mut caller = handle.take(alloc);
+    let answer = caller.set_phase(number);
+    handle.put(alloc, caller);
+    answer
+}
+
+/// The variable has no phase that is set any more.
+#[unsafe(no_mangle)]
+pub extern "C" fn caller_unset_phase(alloc: Global, handle: &mut Handle, variable: i32) -> u8
+    requires { IsSome handle.old.held }
+    ensures { MovesHeld (λ g h. UnsetsPhaseNumbered variable g result h) handle.old.held handle.new.held }
+{
+    let mut caller = handle.take(alloc);
+    let answer = caller.unset_phase(variable);
+    handle.put(alloc, caller);
+    answer
+}
+
+/// 1 where the literal of the number is fixed, 0 where it is not.
+#[unsafe(no_mangle)]
+pub extern "C" fn caller_is_fixed(alloc: Global, handle: &mut Handle, number: i32) -> u8
+    requires { IsSome handle.old.held }
+    ensures same { handle.new.held ≡ handle.old.held }
+    ensures fixed { IsTrueBehind (λ g. TellsFixed number g result) handle.old.held }
+{
+    let caller = handle.take(alloc);
+    let answer = caller.is_fixed(number);
     handle.put(alloc, caller);
     answer
 }

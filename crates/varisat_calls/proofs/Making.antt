@@ -1,5 +1,5 @@
 -- How the calls of a caller are those of its solver.
-use Rattle.std.proofs.Common.{◌≡◌, ℕ, ℤ, pos, ◌≤ℤ◌, Option, Some, None, List, [], Result, Ok, Err, map, refl, sym, ap, subst, ◌∙◌}
+use Rattle.std.proofs.Common.{◌≡◌, ◌↔◌, ℕ, ℤ, pos, ◌≤ℤ◌, Bool, true, IsTrue, Option, Some, None, List, [], Result, Ok, Err, map, refl, sym, ap, subst, ◌∙◌}
 use Rattle.std.specs.declared.alloc.AllocError.{AllocError}
 use Rattle.varisat_theory.specs.promises.Membership.{◌∈◌}
 use Rattle.varisat_theory.specs.promises.Literals.{Literal, Clause}
@@ -13,9 +13,10 @@ use Rattle.varisat_names.specs.declared.variables.data.SamplingMode.{SamplingMod
 use Rattle.varisat_lines.specs.declared.format.ProofFormat.{ProofFormat}
 use Rattle.varisat_solver.specs.promises.States.{State}
 use Rattle.varisat_solver.specs.promises.Summaries.{Summary}
+use Rattle.varisat_solver.specs.promises.Fixed.{HasFixed}
 use Rattle.varisat_solver.specs.inside.Representations.{Represents}
 use Rattle.varisat_solver.specs.promises.Represented.{LeadsRepresented}
-use Rattle.varisat_solver.specs.promises.Calls.{Solves, Configures, by_state}
+use Rattle.varisat_solver.specs.promises.Calls.{Solves, Configures, ReturnsFixed, SetsPhase, by_state}
 use Rattle.varisat_solver.specs.promises.ClauseCalls.{AddsFormula}
 use Rattle.varisat_solver.specs.promises.ProofCalls.{OpensProof}
 use Rattle.varisat_solver.specs.promises.Usage.{Observes, ChangesMode}
@@ -24,7 +25,7 @@ use Rattle.varisat_solver.specs.declared.solver.SolverError.TheVariants as error
 use Rattle.varisat_solver.specs.declared.solver.SolverError.{SolverError}
 use Rattle.varisat_calls.specs.Numbers.{returned_numbers, returned_names}
 use Rattle.varisat_calls.specs.Codes.{answer_number}
-use Rattle.varisat_calls.specs.Callers.{Caller, DoneOrRefused, SolverMakes, MakesNumbered, MakesOver, Made, over, SetsField, SetsModeNumbered, changing, ReturnsListOf, Returned, ShowsHidden, ShowsNames, NoRoom, OpensFormat, Opened, Refused, opening_proof}
+use Rattle.varisat_calls.specs.Callers.{Caller, DoneOrRefused, SolverMakes, MakesNumbered, MakesOver, Made, over, SetsField, SetsModeNumbered, changing, SetsPhaseNumbered, setting_phase, TellsFixed, Fixed, ReturnsListOf, Returned, ShowsHidden, ShowsNames, NoRoom, OpensFormat, Opened, Refused, opening_proof}
 use Rattle.varisat_calls.specs.Texts.{ReadsFurther, AddsClauses, AddsEndedClauses, GoesOn, without_clauses}
 
 -- 1. Calls with an answer.
@@ -66,6 +67,22 @@ pub mode-set : (variable : ℤ) (found : Option SamplingMode) (mode : SamplingMo
 mode-set variable found mode u g mid h n answer is positive named number same makes =
     let changes = subst (λ (v : ℕ). SolverMakes (λ s r t. ChangesMode mode s v r t) g answer mid) named makes in
     Made mode (sym is) positive (answer, number, subst (λ x. SolverMakes (changing mode variable) g answer x) (sym same) changes)
+
+-- the phase is set to the literal of the number
+pub phase-set : (number : ℤ) (l : Literal) (g mid h : Caller) (n : ℕ) (answer : DoneOrRefused) → (number ≡ pos 0 → ⊥) → l ≡ literal_numbered number →
+    n ≡ answer_number answer → h ≡ mid → LeadsRepresented g.solver (λ s t. SetsPhase s l answer t) mid.solver → mid ≡ record g { solver = mid.solver } →
+    SetsPhaseNumbered number g n h
+phase-set number l g mid h n answer some named is same call rest =
+    let sets = subst (λ (m : Literal). LeadsRepresented g.solver (λ s t. SetsPhase s m answer t) mid.solver) named call in
+    Made some (answer, is, made (setting_phase number) g mid h answer same sets rest)
+
+-- the literal of the number is fixed, as the solver says
+pub fixed-told : (number : ℤ) (l : Literal) (b : Bool) (g : Caller) → (number ≡ pos 0 → ⊥) → l ≡ literal_numbered number → b ≡ true →
+    IsTrue b ↔ HasFixed g.solver l → LeadsRepresented g.solver (λ s t. ReturnsFixed s l b t) g.solver → TellsFixed number g 1
+fixed-told number l b g some named e exact call =
+    let told = subst (λ (x : Bool). LeadsRepresented g.solver (λ s t. ReturnsFixed s l x t) g.solver) e call in
+    Fixed some refl (subst (λ m. HasFixed g.solver m) named (exact.0 e))
+    (subst (λ (m : Literal). LeadsRepresented g.solver (λ s t. ReturnsFixed s m true t) g.solver) named told)
 
 -- 2. Lists that are returned.
 

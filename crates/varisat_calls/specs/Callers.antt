@@ -14,10 +14,11 @@ use Rattle.varisat_names.specs.declared.variables.data.SamplingMode.{SamplingMod
 use Rattle.varisat_lines.specs.declared.format.ProofFormat.{ProofFormat}
 use Rattle.varisat_solver.specs.promises.States.{State, empty_state}
 use Rattle.varisat_solver.specs.promises.Summaries.{Summary}
+use Rattle.varisat_solver.specs.promises.Fixed.{HasFixed}
 use Rattle.varisat_solver.specs.inside.Representations.{Represents}
 use Rattle.varisat_solver.specs.promises.Represented.{LeadsRepresented}
 use Rattle.varisat_solver.specs.promises.Refusals.{refusal_number}
-use Rattle.varisat_solver.specs.promises.Calls.{AddsClause, Solves, Configures, MakesVar, ReturnsList, ReturnsSteps, ReturnsValid, with_max_steps, by_state}
+use Rattle.varisat_solver.specs.promises.Calls.{AddsClause, Solves, Configures, MakesVar, ReturnsList, ReturnsSteps, ReturnsValid, ReturnsFixed, SetsPhase, with_max_steps, by_state}
 use Rattle.varisat_solver.specs.promises.Usage.{ChangesMode, Observes}
 use Rattle.varisat_solver.specs.promises.ProofCalls.{OpensProof, ClosesProof}
 use Rattle.varisat_solver.specs.declared.solver.SolverError.{SolverError}
@@ -120,6 +121,29 @@ TellsSteps n g = LeadsRepresented g.solver (λ s t. ReturnsSteps s n t) g.solver
 -- whether no refusal came from which there is no way back
 abbrev pub TellsValid : Bool → Caller → Type 0
 TellsValid b g = LeadsRepresented g.solver (λ s t. ReturnsValid s b t) g.solver
+
+-- the phase is set to the literal of the number
+abbrev pub setting_phase : ℤ → State → DoneOrRefused → State → Type 0
+setting_phase number s r t = SetsPhase s (literal_numbered number) r t
+
+-- The phase is set to the literal of the number, which is not 0.
+pub data SetsPhaseNumbered (number : ℤ) (g : Caller) (n : ℕ) (h : Caller) : Type 0 where
+  Zero : number ≡ pos 0 → IsWrongCall g n h → SetsPhaseNumbered number g n h
+  Made : (number ≡ pos 0 → ⊥) → MakesNumbered (setting_phase number) g n h → SetsPhaseNumbered number g n h
+
+-- The variable of the number has no phase that is set any more, if there is one. Nothing else changes.
+pub data UnsetsPhaseNumbered (variable : ℤ) (g : Caller) (n : ℕ) (h : Caller) : Type 0 where
+  Wrong : variable <ℤ pos 1 → IsWrongCall g n h → UnsetsPhaseNumbered variable g n h
+  Made : pos 1 ≤ℤ variable → n ≡ 0 → h ≡ g → UnsetsPhaseNumbered variable g n h
+
+-- Whether the literal of the number is fixed: 1 and 0. The number 0 is none of a literal. Where it is 1 the accepted clauses entail the
+-- literal.
+pub data TellsFixed (number : ℤ) (g : Caller) (n : ℕ) : Type 0 where
+  Zero : number ≡ pos 0 → n ≡ 14 → TellsFixed number g n
+  Fixed : (number ≡ pos 0 → ⊥) → n ≡ 1 → HasFixed g.solver (literal_numbered number) →
+      LeadsRepresented g.solver (λ s t. ReturnsFixed s (literal_numbered number) true t) g.solver →
+      TellsFixed number g n
+  Unfixed : (number ≡ pos 0 → ⊥) → n ≡ 0 → (HasFixed g.solver (literal_numbered number) → ⊥) → TellsFixed number g n
 
 -- the least free variable came into use
 abbrev pub NamesNew : Caller → Result ℕ ℕ → Caller → Type 0

@@ -71,7 +71,7 @@ impl<A: Allocator + Copy> Caller<A> {
     ghost use Rattle.varisat_solver.specs.promises.ProofCalls.{EnablesChecking};
     ghost use Rattle.varisat_solver.specs.promises.Usage.{ChangesMode};
     ghost use Rattle.varisat_calls.specs.Codes.{field_numbered, format_numbered, mode_numbered};
-    ghost use Rattle.varisat_calls.specs.Callers.{IsNewCaller, SolverMakes, MakesNumbered, MakesOver, PutsNumber, SetsMaxSteps, SolvesNumbered, IsSatisfiableNow, IsUnsatisfiableNow, TellsSteps, TellsValid, NamesNew, SetsField, SetsModeNumbered, ReturnsModel, ReturnsCore, ReturnsListOf, ShowsHidden, OpensFormat, ClosesNumbered, TakesWritten};
+    ghost use Rattle.varisat_calls.specs.Callers.{IsNewCaller, SolverMakes, MakesNumbered, MakesOver, PutsNumber, SetsMaxSteps, SolvesNumbered, IsSatisfiableNow, IsUnsatisfiableNow, TellsSteps, TellsValid, TellsFixed, NamesNew, SetsField, SetsModeNumbered, SetsPhaseNumbered, UnsetsPhaseNumbered, ReturnsModel, ReturnsCore, ReturnsListOf, ShowsHidden, OpensFormat, ClosesNumbered, TakesWritten};
     ghost use Rattle.varisat_calls.specs.Lookups.{LooksUpValue, LooksUpFailed};
     ghost use Rattle.varisat_calls.specs.Texts.{text_of, without_clauses, AddsClauses, Feeds, EndsGivenText};
 
@@ -239,6 +239,29 @@ impl<A: Allocator + Copy> Caller<A> {
         self.answer(set)
     }
 
+    /// Sets the phase of the literal of the number.
+    pub fn set_phase(&mut self, number: i32) -> u8
+        ensures { SetsPhaseNumbered number self.old result self.new }
+    {
+        if number == 0 {
+            return WRONG;
+        }
+        self.lookups.forget();
+        let set = self.solver.set_phase(literal_of(number));
+        self.answer(set)
+    }
+
+    /// The variable has no phase that is set any more.
+    pub fn unset_phase(&mut self, variable: i32) -> u8
+        ensures { UnsetsPhaseNumbered variable self.old result self.new }
+    {
+        if variable < 1 {
+            return WRONG;
+        }
+        self.solver.unset_phase(variable_of(variable));
+        DONE
+    }
+
     /// No list is returned, since memory ran out.
     fn run_out(&mut self) -> u8
         ensures number { result ≡ 3 }
@@ -364,6 +387,20 @@ impl<A: Allocator + Copy> Caller<A> {
         ensures { TellsValid result self.now }
     {
         self.solver.is_valid()
+    }
+
+    /// 1 where the literal of the number is fixed, 0 where it is not.
+    pub fn is_fixed(&self, number: i32) -> u8
+        ensures { TellsFixed number self.now result }
+    {
+        if number == 0 {
+            return WRONG;
+        }
+        if self.solver.is_fixed(literal_of(number)) {
+            1
+        } else {
+            0
+        }
     }
 
     /// The text that is being given, or a new one.

@@ -2,6 +2,7 @@ pub mod CallStates
 pub mod ChangeEnds
 pub mod Carried
 pub mod Counted
+pub mod FixedLiterals
 pub mod ModelsFit
 pub mod ReadPlaces
 pub mod SettingsCalls

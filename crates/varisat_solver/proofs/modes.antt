@@ -1,4 +1,5 @@
 pub mod HiddenTables
+pub mod Heeding
 pub mod HiddenStates
 pub mod VariableMoves
 pub mod ModeChanges

@@ -9,4 +9,5 @@ pub mod Spaces
 pub mod TextCalls
 pub mod VariableChanges
 pub mod Detached
+pub mod Phases
 pub mod Representations

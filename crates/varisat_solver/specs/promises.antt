@@ -17,4 +17,5 @@ pub mod Journals
 pub mod Usage
 pub mod ClauseCalls
 pub mod Detaching
+pub mod Fixed
 pub mod Represented

@@ -4,7 +4,9 @@
 mod accept;
 mod carrying;
 mod detaching;
+mod fixed;
 mod name_checks;
+mod phases;
 mod progress;
 pub mod rounds;
 pub mod solver;

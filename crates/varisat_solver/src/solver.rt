@@ -5,7 +5,9 @@ ghost use Rattle.varisat_solver.specs.inside.Changes.{RefusesInvalid, invalidate
 ghost use Rattle.varisat_solver.specs.inside.Representations.{model_value, list_tables};
 
 use crate::accept::{accept_user_clause, assume_list};
+use crate::fixed::is_fixed_to;
 use crate::name_checks::check_names;
+use crate::phases::{Phases, remember_phases};
 use crate::progress::{SearchSize, count_mapped};
 use crate::solving::find_verdict;
 use crate::usage::{change_mode, check_change};
@@ -230,6 +232,8 @@ pub struct Solver<W: ProofTarget, A: Allocator + Copy> {
     tracer: SolverTracer<W, A>,
     // The clause or the assumptions that are being accepted, over solver variables, and a core over names.
     literals: Vec<Lit, A>,
+    // The phases that are set, by names. No call returns them.
+    phases: Phases<A>,
     // Whether a clause, a variable or a list of assumptions was accepted. From then on no proof can be opened; no other
     // call reads it.
     started: bool,
@@ -270,17 +274,18 @@ impl<W: ProofTarget, A: Allocator + Copy> Model for Solver<W, A> {
 
 impl<W: ProofTarget, A: Allocator + Copy> Solver<W, A> {
     ghost use Rattle.std.specs.Prelude.{◌≡◌, ◌≢◌, ◌-◌, ◌<◌, ◌^◌, Ok, Err, Some, None, true, false, List, ℕ};
-    ghost use Rattle.std.specs.Prelude.{IsSome, option_copied};
+    ghost use Rattle.std.specs.Prelude.{IsSome, IsTrue, ◌↔◌, option_copied};
     ghost use Rattle.varisat_theory.specs.promises.Literals.{IsSatisfiableWith};
     ghost use Rattle.varisat_theory.specs.promises.CallBounds.{AreFew};
     ghost use Rattle.std.specs.declared.io.Error.{Error};
     ghost use Rattle.varisat_solver.specs.promises.States.{State, empty_state};
     ghost use Rattle.varisat_solver.specs.promises.Models.{IsCompletableIn, HasModel, HasCore, IsNamedCore};
-    ghost use Rattle.varisat_solver.specs.promises.Calls.{IsValid, count_anew, with_max_steps, AddsClause, MakesVar, Assumes, Searches, Solves, ReturnsList, Configures, ReturnsSteps, ReturnsSince, ReturnsValid, answer_of, by_state};
+    ghost use Rattle.varisat_solver.specs.promises.Calls.{IsValid, count_anew, with_max_steps, AddsClause, MakesVar, Assumes, Searches, Solves, ReturnsList, Configures, ReturnsSteps, ReturnsSince, ReturnsValid, ReturnsFixed, SetsPhase, answer_of, by_state};
     ghost use Rattle.varisat_solver.specs.promises.ClauseCalls.{AddsFormula, AddsDimacs};
     ghost use Rattle.varisat_solver.specs.promises.Additions.{AddsAll, ReturnsFault};
     ghost use Rattle.varisat_solver.specs.promises.ReturnedLists.{returned_list, lent_list};
     ghost use Rattle.varisat_solver.specs.promises.Summaries.{HasFullStore};
+    ghost use Rattle.varisat_solver.specs.promises.Fixed.{HasFixed};
     ghost use Rattle.varisat_solver.specs.inside.Representations.{Represents};
     ghost use Rattle.varisat_solver.specs.promises.Represented.{LeadsRepresented};
     ghost use Rattle.varisat_solver.specs.inside.Changes.{EndsSearch};
@@ -303,6 +308,7 @@ impl<W: ProofTarget, A: Allocator + Copy> Solver<W, A> {
             ctx: Context::new_in(alloc),
             tracer: SolverTracer::new_in(alloc),
             literals: Vec::new(alloc),
+            phases: Phases::new_in(alloc),
             started: false,
             changed_at: 0,
         }
@@ -460,11 +466,23 @@ impl<W: ProofTarget, A: Allocator + Copy> Solver<W, A> {
         found
     }
 
-    /// Notes that a search was begun, which no call returns.
+    /// Notes that a search was begun, which no call returns, and has it heed the phases that are set.
     fn begin_search(&mut self)
         ensures { self.new ≡ self.old }
     {
         self.ctx.solver_state.solver_invoked = true;
+        self.heed_phases();
+    }
+
+    /// Has each variable without a value as if it had had its phase last, if one is set, so that the search decides it
+    /// so first. No clause and no verdict depends on it.
+    fn heed_phases(&mut self)
+        ensures { self.new ≡ self.old }
+    {
+        if self.ctx.solver_state.state_is_invalid {
+            return;
+        }
+        remember_phases(&self.phases, &self.tracer.tables, &mut self.ctx.assignment);
     }
 
     /// Makes steps until it is known whether some assignment satisfies the accepted clauses and makes the assumptions
@@ -553,12 +571,48 @@ impl<W: ProofTarget, A: Allocator + Copy> Solver<W, A> {
     }
 
     /// Frees the name of the variable, which lives on in the clauses, hidden. The name may come back for another
-    /// variable. A free name comes into use first. The variable may leave for good, as one does that no clause holds,
+    /// variable, and has no phase that is set any more. A free name comes into use first. The variable may leave for good, as one does that no clause holds,
     /// unless the clauses are known to be unsatisfiable; the clause permits it. Refused as `sample_var` is.
     pub fn hide_var(&mut self, var: Var) -> Result<(), SolverError>
         ensures { LeadsRepresented self.old (λ s t. HidesVar s var result t) self.new }
     {
-        self.set_mode(var, SamplingMode::Hide)
+        let hidden = self.set_mode(var, SamplingMode::Hide);
+        self.unset_phase_if(var, hidden.is_ok());
+        hidden
+    }
+
+    /// The phase of the variable is set no longer, if so.
+    fn unset_phase_if(&mut self, var: Var, is_unset: bool)
+        ensures { self.new ≡ self.old }
+    {
+        if is_unset {
+            self.phases.unset(var);
+        }
+    }
+
+    /// Sets the phase of the literal's variable: as a call of `solve` begins, a variable without a value is as if the
+    /// literal had been true last, so that the search decides it so first. It holds until another phase is set or
+    /// `unset_phase` is called, and goes with the name of a variable that is hidden; a name that is not in use keeps it
+    /// for the variable that it is given to. No answer depends on it but which model is found. Refused in an invalid
+    /// solver, and where the name is past the limit: then nothing changes. Where memory runs out the solver is invalid.
+    pub fn set_phase(&mut self, lit: Lit) -> Result<(), SolverError>
+        ensures { LeadsRepresented self.old (λ s t. SetsPhase s lit result t) self.new }
+    {
+        ensure_valid(&self.ctx)?;
+        if lit.index() >= Var::max_count() {
+            return Err(SolverError::VariableLimit);
+        }
+        match self.phases.set(lit) {
+            Ok(()) => Ok(()),
+            Err(_) => Err(invalidate(&mut self.ctx, SolverError::OutOfMemory)),
+        }
+    }
+
+    /// The variable has no phase that is set any more: it is decided as it was last assigned.
+    pub fn unset_phase(&mut self, var: Var)
+        ensures { self.new ≡ self.old }
+    {
+        self.phases.unset(var);
     }
 
     /// Names the variable, and changes its mode. Refused as `sample_var` is.
@@ -654,6 +708,25 @@ impl<W: ProofTarget, A: Allocator + Copy> Solver<W, A> {
                 Ok(Some(copy))
             }
             None => Ok(None),
+        }
+    }
+
+    /// Whether the literal is fixed: its variable has the value that makes it true at level 0 of the search, or left the
+    /// search with that value. Then the accepted clauses entail it. False of what no search and no unit clause has fixed
+    /// yet, of a name that is not in use, and in an invalid solver. It makes no step and changes nothing.
+    pub fn is_fixed(&self, lit: Lit) -> bool
+        ensures exact { IsTrue result ↔ HasFixed self.now lit }
+        ensures call { LeadsRepresented self.now (λ s t. ReturnsFixed s lit result t) self.now }
+    {
+        if self.ctx.solver_state.state_is_invalid {
+            return false;
+        }
+        self.tracer.tables.prove_linked();
+        match self.tracer.tables.global_from_user().get(lit.var()) {
+            Some(global) => {
+                is_fixed_to(&self.tracer.tables, &self.ctx, global, lit.is_positive())
+            }
+            None => false,
         }
     }
 

@@ -19,7 +19,7 @@ use Rattle.varisat_solver.specs.promises.StepEntries.{GoesOnInSteps}
 use Rattle.varisat_solver.specs.promises.OpenProofs.{IsOpen, BarsClauses, BarsAssumptions, searched_under, lines_over, GoesOnWriting, GoesOnFailing}
 use Rattle.varisat_solver.specs.promises.States.{Known, State, join_counted, Verdict, Unknown, Sat, Unsat, UnsatUnderAssumptions, HasRightVerdict}
 use Rattle.varisat_solver.specs.promises.Names.{Naming, name_one, name_all, through_names, IsLeastFree, NameNoWitness, IsFirstWitness}
-use Rattle.varisat_solver.specs.promises.Models.{model_of, IsReturnedCore}
+use Rattle.varisat_solver.specs.promises.Models.{model_of, IsReturnedCore, IsEntailed}
 use Rattle.varisat_names.specs.declared.config.SolverConfigUpdate.{SolverConfigUpdate}
 use Rattle.varisat_names.specs.promises.Settings.{updated_settings, first_bad}
 use Rattle.varisat_solver.specs.promises.Budgets.{CountsSteps}
@@ -325,6 +325,22 @@ ReturnsSince s n t = (n ≡ s.ledger.since) × (IsValid s → AreFew (length s.c
 -- the flag is returned
 abbrev pub ReturnsValid : {V : Type 0} → Known V → Bool → Known V → Type 0
 ReturnsValid s b t = (b ≡ is_valid s) × (t ≡ s)
+
+-- The call `is_fixed`.
+
+-- Only in a valid solver is a literal said to be fixed, and then the accepted clauses entail it. Which literals are, the state does not say.
+abbrev pub ReturnsFixed : {V : Type 0} → Known V → Literal → Bool → Known V → Type 0
+ReturnsFixed s l b t = (b ≡ true → IsValid s × IsEntailed s.naming s.clauses l) × (t ≡ s)
+
+-- The call `set_phase`.
+
+-- Nothing that is known changes: how a variable is decided first is no part of it.
+abbrev pub SetsPhase : {V : Type 0} → Known V → Literal → Result (Unit {0}) SolverError → Known V → Type 0
+SetsPhase s l (Ok _) t = IsValid s × (variable_of l < variable_limit) × (t ≡ s)
+SetsPhase s l (Err Invalid) t = IsRefusedInvalid s t
+SetsPhase s l (Err VariableLimit) t = IsValid s × (variable_limit ≤ variable_of l) × (t ≡ s)
+SetsPhase s l (Err OutOfMemory) t = (variable_of l < variable_limit) × Invalidates 0 s t
+SetsPhase s l (Err _) t = ⊥
 
 -- 2. The verdict of a state.
 

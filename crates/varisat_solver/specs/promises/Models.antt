@@ -1,7 +1,7 @@
--- The models and failed cores that are returned.
+-- The models and failed cores that are returned, and what a literal is that the clauses entail.
 use Rattle.std.specs.Prelude.{◌≡◌, ℕ, zero, suc, ◌≤◌, false, Option, Some, None, List, [], ◌∷◌, map}
 use Rattle.varisat_theory.specs.promises.Membership.{◌∈◌}
-use Rattle.varisat_theory.specs.promises.Literals.{Literal, Clause, Assignment, variable_of, literal_of, SatisfiesAll, MakesTrue, IsFailedCore}
+use Rattle.varisat_theory.specs.promises.Literals.{Literal, Clause, Assignment, variable_of, literal_of, SatisfiesAll, MakesTrue, Entails, IsFailedCore}
 use Rattle.varisat_solver.specs.promises.States.{State, Verdict, Unknown, Sat, Unsat, UnsatUnderAssumptions}
 use Rattle.varisat_solver.specs.promises.Names.{Naming, through_names}
 
@@ -73,3 +73,8 @@ abbrev pub IsReturnedCore : State → Option (List Literal) → Type 0
 IsReturnedCore s None = core_of s.verdict ≡ None
 IsReturnedCore s (Some core) =
     AreNamesInUse s.naming core × (core_of s.verdict ≡ Some (map (through_names s.naming) core))
+
+-- The literal's name is in use, and every assignment that satisfies the accepted clauses makes it true as the name carries it.
+abbrev pub IsEntailed : Naming → List Clause → Literal → Type 0
+IsEntailed m clauses l =
+    (i : ℕ) × (m.names (variable_of l) ≡ Some i) × Entails clauses (through_names m l ∷ [])

@@ -11,7 +11,7 @@ use varisat_formula::cnf_formula;
 use varisat_formula::dimacs::{DimacsError, DimacsErrorKind};
 use varisat_formula::formula::Var;
 use varisat_formula::io::{CutSource, MemoryTarget, ReadSource};
-use varisat_literals::lits;
+use varisat_literals::{Lit, lits};
 use varisat_names::config::ConfigField;
 
 /// The text in pieces of at most so many bytes, as a reader that fails or ends behind them.
@@ -43,8 +43,8 @@ fn are_lines(alloc: Global, answers: &[TextAnswer], wanted: &[u8]) -> bool {
     is_written & (out.as_slice() == wanted)
 }
 
-// A clause, a formula, a text that breaks off, the question without a step and with some, the model, and whether the solver
-// is valid.
+// A clause, a formula, a phase, a text that breaks off, the question without a step and with some, the model, in which the
+// phase shows, whether two literals are fixed, no phase, and whether the solver is valid.
 fn calls(alloc: Global) -> Option<Vec<TextCall>>
     ensures { IfSome result (λ calls. AreReady (λ s. s) (λ t. t) calls.items) }
 {
@@ -54,18 +54,23 @@ fn calls(alloc: Global) -> Option<Vec<TextCall>>
     let calls = [
         Call::AddClause(clause),
         Call::AddFormula(formula),
+        Call::SetPhase(Lit::from_dimacs(3)),
         Call::AddDimacsCnf(ReadSource::new(text)),
         Call::SetMaxSteps(0),
         Call::Solve,
         Call::SetMaxSteps(9),
         Call::Solve,
         Call::Model,
+        Call::IsFixed(Lit::from_dimacs(-5)),
+        Call::IsFixed(Lit::from_dimacs(3)),
+        Call::UnsetPhase(Var::from_dimacs(3)),
         Call::IsValid,
     ];
     Vec::from_array(alloc, calls).ok()
 }
 
-const ANSWERS: &[u8] = b"ok\nok\nerr 13\nok\nerr 1\nok\nok true\nok -1 -2 -3 -4 -5 6 0\nok true\n";
+const ANSWERS: &[u8] =
+    b"ok\nok\nok\nerr 13\nok\nerr 1\nok\nok true\nok -1 -2 3 -4 -5 6 0\nok true\nok false\nok\nok true\n";
 
 // Whether the solver gives the calls these answers.
 fn runs(solver: &mut Solver<MemoryTarget<Global>, Global>, alloc: Global) -> Option<bool> {

@@ -63,20 +63,25 @@ fn add_pigeons(solver: &mut TestSolver) -> Result<(), SolverError> {
     Ok(())
 }
 
-// How many restarts a search of them makes, where the second one is due at the step.
-fn restarts_of_pigeons(solver: &mut TestSolver, second: u64) -> Result<u64, SolverError> {
+// How many restarts a search of them makes within so many steps, where the second one is due at the step.
+fn restarts_of_pigeons(
+    solver: &mut TestSolver,
+    second: u64,
+    steps: u64,
+) -> Result<u64, SolverError> {
     let mut update = SolverConfigUpdate::new();
     update.luby_restart_interval_scale = Some(second);
     update.restart_glue = Some(110);
+    update.max_steps = Some(steps);
     solver.config(&update)?;
     add_pigeons(solver)?;
-    let _ = solver.solve()?;
+    let _ = solver.solve();
     Ok(solver.statistics().restarts)
 }
 
-fn restarts_in_new(alloc: Global, second: u64) -> Option<u64> {
+fn restarts_in_new(alloc: Global, second: u64, steps: u64) -> Option<u64> {
     let mut solver = Solver::new_in(alloc);
-    let restarts = restarts_of_pigeons(&mut solver, second).ok();
+    let restarts = restarts_of_pigeons(&mut solver, second, steps).ok();
     drop(solver);
     restarts
 }
@@ -85,9 +90,16 @@ fn restarts_in_new(alloc: Global, second: u64) -> Option<u64> {
 // search takes more than 1,024 conflicts.
 #[test]
 fn restarts_come_between_points(rt: HostRuntime) {
-    let short = restarts_in_new(rt.alloc(), (1 << 57) - 1);
+    let short = restarts_in_new(rt.alloc(), (1 << 57) - 1, u64::MAX);
     assert!(rt; short.is_some_and(|restarts| restarts > 1));
-    assert!(rt; restarts_in_new(rt.alloc(), 1 << 57) == Some(1));
+    assert!(rt; restarts_in_new(rt.alloc(), 1 << 57, u64::MAX) == Some(1));
+}
+
+// A restart is due before each interval of 1, 1, 2, 1, 1, 2, 4 steps and so on, and that of 32 begins behind 160.
+#[test]
+fn restarts_come_among_first_conflicts(rt: HostRuntime) {
+    assert!(rt; restarts_in_new(rt.alloc(), 1, 160) == Some(0));
+    assert!(rt; restarts_in_new(rt.alloc(), 1, 161) == Some(1));
 }
 
 // By the first decision both clauses of two literals with it conflict, so that one unit clause is learned; it makes the

@@ -15,7 +15,7 @@ _varisat() {
     session) _arguments '--help[print more about session]' ;;
     check)
       _arguments '--help[print more about check]' '--drat[take lines that are RAT]' '(--marked)--binary[read the binary format]' \
-        '(--binary)--marked[read marked text]' '2:formula:_files' '3:proof:_files'
+        '(--binary)--marked[read marked text]' '--heap[give the checker so many bytes of memory]:bytes:' '2:formula:_files' '3:proof:_files'
       ;;
     *)
       _arguments '--help[print more about solve]' \
@@ -23,7 +23,9 @@ _varisat() {
         '(--binary)--marked[write the proof as marked text]' '--check[have a checker inside the solver check each step]' \
         '--max-steps[give up after so many steps]:steps:' '--heap[give the solver so many bytes of memory]:bytes:' \
         '(--no-simplify)--simplify[simplify the formula however short it is]' '(--simplify)--no-simplify[search the formula as it is]' \
-        '(-q)--progress[show how far the search is]' '(--progress)-q[show nothing on standard error but faults]' '-n[print no line v]' '2:file:_files'
+        '(-q)--progress[show how far the search is]' '(--progress -v --statistics)-q[show nothing on standard error but faults]' \
+        '(-q)'{-v,--statistics}'[show what was counted and timed]' '--output[write the verdict to a file]:verdict:_files' \
+        '(-n)--wrap[print the model on short lines]' '(--wrap)-n[print no line v]' '2:file:_files'
       ;;
   esac
 }

@@ -47,7 +47,7 @@ tell_version() {
 # Whether the word behind such an option is its value.
 takes_value() {
   case $1 in
-    --proof | --max-steps | --heap) ;;
+    --proof | --output | --max-steps | --heap) ;;
     *) return 1 ;;
   esac
 }
@@ -56,7 +56,7 @@ takes_value() {
 # `maxsat` the first word that is no option, of `check` all of them, and a file that stands in the place of a command. A first word behind
 # `solve` may be a file also where it begins as an option does.
 start() {
-  command=$1:${3-} program=$2 place=0 files=0 before='' formula='' proof=''
+  command=$1:${3-} program=$2 place=0 files=0 before='' formula='' proof='' output=''
   shift 2
   case $command in
     maxsat:*) command=maxsat ;;
@@ -71,12 +71,14 @@ start() {
       :
     elif [ -n "$before" ]; then
       [ "$before" != --proof ] || proof=$word
+      [ "$before" != --output ] || output=$word
       before=''
     elif takes_value "$word" && ! { [ "$place" = 1 ] && [ -f "$word" ]; }; then
       before=$word
     else
       case $word in
         --proof=*) proof=${word#*=} ;;
+        --output=*) output=${word#*=} ;;
         -?*) [ "$place" != 1 ] || is_read=1 ;;
         *) files=$((files + 1)) is_read=1 ;;
       esac
@@ -94,5 +96,6 @@ start() {
     set -- "$@" "$word"
   done
   [ -z "$proof" ] || refuse_proof "$formula" "$proof"
+  ! [ "$formula" -ef "$output" ] || fail "'$output': the formula is in this file, which the verdict would overwrite"
   exec "$program" "$@"
 }

@@ -15,7 +15,7 @@ use Rattle.varisat_solver.specs.promises.Names.{Naming, Sample, Witness, name_on
 use Rattle.varisat_solver.specs.promises.Additions.{AddsAll, AddsList, AddsReading, AddsText, ReturnsFault, AllAdded, OneRefused, RefusedAtOnce, NoFault, MemoryFault, Fault, ClauseRefused, ClausesAdded, RefusedEarly, Read, Unread}
 use Rattle.varisat_solver.specs.promises.Usage.{ChangesVar, Observes}
 use Rattle.varisat_solver.specs.promises.Calls as state
-use Rattle.varisat_solver.specs.promises.Calls.{Verdicts, is_valid, IsValid, Invalidates, IsLikeButLeft, MayAccept, TakesOne, Ignored, Accepted, TakesAssumed, TakesList, MakesVar, RefusesNames, CountsIf, Decided, Searched, ReturnsVerdict, IsSpent, Solves, IsRefuted, ReturnsList, Configures, with_max_steps, once_searched}
+use Rattle.varisat_solver.specs.promises.Calls.{Verdicts, is_valid, IsValid, Invalidates, IsLikeButLeft, MayAccept, TakesOne, Ignored, Accepted, TakesAssumed, TakesList, MakesVar, RefusesNames, CountsIf, Decided, Searched, ReturnsVerdict, IsSpent, Solves, IsRefuted, ReturnsList, Configures, SetsPhase, with_max_steps, once_searched}
 use Rattle.varisat.specs.promises.Turns.{Makes}
 use Rattle.varisat.specs.declared.session.Call.{Call}
 use Rattle.varisat.specs.declared.session.Answer.{Answer}
@@ -242,6 +242,13 @@ module _ {V W : Type 0} (by : Verdicts V) (to : Verdicts W) where
   config s t u (Err (ConfigOutOfRange field)) (c, n, e) = (Unchanged e, λ v w k x. (c, n, x))
   config s t u (Err e) a = absurd a
 
+  set-phase : (s t : Known V) (l : Literal) (r : Result (Unit {0}) SolverError) → SetsPhase s l r t → HasEffect s t (λ p q. SetsPhase p l r q)
+  set-phase s t l (Ok z) (c, small, e) = (Unchanged e, λ v w k x. (c, small, x))
+  set-phase s t l (Err Invalid) (c, e) = (Unchanged e, λ v w k x. (c, x))
+  set-phase s t l (Err VariableLimit) (c, past, e) = (Unchanged e, λ v w k x. (c, past, x))
+  set-phase s t l (Err OutOfMemory) (small, b) = (Broken (not-valid b), λ v w k x. (small, recast-invalid v w b))
+  set-phase s t l (Err e) a = absurd a
+
   open-proof : {T : Type 0} (taken : T → Taken) (target : T) (format : ProofFormat) (s t : Known V) (r : Result (Unit {0}) (SolverError × T)) →
       OpensProof taken target format s r t → HasEffect s t (λ p q. OpensProof taken target format p r q)
   open-proof taken target format s t (Ok z) (c, n, b, e) = (CountedAnew _ _ e refl refl refl, λ v w k x. (c, n, b, x))
@@ -302,6 +309,8 @@ module _ {V W : Type 0} (by : Verdicts V) (to : Verdicts W) where
       let (e, f) = change-var false (set_mode u Witness) (λ b. b) (λ n h. h) s t u r m in (e, λ v w k x. (f v w k x, fresh))
   effect-of seen taken (call.HideVar u) (answer.HideVar r) s t m = change-var true (free_name u) (λ b. true) (capped-freed u) s t u r m
   effect-of seen taken call.ObserveInternalVars (answer.ObserveInternalVars r) s t m = observe s t (returned_variables r) m
+  effect-of seen taken (call.SetPhase l) (answer.SetPhase r) s t m = set-phase s t l r m
+  effect-of seen taken (call.UnsetPhase u) answer.UnsetPhase s t e = (Unchanged e, λ v w k x. x)
   effect-of seen taken (call.Assume list) (answer.Assume r) s t m = assume-list s t list.items r m
   effect-of seen taken call.Solve (answer.Solve r) s t m = solve s t r m
   effect-of seen taken call.Model (answer.Model r) s t m = return-list (by.model s) to.model s t (returned_list r) (λ v k. k.model) m
@@ -311,6 +320,7 @@ module _ {V W : Type 0} (by : Verdicts V) (to : Verdicts W) where
   effect-of seen taken call.Steps (answer.Steps n) s t (h, e) = (Unchanged e, λ v w k x. (h, x))
   effect-of seen taken call.StepsSinceChange (answer.StepsSinceChange n) s t (h, few, e) = (Unchanged e, λ v w k x. (h, few, x))
   effect-of seen taken call.IsValid (answer.IsValid b) s t (h, e) = (Unchanged e, λ v w k x. (h, x))
+  effect-of seen taken (call.IsFixed l) (answer.IsFixed b) s t (h, e) = (Unchanged e, λ v w k x. (h, x))
   effect-of seen taken (call.WriteProof target format) (answer.WriteProof r) s t m = open-proof taken target format s t r m
   effect-of seen taken call.CloseProof (answer.CloseProof r) s t m = close taken s t r m
   effect-of seen taken call.EnableSelfChecking (answer.EnableSelfChecking r) s t m = enable-checking s t r m

@@ -13,7 +13,7 @@ use Rattle.varisat_solver.specs.promises.OpenProofs.{OpenProof, BarsAssumptions}
 use Rattle.varisat_solver.specs.promises.Journals.{with_entries}
 use Rattle.varisat_solver.specs.promises.ProofCalls.{OpensProof, EnablesChecking, Closes}
 use Rattle.varisat_solver.specs.promises.States.{State, Ledger, Verdict, Unsat, IsRight, HasRightVerdict, join_counted}
-use Rattle.varisat_solver.specs.promises.Models.{IsCompletable, IsReturnedCore}
+use Rattle.varisat_solver.specs.promises.Models.{IsCompletable, IsReturnedCore, IsEntailed}
 use Rattle.varisat_solver.specs.promises.Names.{Naming, Mode, Sample, Witness, name_one, name_all, through_names, set_mode, free_name, IsLeastFree, AreShown}
 use Rattle.varisat_solver.specs.promises.Additions as additions
 use Rattle.varisat_solver.specs.promises.Additions.{AllAdded, OneRefused, RefusedAtOnce, NoFault, MemoryFault, Fault, ClauseRefused, ClausesAdded, RefusedEarly, Read, Unread}
@@ -389,6 +389,14 @@ config y p q u (Err Invalid) h (c, e) = stays y p q false h c e
 config y p q u (Err (ConfigOutOfRange field)) h (c, n, e) = stays y p q true h c e
 config y p q u (Err e) h a = absurd a
 
+set-phase : (y : Story) (p q : State) (l : Literal) (r : Result (Unit {0}) SolverError) → Sees y p → state.SetsPhase p l r q →
+    Leads (Outcome (λ _ x. x ≡ y) y r) q
+set-phase y p q l (Ok x) h (c, small, e) = (y, (valid-as y p h ∙ c, refl), same y p q h e)
+set-phase y p q l (Err Invalid) h (c, e) = stays y p q false h c e
+set-phase y p q l (Err VariableLimit) h (c, past, e) = stays y p q true h c e
+set-phase y p q l (Err OutOfMemory) h (small, b) = breaks y p q h b
+set-phase y p q l (Err e) h a = absurd a
+
 enable-checking : (y : Story) (p q : State) (r : Result (Unit {0}) SolverError) → Sees y p → EnablesChecking p r q →
     Leads (Outcome (λ _ x. x ≡ y) y r) q
 enable-checking y p q (Ok x) h (c, b, e) = (y, (valid-as y p h ∙ c, refl), same-but y p q _ p.proof e refl h)
@@ -420,6 +428,8 @@ is-answered seen taken (call.SampleVar u) (answer.SampleVar r) y p q h m = set-m
 is-answered seen taken (call.WitnessVar u) (answer.WitnessVar r) y p q h m = set-mode Witness y p q u r h m
 is-answered seen taken (call.HideVar u) (answer.HideVar r) y p q h m = hide y p q u r h m
 is-answered seen taken call.ObserveInternalVars (answer.ObserveInternalVars r) y p q h m = observe y p q r h m
+is-answered seen taken (call.SetPhase l) (answer.SetPhase r) y p q h m = set-phase y p q l r h m
+is-answered seen taken (call.UnsetPhase u) answer.UnsetPhase y p q h k = (y, refl, same y p q h k)
 is-answered seen taken (call.Assume list) (answer.Assume r) y p q h m = assume-list y p q list.items r h m
 is-answered seen taken call.Solve (answer.Solve r) y p q h m = solve y p q r h m
 is-answered seen taken call.Model (answer.Model r) y p q h m =
@@ -431,6 +441,14 @@ is-answered seen taken (call.SetMaxSteps n) answer.SetMaxSteps y p q h k = (y, r
 is-answered seen taken call.Steps (answer.Steps n) y p q h (e, k) = (y, refl, same y p q h k)
 is-answered seen taken call.StepsSinceChange (answer.StepsSinceChange n) y p q h (e, few, k) = (y, refl, same y p q h k)
 is-answered seen taken call.IsValid (answer.IsValid b) y p q h (e, k) = (y, (e ∙ sym (valid-as y p h), refl), same y p q h k)
+is-answered seen taken (call.IsFixed l) (answer.IsFixed b) y p q h (f, k) = (
+  y,
+  (
+    λ e. let (c, is) = f e in to-story y p h c (λ z. (z.valid ≡ true) × IsEntailed z.naming z.clauses l) (λ m found k. (c, is)),
+    refl,
+  ),
+  same y p q h k,
+)
 is-answered seen taken (call.WriteProof target format) (answer.WriteProof (Ok x)) y p q h (c, n, s, e) =
     (y, (valid-as y p h ∙ c, refl), same-but y p q _ _ e refl h)
 is-answered seen taken (call.WriteProof target format) (answer.WriteProof (Err (e, back))) y p q h m = open-refused taken target back format y p q e h m

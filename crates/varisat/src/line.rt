@@ -259,15 +259,16 @@ pub fn write_answer<O: Write, S: ByteSource, A: Allocator + Copy>(
         | Answer::SampleVar(done)
         | Answer::WitnessVar(done)
         | Answer::HideVar(done)
+        | Answer::SetPhase(done)
         | Answer::Assume(done)
         | Answer::Config(done)
         | Answer::EnableSelfChecking(done) => write_done(out, done),
-        Answer::SetMaxSteps => out.write_all(b"ok"),
+        Answer::SetMaxSteps | Answer::UnsetPhase => out.write_all(b"ok"),
         Answer::NewVar(made) => write_made(out, made),
         Answer::ObserveInternalVars(names) => write_names(out, names),
         Answer::Steps(steps) | Answer::StepsSinceChange(steps) => write_count(out, *steps),
         Answer::Solve(solved) => write_solved(out, solved),
-        Answer::IsValid(truth) => write_truth(out, *truth),
+        Answer::IsValid(truth) | Answer::IsFixed(truth) => write_truth(out, *truth),
         Answer::Model(list) | Answer::FailedCore(list) => write_list(out, list),
         Answer::WriteProof(opened) => write_opened(out, opened),
         Answer::CloseProof(closed) => write_closed(out, closed),

@@ -29,6 +29,8 @@ pub enum Call<W: ProofTarget, S: ByteSource, A: Allocator + Copy> {
     WitnessVar(Var),
     HideVar(Var),
     ObserveInternalVars,
+    SetPhase(Lit),
+    UnsetPhase(Var),
     Assume(Vec<Lit, A>),
     Solve,
     Model,
@@ -38,6 +40,7 @@ pub enum Call<W: ProofTarget, S: ByteSource, A: Allocator + Copy> {
     Steps,
     StepsSinceChange,
     IsValid,
+    IsFixed(Lit),
     WriteProof(W, ProofFormat),
     CloseProof,
     EnableSelfChecking,
@@ -55,6 +58,8 @@ pub enum Answer<W: ProofTarget, S: ByteSource, A: Allocator + Copy> {
     WitnessVar(Result<(), SolverError>),
     HideVar(Result<(), SolverError>),
     ObserveInternalVars(Result<Vec<Var, A>, SolverError>),
+    SetPhase(Result<(), SolverError>),
+    UnsetPhase,
     Assume(Result<(), SolverError>),
     Solve(Result<bool, SolverError>),
     Model(Result<Option<Vec<Lit, A>>, AllocError>),
@@ -64,6 +69,7 @@ pub enum Answer<W: ProofTarget, S: ByteSource, A: Allocator + Copy> {
     Steps(u64),
     StepsSinceChange(u64),
     IsValid(bool),
+    IsFixed(bool),
     WriteProof(Result<(), (SolverError, W)>),
     CloseProof(Result<Option<W>, (SolverError, W)>),
     EnableSelfChecking(Result<(), SolverError>),
@@ -90,6 +96,11 @@ pub fn make_call<W: ProofTarget, S: ByteSource, A: Allocator + Copy>(
         Call::WitnessVar(var) => Answer::WitnessVar(solver.witness_var(var)),
         Call::HideVar(var) => Answer::HideVar(solver.hide_var(var)),
         Call::ObserveInternalVars => { Answer::ObserveInternalVars(solver.observe_internal_vars()) }
+        Call::SetPhase(lit) => Answer::SetPhase(solver.set_phase(lit)),
+        Call::UnsetPhase(var) => {
+            solver.unset_phase(var);
+            Answer::UnsetPhase
+        }
         Call::Assume(list) => Answer::Assume(solver.assume(&list)),
         Call::Solve => Answer::Solve(solver.solve()),
         Call::Model => Answer::Model(solver.model()),
@@ -102,6 +113,7 @@ pub fn make_call<W: ProofTarget, S: ByteSource, A: Allocator + Copy>(
         Call::Steps => Answer::Steps(solver.steps()),
         Call::StepsSinceChange => Answer::StepsSinceChange(solver.steps_since_change()),
         Call::IsValid => Answer::IsValid(solver.is_valid()),
+        Call::IsFixed(lit) => Answer::IsFixed(solver.is_fixed(lit)),
         Call::WriteProof(target, format) => {
             Answer::WriteProof(solver.write_proof(target, format))
         }

@@ -14,6 +14,7 @@ pub const HELP: &str = "varisat 2.0.0: a SAT solver
     varisat FILE [PROOF] [OPTION ..]                 the same, with --proof PROOF
     varisat check CNF PROOF [--binary | --marked]    check a proof that such a text is unsatisfiable
     varisat check --drat CNF PROOF [--binary]        the same, where lines may also be RAT
+    varisat check CNF PROOF --heap BYTES             the same with so many bytes of memory
     varisat session                                  call a solver line by line
     varisat COMMAND --help                           tell more of a command
     varisat --help | -h | --version | -V
@@ -28,8 +29,11 @@ options of solve, at any place behind it, each at most once; a value may follow 
     --simplify       simplify the formula first, however short it is
     --no-simplify    search the formula as it is, however long it is
     --progress       show on standard error how far the search is
+    -v, --statistics show on standard error what was counted, and how long each part took
+    --output FILE    write the verdict and the model to FILE
+    --wrap           print the model on lines of at most 78 characters
     -n               print no line v
-    -q               show nothing on standard error but faults, as without --progress
+    -q               show nothing on standard error but faults, as without --progress and -v
 
 FILE and CNF are DIMACS CNF, and - stands for standard input. PROOF is DRAT. ./varisat and the installed
 varisat decompress what they read from files named .gz, .bz2, .xz or .zst.
@@ -71,15 +75,23 @@ A number N or BYTES may have a unit: k, M and G are 1000, 1000000 and 1000000000
                      propagations and restarts so far; variables that are not fixed; clauses of two
                      literals, given ones, and learned ones to keep (core), to keep if used (mid), or to
                      drop by and by (local)
+    -v, --statistics
+                     show on standard error how many milliseconds reading, simplifying, the search and the end
+                     of the proof took; steps, conflicts, decisions, propagations, restarts, literals of
+                     learned clauses, deleted clauses and collections of garbage; and the most memory that
+                     the program had, in units of 1024 bytes
+    --output FILE    write what is printed otherwise, the verdict and the model, to the file FILE, which is
+                     made or emptied; it must not be the formula's, nor the proof's
+    --wrap           print the model on lines v of at most 78 characters, of which the last one has the 0
     -n               print no line v
-    -q               show nothing on standard error but faults, which is so without --progress too
+    -q               show nothing on standard error but faults, which is so without --progress and -v too
 
 The first word behind solve is FILE, whatever it is called, if the others are options.
 ";
 
 /// The command `check`.
-pub const CHECK_HELP: &str = "varisat check CNF PROOF [--binary | --marked]
-varisat check --drat CNF PROOF [--binary]
+pub const CHECK_HELP: &str = "varisat check CNF PROOF [--binary | --marked] [--heap BYTES]
+varisat check --drat CNF PROOF [--binary] [--heap BYTES]
 
 Checks that PROOF, a file, shows the DIMACS CNF text in CNF, or on standard input where CNF is -, to be
 unsatisfiable. Prints one of
@@ -97,6 +109,9 @@ literals. A deletion of what is not there is passed over, and so is one of a cla
 but one are implied to be false, as of a single literal. Standard error tells the first wrong line, with
 its bytes and a clause for which it is not RAT, and how many lines were of these kinds. Without --binary
 the first twelve bytes of PROOF tell text from the binary format.
+
+With --heap BYTES the checker has a heap of so many bytes, from 4096, and no other memory; where it is full:
+error: Out of memory, exit code 2. BYTES may have a unit, as of solve.
 ";
 
 /// The command `session`.

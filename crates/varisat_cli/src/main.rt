@@ -16,6 +16,7 @@ use crate::help::print_text;
 use crate::reasons::{Reason, reason_of, tell_fault};
 use crate::words::{Asked, CheckWords, STANDARD_INPUT, SolveWords, asked_by};
 use linked_list_allocator::LocalHeap;
+use std::alloc::Allocator;
 use std::fmt::Display;
 use std::fs::{File, Metadata};
 use std::io::{self, BufWriter, ErrorKind, IsTerminal, Read, Write};
@@ -123,7 +124,7 @@ fn session(rt: &HostRuntime) -> u8 {
     }
 }
 
-// A proof that is written to a file.
+// A proof, or what is printed, that is written to a file.
 type FileTarget = IoTarget<BufWriter<File>>;
 
 // The file that the system has for standard input.
@@ -136,6 +137,11 @@ const OUTPUT_FILE: &str = "/dev/stdout";
 const SAME_FILE: &str = "the formula is in this file, which a proof would overwrite";
 
 const PRINTED_FILE: &str = "what is printed goes to this file, which a proof would overwrite";
+
+// Why the file of the verdict is neither made nor emptied.
+const FORMULA_FILE: &str = "the formula is in this file, which the verdict would overwrite";
+
+const PROOF_FILE: &str = "the proof goes to this file, which the verdict would overwrite";
 
 // Decides the formula in a file, or on standard input. It is opened before the file of a proof.
 fn solve(rt: &HostRuntime, path: &str, words: &SolveWords<'_>) -> u8 {
@@ -163,7 +169,10 @@ fn solve_from<R: Read + Drop>(
 ) -> u8 {
     let mut err = rt.stderr();
     let proof_path = words.proof.unwrap_or("");
-    if is_written_over(rt, found, words.proof) {
+    if is_written_over(rt, found.as_ref(), words.output) {
+        return print_file_fault(&mut err, words.output.unwrap_or(""), &FORMULA_FILE);
+    }
+    if is_written_over(rt, found.as_ref(), words.proof) {
         return print_file_fault(&mut err, proof_path, &SAME_FILE);
     }
     if is_printed_over(rt, words.proof) {
@@ -175,7 +184,8 @@ fn solve_from<R: Read + Drop>(
     }
 }
 
-// Decides the formula that a reader gives, with a proof if there is a target for it.
+// Decides the formula that a reader gives, with a proof if there is a target for it, which is made. The verdict goes to a file
+// or to standard output.
 fn decide_from<R: Read + Drop>(
     rt: &HostRuntime,
     path: &str,
@@ -186,28 +196,84 @@ fn decide_from<R: Read + Drop>(
     requires { CanCountFault taken_by_writer proof.old }
 {
     let mut err = rt.stderr();
-    match BufWriter::new(rt.alloc(), io::writer(rt)) {
-        Ok(out) => decide_in_heap(
-            rt,
-            words.heap,
-            path,
-            &mut ReadSource::new(cnf),
-            proof,
-            words.options(),
-            &mut IoTarget::new(out),
-            &mut err,
-        ),
-        Err(error) => print_fault(&mut err, &error),
+    let Some(output) = words.output else {
+        return match BufWriter::new(rt.alloc(), io::writer(rt)) {
+            Ok(out) => decide_to(rt, path, cnf, proof, words, &mut IoTarget::new(out)),
+            Err(error) => print_fault(&mut err, &error),
+        };
+    };
+    if is_proof_written_over(rt, words) {
+        return print_file_fault(&mut err, output, &PROOF_FILE);
+    }
+    match create_file(rt, output) {
+        Ok(mut out) => decide_to(rt, path, cnf, proof, words, &mut out),
+        Err(error) => print_file_fault(&mut err, output, &error),
     }
 }
 
-// Whether a proof would be written over the file that has this metadata, under whatever name.
-fn is_written_over(rt: &HostRuntime, other: Option<Metadata>, proof: Option<&str>) -> bool {
-    let (Some(other), Some(path)) = (other, proof) else {
+// Decides the formula that a reader gives, with a proof if there is a target for it, and prints the verdict to the target.
+fn decide_to<R: Read + Drop, T: ProofTarget>(
+    rt: &HostRuntime,
+    path: &str,
+    cnf: R,
+    proof: &mut Option<FileTarget>,
+    words: &SolveWords<'_>,
+    out: &mut T,
+) -> u8
+    requires room { CanCountFault taken_by_writer proof.old }
+    requires out_faults { (T.taken out.old).faults < 2 ^ 64 - 1 }
+{
+    let mut err = rt.stderr();
+    let status = decide_in_heap(
+        rt,
+        words.heap,
+        path,
+        &mut ReadSource::new(cnf),
+        proof,
+        words.options(),
+        out,
+        &mut err,
+    );
+    if words.is_counted {
+        // Where the system or the writer fails there is nothing to report.
+        let _ = tell_memory(rt, &mut err);
+    }
+    status
+}
+
+// The file in which the system tells of this process.
+const PROCESS_FILE: &str = "/proc/self/status";
+
+// Tells how much memory the process had at most, in units of 1024 bytes.
+fn tell_memory<E: Write>(rt: &HostRuntime, err: &mut E) -> io::Result<()> {
+    let text = fs::read_to_string(rt, PROCESS_FILE)?;
+    for line in text.lines() {
+        if let Some(size) = line.strip_prefix("VmHWM:") {
+            let kilobytes = size.trim().trim_end_matches(" kB");
+            writeln!(err, "c {:<22} {kilobytes:>14}", "memory_kilobytes")?;
+        }
+    }
+    Ok(())
+}
+
+// Whether a file would be written over the one that has this metadata, under whatever name.
+fn is_written_over(rt: &HostRuntime, other: Option<&Metadata>, path: Option<&str>) -> bool {
+    let (Some(other), Some(path)) = (other, path) else {
         return false;
     };
     match fs::metadata(rt, path) {
-        Ok(found) => is_same_file(&other, &found),
+        Ok(found) => is_same_file(other, &found),
+        Err(_) => false,
+    }
+}
+
+// Whether the verdict would be written over the proof, whose file is there.
+fn is_proof_written_over(rt: &HostRuntime, words: &SolveWords<'_>) -> bool {
+    let Some(path) = words.proof else {
+        return false;
+    };
+    match fs::metadata(rt, path) {
+        Ok(proof) => is_written_over(rt, Some(&proof), words.output),
         Err(_) => false,
     }
 }
@@ -215,7 +281,7 @@ fn is_written_over(rt: &HostRuntime, other: Option<Metadata>, proof: Option<&str
 // Whether a proof would be written over the file to which standard output goes. A terminal or a pipe takes both.
 fn is_printed_over(rt: &HostRuntime, proof: Option<&str>) -> bool {
     match fs::metadata(rt, OUTPUT_FILE) {
-        Ok(printed) => printed.is_file() && is_written_over(rt, Some(printed), proof),
+        Ok(printed) => printed.is_file() && is_written_over(rt, Some(&printed), proof),
         Err(_) => false,
     }
 }
@@ -233,13 +299,19 @@ fn create_target(rt: &HostRuntime, path: Option<&str>) -> io::Result<Option<File
     ensures wanted { IfOk result (λ proof. MatchOption path.entry (proof ≡ None) (λ _. proof ≢ None)) }
 {
     match path {
-        Some(path) => {
-            let file = fs::create(rt, path)?;
-            refuse_stream(file.as_raw_fd())?;
-            Ok(Some(IoTarget::new(BufWriter::new(rt.alloc(), file)?)))
-        }
+        Some(path) => Ok(Some(create_file(rt, path)?)),
         None => Ok(None),
     }
+}
+
+// Makes the file, or empties the one that is there.
+fn create_file(rt: &HostRuntime, path: &str) -> io::Result<FileTarget>
+    ensures { IfOk result (λ target. (taken_by_writer target).faults < 2 ^ 64 - 1) }
+{
+    let file = fs::create(rt, path)?;
+    refuse_stream(file.as_raw_fd())?;
+    let target = IoTarget::new(BufWriter::new(rt.alloc(), file)?);
+    Ok(target)
 }
 
 // The number that the system has for standard error, the last of the standard streams.
@@ -310,21 +382,35 @@ fn check_from<R: Read + Drop>(rt: &HostRuntime, cnf: R, words: &CheckWords<'_>) 
     match BufWriter::new(rt.alloc(), io::writer(rt)) {
         Ok(out) => {
             let mut out = IoTarget::new(out);
+            let heap = words.heap;
             let status = if words.is_drat {
-                check_drat_texts(rt, &mut cnf, &mut proof, format, &mut out, &mut err)
+                check_drat_texts(rt, heap, &mut cnf, &mut proof, format, &mut out, &mut err)
             } else {
-                check_texts(rt, &mut cnf, &mut proof, words.format, &mut out, &mut err)
+                check_texts(rt, heap, &mut cnf, &mut proof, format, &mut out, &mut err)
             };
-            let _ = explain(rt, words, status);
+            let _ = explain_in_heap(rt, words, status);
             status
         }
         Err(error) => print_fault(&mut err, &error),
     }
 }
 
+// Tells more of a status, with no other memory than a heap of the size that is given, if one is.
+fn explain_in_heap(rt: &HostRuntime, words: &CheckWords<'_>, status: u8) -> io::Result<()> {
+    match words.heap {
+        None => explain(rt, rt.alloc(), words, status),
+        Some(size) => explain(rt, &LocalHeap::new(rt.alloc(), size)?, words, status),
+    }
+}
+
 // Tells more of a status: the fault of a text in words, or why a proof is not verified, which `--drat` tells anyhow. Files are
 // read once more for that, and nothing is told of what comes by a pipe.
-fn explain(rt: &HostRuntime, words: &CheckWords<'_>, status: u8) -> io::Result<()> {
+fn explain<A: Allocator + Copy>(
+    rt: &HostRuntime,
+    alloc: A,
+    words: &CheckWords<'_>,
+    status: u8,
+) -> io::Result<()> {
     let is_wrong = status == STATUS_NOT_VERIFIED && !words.is_drat;
     if !is_wrong && status != STATUS_FAULT || !is_kept(rt, words.cnf) {
         return Ok(());
@@ -332,9 +418,10 @@ fn explain(rt: &HostRuntime, words: &CheckWords<'_>, status: u8) -> io::Result<(
     let mut err = rt.stderr();
     let cnf = open_text(rt, words.cnf)?;
     if !is_wrong {
-        tell_fault(rt, &mut err, words.cnf, cnf);
+        tell_fault(alloc, &mut err, words.cnf, cnf);
     } else if is_kept(rt, words.proof) {
-        if let Some(reason) = reason_of(rt, cnf, open_text(rt, words.proof)?, words.format) {
+        let proof = open_text(rt, words.proof)?;
+        if let Some(reason) = reason_of(alloc, cnf, proof, words.format) {
             writeln!(err, "{reason}")?;
             if let Reason::IsNoLine(_) = reason {
                 tell_format(rt, words, &mut err)?;
@@ -415,9 +502,11 @@ fn head_format(rt: &HostRuntime, path: &str) -> io::Result<ProofFormat> {
 }
 
 // Checks the proof that a file gives, whose lines may be those of solvers that simplify. The status is 0 only where no
-// assignment satisfies the clauses of the text that was read.
+// assignment satisfies the clauses of the text that was read. All that the checker has is a heap of the size that is given, if
+// one is.
 fn check_drat_texts<R: Read + Drop, T: ProofTarget, E: Write>(
     rt: &HostRuntime,
+    heap: Option<usize>,
     cnf: &mut ReadSource<R>,
     proof: &mut ReadSource<File>,
     format: ProofFormat,
@@ -428,16 +517,24 @@ fn check_drat_texts<R: Read + Drop, T: ProofTarget, E: Write>(
     requires proof_faults { proof.old.faults < 2 ^ 64 - 1 }
     requires out_faults { (T.taken out.old).faults < 2 ^ 64 - 1 }
     ensures outcome { EndsDrat format (sources_of cnf.old proof.old) (sources_of cnf.new proof.new)
-        result (T.taken out.old) (T.taken out.new) }
+        result (T.taken out.old) (T.taken out.new)
+        ⊎ ((result ≡ fault_status) × (T.taken out.new ≡ T.taken out.old)) }
     ensures truth { result ≡ 0 → GivesUnsatisfiable cnf.old cnf.new }
 {
-    check_drat_lines(rt.alloc(), cnf, proof, format, out, err)
+    match heap {
+        None => check_drat_lines(rt.alloc(), cnf, proof, format, out, err),
+        Some(size) => match LocalHeap::new(rt.alloc(), size) {
+            Ok(heap) => check_drat_lines(&heap, cnf, proof, format, out, err),
+            Err(_) => print_fault(err, &SolverError::OutOfMemory),
+        },
+    }
 }
 
 // Checks the proof that a file gives. The status is 0 only where no assignment satisfies the clauses of the text that
-// was read.
+// was read. All that the checker has is a heap of the size that is given, if one is.
 fn check_texts<R: Read + Drop, T: ProofTarget, E: Write>(
     rt: &HostRuntime,
+    heap: Option<usize>,
     cnf: &mut ReadSource<R>,
     proof: &mut ReadSource<File>,
     format: ProofFormat,
@@ -448,10 +545,17 @@ fn check_texts<R: Read + Drop, T: ProofTarget, E: Write>(
     requires proof_faults { proof.old.faults < 2 ^ 64 - 1 }
     requires out_faults { (T.taken out.old).faults < 2 ^ 64 - 1 }
     ensures outcome { EndsCheck format (sources_of cnf.old proof.old) (sources_of cnf.new proof.new)
-        result (T.taken out.old) (T.taken out.new) }
+        result (T.taken out.old) (T.taken out.new)
+        ⊎ ((result ≡ fault_status) × (T.taken out.new ≡ T.taken out.old)) }
     ensures truth { result ≡ 0 → GivesUnsatisfiable cnf.old cnf.new }
 {
-    check_lines(rt.alloc(), cnf, proof, format, out, err)
+    match heap {
+        None => check_lines(rt.alloc(), cnf, proof, format, out, err),
+        Some(size) => match LocalHeap::new(rt.alloc(), size) {
+            Ok(heap) => check_lines(&heap, cnf, proof, format, out, err),
+            Err(_) => print_fault(err, &SolverError::OutOfMemory),
+        },
+    }
 }
 
 // Opens a file for reading, unless it is a folder: that would open, and only fail when it is read.

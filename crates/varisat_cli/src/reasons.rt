@@ -1,5 +1,6 @@
 //! Why a proof is not verified, or a text not read.
 
+use std::alloc::Allocator;
 use std::fmt;
 use std::fs::File;
 use std::io::Write;
@@ -41,8 +42,13 @@ impl fmt::Display for Reason {
 
 // Checks the proof once more, and gives the reason why it is not verified. None is for one that is, and where memory or a file
 // fails.
-pub fn reason_of(rt: &HostRuntime, cnf: File, proof: File, format: ProofFormat) -> Option<Reason> {
-    let mut checker = Checker::new_in(rt.alloc());
+pub fn reason_of<A: Allocator + Copy>(
+    alloc: A,
+    cnf: File,
+    proof: File,
+    format: ProofFormat,
+) -> Option<Reason> {
+    let mut checker = Checker::new_in(alloc);
     let (mut cnf, mut proof) = (ReadSource::new(cnf), ReadSource::new(proof));
     if format == ProofFormat::Marked {
         return match checker.check_marked(&mut proof) {
@@ -81,8 +87,8 @@ fn reason_for(error: &CheckerError) -> Option<Reason> {
 }
 
 // Reads the text once more, and tells in words which fault it has, if it has one.
-pub fn tell_fault<E: Write>(rt: &HostRuntime, err: &mut E, path: &str, cnf: File) {
-    if let Err(fault) = DimacsParser::parse(rt.alloc(), &mut ReadSource::new(cnf)) {
+pub fn tell_fault<A: Allocator + Copy, E: Write>(alloc: A, err: &mut E, path: &str, cnf: File) {
+    if let Err(fault) = DimacsParser::parse(alloc, &mut ReadSource::new(cnf)) {
         tell_text_fault(err, path, &fault);
     }
 }

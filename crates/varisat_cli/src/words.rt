@@ -5,7 +5,7 @@ ghost use Rattle.std.specs.Prelude.{◌≡◌, MatchBool};
 use crate::help::{CHECK_HELP, HELP, SESSION_HELP, SOLVE_HELP, VERSION};
 use varisat::program::SolveOptions;
 use varisat::proof::ProofFormat;
-use varisat_solve::program::{ProgramOptions, Simplification};
+use varisat_solve::program::{ModelLines, ProgramOptions, Simplification};
 use varisat_words::amounts::{BYTES, COUNTS, parse_amount};
 use varisat_words::mistakes::{Mistake, is_among, is_option, nearest};
 
@@ -103,33 +103,39 @@ const PROGRESS_INTERVAL: u64 = 10_000;
 const LEAST_HEAP: u64 = 4096;
 
 // The options of `solve` that stand alone, and those that have a value.
-const SOLVE_FLAGS: [&str; 6] = [
+const SOLVE_FLAGS: [&str; 8] = [
     "--binary",
     "--marked",
     "--check",
     "--progress",
+    "--statistics",
     "--simplify",
     "--no-simplify",
+    "--wrap",
 ];
 
-const SHORT_FLAGS: [&str; 2] = ["-q", "-n"];
+const SHORT_FLAGS: [&str; 3] = ["-q", "-n", "-v"];
 
-const SOLVE_VALUES: [&str; 3] = ["--proof", "--max-steps", "--heap"];
+const SOLVE_VALUES: [&str; 4] = ["--proof", "--output", "--max-steps", "--heap"];
 
-// The files and options of `solve`: where the formula is, and where a proof goes, whether it is binary or marked, whether the
-// search is checked, whether it is reported how far it is, or nothing is, whether a model is not to be printed, whether the
-// formula is simplified, a limit of steps, and the size of the solver's heap.
+// The files and options of `solve`: where the formula is, where a proof goes and where the verdict, whether the proof is
+// binary or marked, whether the search is checked, whether it is reported how far it is, or nothing is, whether it is counted
+// and timed, whether a model is not to be printed, or in short lines, whether the formula is simplified, a limit of steps, and
+// the size of the solver's heap.
 #[derive(Clone, Copy)]
 pub struct SolveWords<'a> {
     cnf: Option<&'a str>,
     pub proof: Option<&'a str>,
+    pub output: Option<&'a str>,
     takes_proof: bool,
     is_binary: bool,
     is_marked: bool,
     is_checked: bool,
     is_shown: bool,
     is_quiet: bool,
+    pub is_counted: bool,
     hides_model: bool,
+    is_wrapped: bool,
     simplification: Option<Simplification>,
     max_steps: Option<u64>,
     pub heap: Option<usize>,
@@ -141,13 +147,16 @@ impl<'a> SolveWords<'a> {
         SolveWords {
             cnf,
             proof: None,
+            output: None,
             takes_proof,
             is_binary: false,
             is_marked: false,
             is_checked: false,
             is_shown: false,
             is_quiet: false,
+            is_counted: false,
             hides_model: false,
+            is_wrapped: false,
             simplification: None,
             max_steps: None,
             heap: None,
@@ -204,6 +213,8 @@ impl<'a> SolveWords<'a> {
             "--progress" if !self.is_shown => self.is_shown = true,
             "-q" if !self.is_quiet => self.is_quiet = true,
             "-n" if !self.hides_model => self.hides_model = true,
+            "-v" | "--statistics" if !self.is_counted => self.is_counted = true,
+            "--wrap" if !self.is_wrapped => self.is_wrapped = true,
             "--simplify" if self.simplification.is_none() => {
                 self.simplification = Some(Simplification::Always);
             }
@@ -222,6 +233,7 @@ impl<'a> SolveWords<'a> {
     fn set(&mut self, option: &'a str, value: &'a str) -> Result<(), Mistake<'a>> {
         match option {
             "--proof" if self.proof.is_none() => self.proof = Some(value),
+            "--output" if self.output.is_none() => self.output = Some(value),
             "--max-steps" if self.max_steps.is_none() => match parse_amount(value, COUNTS) {
                 Some(steps) => self.max_steps = Some(steps),
                 None => return Err(Mistake::WrongValue(option, value)),
@@ -244,7 +256,7 @@ impl<'a> SolveWords<'a> {
         if (self.is_binary || self.is_marked) && self.proof.is_none() {
             return Err(Mistake::NoValue("--proof"));
         }
-        if self.is_quiet && self.is_shown {
+        if self.is_quiet && (self.is_shown || self.is_counted) {
             return Err(Mistake::Excluded("-q"));
         }
         Ok(())
@@ -268,8 +280,23 @@ impl<'a> SolveWords<'a> {
                 format: proof_format(self.is_binary, self.is_marked),
             },
             simplification: self.simplification.unwrap_or(Simplification::IfLong),
-            shows_model: !self.hides_model,
+            counts: self.is_counted,
+            model_lines: model_lines(self.hides_model, self.is_wrapped),
         }
+    }
+}
+
+// How a model is printed: no line tells it where it is hidden.
+fn model_lines(is_hidden: bool, is_wrapped: bool) -> ModelLines
+    ensures { MatchBool is_hidden (result ≡ ModelLines.Hidden)
+        (MatchBool is_wrapped (result ≡ ModelLines.Wrapped) (result ≡ ModelLines.One)) }
+{
+    if is_hidden {
+        ModelLines::Hidden
+    } else if is_wrapped {
+        ModelLines::Wrapped
+    } else {
+        ModelLines::One
     }
 }
 
@@ -303,26 +330,37 @@ fn proof_format(is_binary: bool, is_marked: bool) -> ProofFormat
 // The option by which `check` takes lines of solvers that simplify.
 const DRAT_OPTION: &str = "--drat";
 
-// The options of `check`.
-const CHECK_FLAGS: [&str; 3] = ["--drat", "--binary", "--marked"];
+// The option that gives `check` a heap of a size that follows.
+const HEAP_OPTION: &str = "--heap";
 
-// What `check` is asked for: two files, how the proof is written, and whether its lines may be those of solvers that
-// simplify.
+// The options of `check`.
+const CHECK_OPTIONS: [&str; 4] = ["--drat", "--binary", "--marked", "--heap"];
+
+// What `check` is asked for: two files, how the proof is written, whether its lines may be those of solvers that simplify,
+// and the size of the checker's heap.
 #[derive(Clone, Copy)]
 pub struct CheckWords<'a> {
     pub cnf: &'a str,
     pub proof: &'a str,
+    // How many of both files are known.
+    files: u8,
     pub format: ProofFormat,
     pub is_drat: bool,
+    pub heap: Option<usize>,
 }
 
 // Reads the words behind `check`. The first two are the files, whatever they are called, if the others are options; else the
 // files are the words that are none. `--drat` may come first in either case.
 fn check_words(words: &[String]) -> Result<Asked<'_>, Mistake<'_>> {
-    match check_words_behind(words) {
-        Some(found) => Ok(Asked::Check(found)),
-        None => check_words_anywhere(words),
+    if let Some(found) = check_words_behind(words) {
+        return Ok(Asked::Check(found));
     }
+    let mut found = CheckWords::new(false);
+    found.read(words)?;
+    if found.files < 2 {
+        return Err(Mistake::NoFile("CNF or PROOF"));
+    }
+    Ok(Asked::Check(found))
 }
 
 // Reads words of which the first two are the files.
@@ -332,49 +370,85 @@ fn check_words_behind(words: &[String]) -> Option<CheckWords<'_>> {
     let operands = if is_first { behind } else { words };
     let (cnf, others) = operands.split_first()?;
     let (proof, options) = others.split_first()?;
-    let mut found = CheckWords::new(cnf.as_str(), proof.as_str(), is_first);
-    for option in options {
-        found.set(option.as_str()).ok()?;
-    }
+    let mut found = CheckWords::new(is_first);
+    found.take_file(cnf.as_str()).ok()?;
+    found.take_file(proof.as_str()).ok()?;
+    found.read(options).ok()?;
     Some(found)
 }
 
-// Reads words of which the files are those that are no options.
-fn check_words_anywhere(words: &[String]) -> Result<Asked<'_>, Mistake<'_>> {
-    let mut found = CheckWords::new("", "", false);
-    let mut count = 0u8;
-    for word in words {
-        let word = word.as_str();
-        if is_option(word) {
-            found.set(word)?;
-            continue;
-        }
-        match count {
-            0 => found.cnf = word,
-            1 => found.proof = word,
-            _ => return Err(Mistake::WordTooMany(word)),
-        }
-        count += 1;
-    }
-    if count == 2 {
-        Ok(Asked::Check(found))
-    } else {
-        Err(Mistake::NoFile("CNF or PROOF"))
-    }
-}
-
 impl<'a> CheckWords<'a> {
-    // The files, and no option but for one.
-    fn new(cnf: &'a str, proof: &'a str, is_drat: bool) -> CheckWords<'a> {
+    // No file, and no option but for one.
+    fn new(is_drat: bool) -> CheckWords<'a> {
         CheckWords {
-            cnf,
-            proof,
+            cnf: "",
+            proof: "",
+            files: 0,
             format: ProofFormat::Drat,
             is_drat,
+            heap: None,
         }
     }
 
-    // Takes an option.
+    // Takes files and options, in any order, each option at most once.
+    fn read(&mut self, words: &'a [String]) -> Result<(), Mistake<'a>> {
+        let mut has_value = true;
+        for word in words {
+            let word = word.as_str();
+            if !has_value {
+                self.set_heap(word)?;
+                has_value = true;
+            } else if word == HEAP_OPTION {
+                has_value = false;
+            } else {
+                self.take(word)?;
+            }
+        }
+        if has_value {
+            Ok(())
+        } else {
+            Err(Mistake::NoValue(HEAP_OPTION))
+        }
+    }
+
+    // Takes a word that is not the value of the one before it.
+    fn take(&mut self, word: &'a str) -> Result<(), Mistake<'a>> {
+        if let Some((name, value)) = word.split_once('=') {
+            if name == HEAP_OPTION {
+                return self.set_heap(value);
+            }
+        }
+        if is_option(word) {
+            self.set(word)
+        } else {
+            self.take_file(word)
+        }
+    }
+
+    // Takes a file, of which there are two.
+    fn take_file(&mut self, word: &'a str) -> Result<(), Mistake<'a>> {
+        match self.files {
+            0 => self.cnf = word,
+            1 => self.proof = word,
+            _ => return Err(Mistake::WordTooMany(word)),
+        }
+        self.files = if self.files == 0 { 1 } else { 2 };
+        Ok(())
+    }
+
+    // Takes the size of the heap.
+    fn set_heap(&mut self, value: &'a str) -> Result<(), Mistake<'a>> {
+        if self.heap.is_some() {
+            return Err(Mistake::Excluded(HEAP_OPTION));
+        }
+        match heap_size(value) {
+            Some(bytes) => self.heap = Some(bytes),
+            None => return Err(Mistake::WrongValue(HEAP_OPTION, value)),
+        }
+        Ok(())
+    }
+
+    // Takes an option that stands alone.
     fn set(&mut self, option: &'a str) -> Result<(), Mistake<'a>> {
         match option {
             DRAT_OPTION if !self.is_drat && self.format != ProofFormat::Marked => {
@@ -386,8 +460,8 @@ impl<'a> CheckWords<'a> {
             "--marked" if self.format == ProofFormat::Drat && !self.is_drat => {
                 self.format = ProofFormat::Marked;
             }
-            _ if is_among(option, &CHECK_FLAGS) => return Err(Mistake::Excluded(option)),
-            _ => return Err(Mistake::NoSuchOption(option, nearest(option, &CHECK_FLAGS))),
+            _ if is_among(option, &CHECK_OPTIONS) => return Err(Mistake::Excluded(option)),
+            _ => return Err(Mistake::NoSuchOption(option, nearest(option, &CHECK_OPTIONS))),
         }
         Ok(())
     }

@@ -5,3 +5,4 @@ pub mod ExtendedModels
 pub mod DecidedBehind
 pub mod SimplifiedTexts
 mod ShownTexts
+mod WrappedTexts

@@ -11,11 +11,12 @@ ghost use Rattle.varisat_solve.specs.promises.Solving.{AreLow, Concluded, line_r
 
 use crate::lines::write_history;
 use crate::models::{extend_model, named_count};
-use crate::options::{ProgramOptions, is_simplified, may_simplify};
+use crate::options::{ProgramOptions, is_parsed_first, is_simplified};
+use crate::watch::Watch;
 use std::alloc::Allocator;
-use std::io::{self, Write};
+use std::io::Write;
 use std::mem::forget;
-use std::time::{Clock, Instant};
+use std::time::Clock;
 use varisat::CnfFormula;
 use varisat::deciding::{
     Report, SolveOptions, close, decide_text, find_report, new_solver, prepare,
@@ -28,13 +29,14 @@ use varisat_simplify::clauses::ClauseList;
 use varisat_simplify::history::History;
 use varisat_simplify::simplify::{Simplified, simplify};
 
-/// Decides a DIMACS CNF text. Its formula may be simplified before it is searched: the options say which formulas are.
+/// Decides a DIMACS CNF text. Its formula may be simplified before it is searched: the options say which formulas are. Where
+/// the work is to be counted and timed the formula is read before the solver takes it.
 pub fn decide<W: ProofTarget, A: Allocator + Copy, S: ByteSource, E: Write, C: Clock>(
     alloc: A,
     cnf: &mut S,
     target: &mut Option<W>,
     options: ProgramOptions,
-    clock: &C,
+    watch: &Watch<'_, C>,
     err: &mut E,
 ) -> Result<Report<A>, SolverError>
     requires faults { (S.input cnf.old).faults < 2 ^ 64 - 1 }
@@ -48,17 +50,19 @@ pub fn decide<W: ProofTarget, A: Allocator + Copy, S: ByteSource, E: Write, C: C
     ensures fails { IfErr result
         (λ error. FailsFirst W.taken options target.old (S.input cnf.old) (S.input cnf.new) error) }
 {
-    if !may_simplify(options) {
+    if !is_parsed_first(options) {
         return decide_text(alloc, cnf, target, options.search, err);
     }
+    let start = watch.start();
     let formula = match DimacsParser::parse(alloc, cnf) {
         Ok(formula) => formula,
         Err(fault) => return Err(SolverError::from_text(fault)),
     };
+    watch.tell(err, "read_milliseconds", start);
     if is_simplified(options, &formula) {
-        decide_simplified(alloc, formula, target, options.search, clock, err)
+        decide_simplified(alloc, formula, target, options.search, watch, err)
     } else {
-        decide_formula(alloc, formula, target, options.search, err)
+        decide_formula(alloc, formula, target, options.search, watch, err)
     }
 }
 
@@ -79,7 +83,7 @@ fn decide_simplified<W: ProofTarget, A: Allocator + Copy, E: Write, C: Clock>(
     formula: CnfFormula<A>,
     target: &mut Option<W>,
     options: SolveOptions,
-    clock: &C,
+    watch: &Watch<'_, C>,
     err: &mut E,
 ) -> Result<Report<A>, SolverError>
     requires room { CanCountFault W.taken target.old }
@@ -94,14 +98,14 @@ fn decide_simplified<W: ProofTarget, A: Allocator + Copy, E: Write, C: Clock>(
     ensures fails { IfErr result (λ error. FailsSimplified W.taken options target.old formula error) }
 {
     let count = named_count(&formula);
-    let made = simplify_reporting(alloc, formula, options.progress.is_some(), clock, err)?;
+    let made = simplify_reporting(alloc, formula, options.progress.is_some(), watch, err)?;
     let Simplified {
         formula,
         stack,
         history,
     } = made;
     write_lead(alloc, history, target, options.format)?;
-    let report = decide_formula(alloc, formula, target, options, err)?;
+    let report = decide_formula(alloc, formula, target, options, watch, err)?;
     let report = extend_report(alloc, &stack, report, count)?;
     Ok(report)
 }
@@ -111,40 +115,25 @@ fn simplify_reporting<A: Allocator + Copy, E: Write, C: Clock>(
     alloc: A,
     formula: CnfFormula<A>,
     is_reported: bool,
-    clock: &C,
+    watch: &Watch<'_, C>,
     err: &mut E,
 ) -> Result<Simplified<A>, SolverError>
     ensures made { IfOk result (λ s. IsMadeOf formula s.formula s.stack s.history.lines) }
     ensures memory { IfErr result (λ error. error ≡ SolverError.OutOfMemory) }
 {
     let clauses = formula.len();
-    let start = Instant::now(clock);
+    let start = watch.start();
     match simplify(alloc, formula, &[]) {
         Ok(made) => {
             let left = made.formula.len();
+            let milliseconds = watch.milliseconds_since(start);
             if is_reported {
-                print_simplified(
-                    err,
-                    clauses,
-                    left,
-                    made.stack.len(),
-                    milliseconds_since(start, clock),
-                );
+                print_simplified(err, clauses, left, made.stack.len(), milliseconds);
             }
+            watch.tell_milliseconds(err, "simplify_milliseconds", milliseconds);
             Ok(made)
         }
         Err(_) => Err(SolverError::OutOfMemory),
-    }
-}
-
-/// How many milliseconds there were since the moment; 0 where the clock fails.
-fn milliseconds_since<C: Clock>(start: io::Result<Instant>, clock: &C) -> u128 {
-    match start {
-        Ok(start) => match start.elapsed(clock) {
-            Ok(time) => time.as_millis(),
-            Err(_) => 0,
-        },
-        Err(_) => 0,
     }
 }
 
@@ -196,11 +185,12 @@ fn prove_few<A: Allocator + Copy>(formula: &CnfFormula<A>)
 }
 
 /// Decides a formula as it is, by a new solver. If all went well the solver's memory is kept, as by `decide_text`.
-fn decide_formula<W: ProofTarget, A: Allocator + Copy, E: Write>(
+fn decide_formula<W: ProofTarget, A: Allocator + Copy, E: Write, C: Clock>(
     alloc: A,
     formula: CnfFormula<A>,
     target: &mut Option<W>,
     options: SolveOptions,
+    watch: &Watch<'_, C>,
     err: &mut E,
 ) -> Result<Report<A>, SolverError>
     requires room { CanCountFault W.taken target.old }
@@ -220,7 +210,7 @@ fn decide_formula<W: ProofTarget, A: Allocator + Copy, E: Write>(
 {
     prove_few(&formula);
     let mut solver: Solver<W, A> = new_solver(alloc, options.check);
-    let report = decide_in(&mut solver, formula, target, options, err);
+    let report = decide_in(&mut solver, formula, target, options, watch, err);
     match report {
         Ok(report) => {
             forget(solver);
@@ -234,11 +224,12 @@ fn decide_formula<W: ProofTarget, A: Allocator + Copy, E: Write>(
 }
 
 /// Decides a formula by the solver, which is new, and inside which a checker runs if the options ask for one.
-fn decide_in<W: ProofTarget, A: Allocator + Copy, E: Write>(
+fn decide_in<W: ProofTarget, A: Allocator + Copy, E: Write, C: Clock>(
     solver: &mut Solver<W, A>,
     formula: CnfFormula<A>,
     target: &mut Option<W>,
     options: SolveOptions,
+    watch: &Watch<'_, C>,
     err: &mut E,
 ) -> Result<Report<A>, SolverError>
     requires new { Represents solver.old (new_state options.check) }
@@ -262,8 +253,13 @@ fn decide_in<W: ProofTarget, A: Allocator + Copy, E: Write>(
     prepare(solver, target.take(), options);
     solver.add_formula(&formula)?;
     drop(formula);
+    let search_start = watch.start();
     let report = find_report(solver, options.progress, err)?;
+    watch.tell(err, "search_milliseconds", search_start);
+    watch.tell_counts(err, solver.steps(), &solver.statistics());
+    let proof_start = watch.start();
     let back = close(solver)?;
+    watch.tell(err, "proof_milliseconds", proof_start);
     *target = back;
     Ok(report)
 }

@@ -6,3 +6,5 @@ pub mod lines;
 pub mod models;
 pub mod options;
 pub mod program;
+pub mod watch;
+pub mod wrapping;

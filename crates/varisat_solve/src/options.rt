@@ -1,5 +1,5 @@
 //! What the program's `solve` is asked for, and which formulas it simplifies before it searches.
-ghost use Rattle.std.specs.Prelude.{◌≡◌, nat_le};
+ghost use Rattle.std.specs.Prelude.{◌≡◌, nat_le, false};
 ghost use Rattle.varisat_simplify.specs.promises.Simplified.{literal_count};
 ghost use Rattle.varisat_solve.specs.promises.Solving.{is_simplified, may_simplify};
 
@@ -22,6 +22,17 @@ pub enum Simplification {
     IfLong,
 }
 
+/// How a model that is found is printed.
+#[derive(Clone, Copy, Debug)]
+pub enum ModelLines {
+    /// On one line `v`.
+    One,
+    /// On lines `v` of at most 78 characters.
+    Wrapped,
+    /// Not at all.
+    Hidden,
+}
+
 /// What the program's `solve` is asked for.
 #[derive(Clone, Copy, Debug)]
 pub struct ProgramOptions {
@@ -29,8 +40,10 @@ pub struct ProgramOptions {
     pub search: SolveOptions,
     /// Which formulas are simplified before they are searched. If the proof is marked text, none is.
     pub simplification: Simplification,
-    /// Whether a model that is found is printed.
-    pub shows_model: bool,
+    /// Whether it is reported what was counted, and how long each part of the work took.
+    pub counts: bool,
+    /// How a model that is found is printed.
+    pub model_lines: ModelLines,
 }
 
 /// Whether these options let any formula be simplified: they do not ask for none, and not for a proof as marked text.
@@ -43,6 +56,17 @@ pub fn may_simplify(options: ProgramOptions) -> bool
             !matches!(options.search.format, ProofFormat::Marked)
         }
     }
+}
+
+/// Whether the formula is read from the text before a solver takes it: where it may be simplified, and where that is timed.
+/// Elsewhere a solver takes the text, and the formula is nowhere else.
+pub fn is_parsed_first(options: ProgramOptions) -> bool
+    ensures { result ≡ false → may_simplify options ≡ false }
+{
+    if options.counts {
+        return true;
+    }
+    may_simplify(options)
 }
 
 /// Whether the formula is simplified before it is searched.

@@ -1,5 +1,5 @@
 //! What `solve` prints, and its status.
-ghost use Rattle.std.specs.Prelude.{◌≡◌, ◌-◌, ◌^◌, ◌<◌, false};
+ghost use Rattle.std.specs.Prelude.{◌≡◌, ◌-◌, ◌^◌, ◌<◌};
 ghost use Rattle.varisat_formula.specs.promises.Written.{Puts};
 ghost use Rattle.varisat.specs.promises.Decided.{StatusIsTrue, concluded};
 ghost use Rattle.varisat.specs.promises.Proven.{CanCountFault};
@@ -7,7 +7,9 @@ ghost use Rattle.varisat_proof.specs.promises.Verified.{fault_status};
 ghost use Rattle.varisat_solve.specs.promises.Solving.{SolvesFirst, shown_text};
 
 use crate::deciding::decide;
-pub use crate::options::{ProgramOptions, Simplification};
+pub use crate::options::{ModelLines, ProgramOptions, Simplification};
+use crate::watch::Watch;
+use crate::wrapping::print_wrapped;
 use std::alloc::Allocator;
 use std::io::{self, Write};
 use std::time::Clock;
@@ -22,8 +24,9 @@ use varisat_proof::program::print_text;
 /// simplified before it is searched: `options.simplification` says which formulas are. A model is one of the text's formula,
 /// and a proof one from the text's clauses. A proof as marked text gives each clause of the text, and so no formula is
 /// simplified then. A formula that is not simplified is searched as `varisat::program::solve_lines` searches it, with the
-/// same steps, model and proof. With `progress` it is reported on `err` what simplifying left, and how long it took. Without
-/// `shows_model` no line `v` is printed. A fault of the text, which is in the file of this name, is told in words too.
+/// same steps, model and proof. With `progress` it is reported on `err` what simplifying left, and how long it took; with
+/// `counts`, what was counted, and how many milliseconds reading, simplifying, the search and the end of the proof took.
+/// `model_lines` says how a model is printed. A fault of the text, which is in the file of this name, is told in words too.
 pub fn solve_lines<
     A: Allocator + Copy,
     S: ByteSource,
@@ -51,8 +54,9 @@ pub fn solve_lines<
         (T.taken out.old) (T.taken out.new) result }
     ensures truth { StatusIsTrue (S.input cnf.old) (S.input cnf.new) result }
 {
-    match decide(alloc, cnf, proof, options, clock, err) {
-        Ok(report) => match print_shown(out, &report, options.shows_model) {
+    let watch = Watch::new(clock, options.counts);
+    match decide(alloc, cnf, proof, options, &watch, err) {
+        Ok(report) => match print_shown(out, &report, options.model_lines) {
             Ok(()) => status_of(&report),
             Err(error) => print_fault(err, &error),
         },
@@ -60,19 +64,19 @@ pub fn solve_lines<
     }
 }
 
-/// Prints what a text was found to be, and a model only if it is to be shown.
+/// Prints what a text was found to be, and a model as it is to be printed.
 fn print_shown<T: ProofTarget, A: Allocator + Copy>(
     out: &mut T,
     report: &Report<A>,
-    shows_model: bool,
+    model_lines: ModelLines,
 ) -> io::Result<()>
     requires { (T.taken out.old).faults < 2 ^ 64 - 1 }
-    ensures { Puts (T.taken out.old) result (shown_text shows_model (concluded report.now)) (T.taken out.new) }
+    ensures { Puts (T.taken out.old) result (shown_text model_lines (concluded report.now)) (T.taken out.new) }
 {
-    if shows_model {
-        print_report(out, report)
-    } else {
-        print_verdict(out, report)
+    match model_lines {
+        ModelLines::One => print_report(out, report),
+        ModelLines::Wrapped => print_wrapped(out, report),
+        ModelLines::Hidden => print_verdict(out, report),
     }
 }
 
@@ -82,7 +86,7 @@ fn print_verdict<T: ProofTarget, A: Allocator + Copy>(
     report: &Report<A>,
 ) -> io::Result<()>
     requires { (T.taken out.old).faults < 2 ^ 64 - 1 }
-    ensures { Puts (T.taken out.old) result (shown_text false (concluded report.now)) (T.taken out.new) }
+    ensures { Puts (T.taken out.old) result (shown_text ModelLines.Hidden (concluded report.now)) (T.taken out.new) }
 {
     if status_of(report) == STATUS_SATISFIABLE {
         print_text(out, b"s SATISFIABLE\n")

@@ -9,7 +9,7 @@ use Rattle.varisat_formula.specs.promises.Streams.{Input}
 use Rattle.varisat_formula.specs.promises.Parsed.{GivesReading}
 use Rattle.varisat_formula.specs.promises.TakenTexts.{GivesFirst}
 use Rattle.varisat_solver.specs.promises.Names.{Naming, Sample, Witness, no_names, name_one, name_all, through_names, set_mode, free_name, IsLeastFree, AreShown}
-use Rattle.varisat_solver.specs.promises.Models.{IsCompletable, AreNamesInUse}
+use Rattle.varisat_solver.specs.promises.Models.{IsCompletable, AreNamesInUse, IsEntailed}
 use Rattle.varisat_solver.specs.promises.ReturnedLists.{returned_list}
 use Rattle.varisat_solver.specs.declared.solver.SolverError.{SolverError}
 use Rattle.varisat_solver.specs.declared.solver.SolverError.TheVariants.{OutOfMemory, Invalid, ClauseStoreFull, ProofIoError, Dimacs}
@@ -164,11 +164,15 @@ IsAnswered seen s (call.HideVar u) (answer.HideVar r) t =
     Outcome (λ _ x. x ≡ with_names (free_name u (name_one u s.naming)) s) s r t
 IsAnswered seen s call.ObserveInternalVars (answer.ObserveInternalVars r) t =
     Outcome (λ us x. (m : Naming) × AreShown us.items s.naming m × (x ≡ with_names m s)) s r t
+IsAnswered seen s (call.SetPhase l) (answer.SetPhase r) t = Outcome (λ _ x. x ≡ s) s r t
+IsAnswered seen s (call.UnsetPhase u) answer.UnsetPhase t = t ≡ s
 IsAnswered seen s (call.Config u) (answer.Config r) t = Outcome (λ _ x. x ≡ s) s r t
 IsAnswered seen s (call.SetMaxSteps n) answer.SetMaxSteps t = t ≡ s
 IsAnswered seen s call.Steps (answer.Steps n) t = t ≡ s
 IsAnswered seen s call.StepsSinceChange (answer.StepsSinceChange n) t = t ≡ s
 IsAnswered seen s call.IsValid (answer.IsValid b) t = (b ≡ s.valid) × (t ≡ s)
+IsAnswered seen s (call.IsFixed l) (answer.IsFixed b) t =
+    (b ≡ true → (s.valid ≡ true) × IsEntailed s.naming s.clauses l) × (t ≡ s)
 IsAnswered seen s (call.WriteProof target format) (answer.WriteProof (Ok _)) t = (s.valid ≡ true) × (t ≡ s)
 IsAnswered seen s (call.WriteProof target format) (answer.WriteProof (Err (e, back))) t = IsRefused s e t
 IsAnswered seen s call.CloseProof (answer.CloseProof (Ok back)) t = t ≡ s

@@ -3,7 +3,7 @@ use Rattle.std.specs.Prelude.{◌≡◌, List, [], ◌∷◌}
 use Rattle.varisat_formula.specs.promises.Streams.{Input, Taken}
 use Rattle.varisat_solver.specs.promises.States.{Known}
 use Rattle.varisat_solver.specs.promises.Names.{Sample, Witness}
-use Rattle.varisat_solver.specs.promises.Calls.{Verdicts, TakesOne, TakesList, MakesVar, Solves, ReturnsList, Configures, with_max_steps, ReturnsSteps, ReturnsSince, ReturnsValid}
+use Rattle.varisat_solver.specs.promises.Calls.{Verdicts, TakesOne, TakesList, MakesVar, Solves, ReturnsList, Configures, with_max_steps, ReturnsSteps, ReturnsSince, ReturnsValid, ReturnsFixed, SetsPhase}
 use Rattle.varisat_solver.specs.promises.ProofCalls.{OpensProof, EnablesChecking, Closes}
 use Rattle.varisat_solver.specs.promises.Additions.{AddsList, AddsText}
 use Rattle.varisat_solver.specs.promises.Usage.{SetsMode, HidesVar, Observes}
@@ -27,6 +27,8 @@ module _ {V : Type 0} (by : Verdicts V) where
   Makes seen taken s (call.WitnessVar u) (answer.WitnessVar r) t = SetsMode Witness s u r t
   Makes seen taken s (call.HideVar u) (answer.HideVar r) t = HidesVar s u r t
   Makes seen taken s call.ObserveInternalVars (answer.ObserveInternalVars r) t = Observes s (returned_variables r) t
+  Makes seen taken s (call.SetPhase l) (answer.SetPhase r) t = SetsPhase s l r t
+  Makes seen taken s (call.UnsetPhase u) answer.UnsetPhase t = t ≡ s
   Makes seen taken s (call.Assume list) (answer.Assume r) t = TakesList by s list.items r t
   Makes seen taken s call.Solve (answer.Solve r) t = Solves by s r t
   Makes seen taken s call.Model (answer.Model r) t = ReturnsList (by.model s) s (returned_list r) t
@@ -36,6 +38,7 @@ module _ {V : Type 0} (by : Verdicts V) where
   Makes seen taken s call.Steps (answer.Steps n) t = ReturnsSteps s n t
   Makes seen taken s call.StepsSinceChange (answer.StepsSinceChange n) t = ReturnsSince s n t
   Makes seen taken s call.IsValid (answer.IsValid b) t = ReturnsValid s b t
+  Makes seen taken s (call.IsFixed l) (answer.IsFixed b) t = ReturnsFixed s l b t
   Makes seen taken s (call.WriteProof target format) (answer.WriteProof r) t = OpensProof taken target format s r t
   Makes seen taken s call.CloseProof (answer.CloseProof r) t = Closes by taken s r t
   Makes seen taken s call.EnableSelfChecking (answer.EnableSelfChecking r) t = EnablesChecking s r t

@@ -27,7 +27,10 @@ use Rattle.varisat_solver.specs.declared.solver.SolverError.TheVariants.{Interru
 use Rattle.varisat_solve.specs.declared.options.ProgramOptions.{ProgramOptions}
 use Rattle.varisat_solve.specs.declared.options.Simplification.{Simplification}
 use Rattle.varisat_solve.specs.declared.options.Simplification.TheVariants.{Always, Never, IfLong}
+use Rattle.varisat_solve.specs.declared.options.ModelLines.{ModelLines}
+use Rattle.varisat_solve.specs.declared.options.ModelLines.TheVariants as shown
 use Rattle.varisat_solve.specs.promises.Extending.{named_count, conclusion_of_all}
+use Rattle.varisat_solve.specs.promises.Wrapping.{wrapped_model_text}
 
 -- 1. Which formulas are simplified.
 
@@ -162,23 +165,26 @@ pub data FailsFirst {W : Type 0} (taken : W → Taken) (o : ProgramOptions) (tar
       FailsSimplified taken o.search target f e →
       FailsFirst taken o target old new e
 
--- what is printed for a conclusion: of a model that is not to be shown only that there is one
-abbrev pub shown_text : Bool → Conclusion → List ℕ
-shown_text true conclusion = conclusion_text conclusion
-shown_text false (Decided None) = conclusion_text (Decided None)
-shown_text false (Decided (Some model)) = codes "s SATISFIABLE\n"
-shown_text false (Unknown reason) = conclusion_text (Unknown reason)
+-- what is printed for a conclusion: a model on one line, or on lines of a bounded length, or only that there is one
+abbrev pub shown_text : ModelLines → Conclusion → List ℕ
+shown_text shown.One conclusion = conclusion_text conclusion
+shown_text shown.Wrapped (Decided None) = conclusion_text (Decided None)
+shown_text shown.Wrapped (Decided (Some model)) = wrapped_model_text model
+shown_text shown.Wrapped (Unknown reason) = conclusion_text (Unknown reason)
+shown_text shown.Hidden (Decided None) = conclusion_text (Decided None)
+shown_text shown.Hidden (Decided (Some model)) = codes "s SATISFIABLE\n"
+shown_text shown.Hidden (Unknown reason) = conclusion_text (Unknown reason)
 
 -- the conclusion is printed with its status, or a beginning of it where a call of the target fails
-abbrev pub Shows : Bool → Conclusion → ℕ → Taken → Taken → Type 0
-Shows shows_model conclusion status before printed =
-    EndsPrinting (conclusion_status conclusion) (shown_text shows_model conclusion) status before printed
+abbrev pub Shows : ModelLines → Conclusion → ℕ → Taken → Taken → Type 0
+Shows model_lines conclusion status before printed =
+    EndsPrinting (conclusion_status conclusion) (shown_text model_lines conclusion) status before printed
 
 -- What the program's `solve` does: deciding fails, nothing is printed, and the status is that of a fault; or the text is searched as the
--- options ask, with a proof from its own clauses, and the conclusion is one for these, and is printed, with a model if that is to be shown.
+-- options ask, with a proof from its own clauses, and the conclusion is one for these, and is printed, with a model as the options ask.
 abbrev pub SolvesFirst : {W : Type 0} → (W → Taken) → ProgramOptions → Input → Input → Option W → Option W → Taken →
     Taken → ℕ → Type 0
 SolvesFirst taken o old new target back before printed status =
     ((error : SolverError) × FailsFirst taken o target old new error × (status ≡ fault_status) × (printed ≡ before))
     ⊎ ((conclusion : Conclusion) × DecidesBy taken o.search old new target back conclusion
-    × SearchesFirst taken o target old new conclusion × Shows o.shows_model conclusion status before printed)
+    × SearchesFirst taken o target old new conclusion × Shows o.model_lines conclusion status before printed)

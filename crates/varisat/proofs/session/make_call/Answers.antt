@@ -31,6 +31,12 @@ returns-in-HideVar g c s st = rw c.in-HideVar.is (c.hide_var.ensures s st)
 pub returns-in-ObserveInternalVars : goal.returns-in-ObserveInternalVars
 returns-in-ObserveInternalVars g c s st = rw c.in-ObserveInternalVars.is (c.observe_internal_vars.ensures s st)
 
+pub returns-in-SetPhase : goal.returns-in-SetPhase
+returns-in-SetPhase g c s st = rw c.in-SetPhase.is (c.set_phase.ensures s st)
+
+pub returns-in-UnsetPhase : goal.returns-in-UnsetPhase
+returns-in-UnsetPhase g c s st = rw (c.in-UnsetPhase.is, c.unset_phase.ensures) (s, refl, st)
+
 pub returns-in-Assume : goal.returns-in-Assume
 returns-in-Assume g c s st =
     let (t, a, w) = c.assume.ensures.call s st in
@@ -57,6 +63,9 @@ returns-in-Steps g c s st = rw c.in-Steps.is (c.steps.ensures s st)
 
 pub returns-in-IsValid : goal.returns-in-IsValid
 returns-in-IsValid g c s st = rw c.in-IsValid.is (c.is_valid.ensures.call s st)
+
+pub returns-in-IsFixed : goal.returns-in-IsFixed
+returns-in-IsFixed g c s st = rw c.in-IsFixed.is (c.is_fixed.ensures.call s st)
 
 pub write_proof-requires : goal.write_proof-requires
 write_proof-requires g c = rw c.in-WriteProof.is at c.requires

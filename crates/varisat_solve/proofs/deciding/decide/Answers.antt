@@ -15,15 +15,15 @@ by-ok : {X E : Type 0} (r : Result X E) (P Q : X → Type 0) → ((x : X) → P 
 by-ok (Ok x) P Q f p = f x p
 by-ok (Err e) P Q f p = tt
 
-pub returns-then-not-may_simplify-clause-searched : goal.returns-then-not-may_simplify-clause-searched
-returns-then-not-may_simplify-clause-searched g c =
+pub returns-then-not-is_parsed_first-clause-searched : goal.returns-then-not-is_parsed_first-clause-searched
+returns-then-not-is_parsed_first-clause-searched g c =
     by-ok c.decide_text.result _ _
-    (λ r s. SearchesAsIs (never-simplified c.args.options _ _ (sym c.may_simplify.ensures ∙ c.if-not-may_simplify.true)) s) c.decide_text.ensures.searched
+    (λ r s. SearchesAsIs (never-simplified c.args.options _ _ (c.is_parsed_first.ensures c.if-not-is_parsed_first.true)) s) c.decide_text.ensures.searched
 
-pub returns-then-not-may_simplify-clause-fails : goal.returns-then-not-may_simplify-clause-fails
-returns-then-not-may_simplify-clause-fails g c =
+pub returns-then-not-is_parsed_first-clause-fails : goal.returns-then-not-is_parsed_first-clause-fails
+returns-then-not-is_parsed_first-clause-fails g c =
     by-error c.decide_text.result _ _
-    (λ e f. FailsAsIs (never-simplified c.args.options _ _ (sym c.may_simplify.ensures ∙ c.if-not-may_simplify.true)) f) c.decide_text.ensures.fails
+    (λ e f. FailsAsIs (never-simplified c.args.options _ _ (c.is_parsed_first.ensures c.if-not-is_parsed_first.true)) f) c.decide_text.ensures.fails
 
 pub returns-in-Err-clause-fails : goal.returns-in-Err-clause-fails
 returns-in-Err-clause-fails g c = FailsParsing c.in-Err.fault c.in-Err.ensures c.from_text.ensures

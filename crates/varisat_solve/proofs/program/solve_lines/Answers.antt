@@ -16,7 +16,7 @@ returns-in-Ok-print_shown-clause-outcome g c =
       found,
       c.in-Ok.ensures.decided,
       c.in-Ok.ensures.searched,
-      ends-printed (conclusion_status found) (shown_text c.args.options.shows_model found) (shown_text c.args.options.shows_model found) _ _ _ refl
+      ends-printed (conclusion_status found) (shown_text c.args.options.model_lines found) (shown_text c.args.options.model_lines found) _ _ _ refl
           c.status_of.ensures c.in-Ok-print_shown.ensures,
     )
 

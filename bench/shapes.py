@@ -26,6 +26,10 @@ LEAST_MEMORY = 100
 FAR = ("far", "far-many", "names")
 FAR_VARIABLE = 20
 BYTES_A_NAME = 6
+# What of ours decides the formulas.
+WAYS = ("solve", "library", "maxsat")
+# How maxsat ends with an optimum. All clauses are hard, so it finds one just if there is a model.
+OPTIMUM = 30
 
 
 def random_clauses(variables, count, length, seed=1):
@@ -383,6 +387,8 @@ def add_arguments(command):
     command.add_argument("--alone", action="store_true", help="without the other solvers")
     command.add_argument("--check", action="store_true", help="check each proof by our checker, and each model")
     command.add_argument("--option", action="append", default=[], metavar="WORD", help="an option of ours, as --no-simplify; may be given again")
+    command.add_argument("--by", choices=WAYS, default="solve", help="what of ours decides the formula: solve, the library for C, which prints the model or checks its proof, or maxsat; only growth and the limit are then goals")
+    command.add_argument("--library", metavar="FILE", help="the library for --by library (out/c/libvarisat.a)")
 
 
 def peers():
@@ -392,6 +398,28 @@ def peers():
 
 def write(path, clauses):
     formulas.write_clauses(path, max((abs(literal) for clause in clauses for literal in clause), default=0), len(clauses), clauses)
+
+
+def write_hard(path, clauses):
+    """A WCNF text of the clauses, all hard, and a soft one."""
+    with open(path, "w", encoding="utf-8") as file:
+        file.writelines(f"h {' '.join(map(str, clause))} 0\n" for clause in clauses)
+        file.write("1 1 0\n")
+
+
+def deciding(arguments, folder):
+    """Our program that decides the formulas."""
+    options = tuple(arguments.option)
+    if arguments.by == "solve":
+        programs.take_ours(arguments.program)
+        return programs.Program("varisat", [programs.PROGRAM, "solve"], options=options)
+    if arguments.by == "maxsat":
+        return programs.Program("maxsat", [arguments.program or f"{programs.ROOT}/maxsat"], options=options)
+    program = os.path.join(folder, "decide")
+    words = ["gcc", "-O2", "-o", program, f"{programs.ROOT}/contrib/c/tests/decide.c", arguments.library or f"{programs.ROOT}/out/c/libvarisat.a"]
+    if subprocess.run(words).returncode:
+        programs.stop("the program over the library was not built")
+    return programs.Program("library", [program], options=options)
 
 
 def weigh(program, path, limit, output=subprocess.DEVNULL):
@@ -430,8 +458,14 @@ def exponents(rows, index):
 def measure(make, size, folder, every, arguments, name):
     """For each program its status, seconds and MiB."""
     path = os.path.join(folder, "formula.cnf")
-    write(path, make(size))
-    found = [weigh(program, path, arguments.limit) for program in every]
+    clauses = make(size)
+    write(path, clauses)
+    found = [weigh(program, path, arguments.limit) for program in every[1:]]
+    if arguments.by == "maxsat":
+        path += ".wcnf"
+        write_hard(path, clauses)
+    status, *taken = weigh(every[0], path, arguments.limit)
+    found.insert(0, (programs.SATISFIABLE if status == OPTIMUM else status, *taken))
     statuses = {status for status, _, _ in found if status is not None}
     if not statuses <= {programs.SATISFIABLE, programs.UNSATISFIABLE} or len(statuses) > 1:
         programs.stop(f"{name}: the programs do not agree, or end as they should not: {statuses}")
@@ -444,11 +478,13 @@ def shortest(found, index):
     return min((one[index] for one in found[1:] if one[index] is not None), default=None)
 
 
-def missed(name, size, found):
+def missed(name, size, found, by):
     """What of the goals our run of the largest size misses, in words."""
     _, seconds, memory = found[0]
     if seconds is None:
         return ["limit"]
+    if by != "solve":
+        return []
     others = shortest(found, 1), shortest(found, 2)
     words = []
     if others[0] is not None and seconds > TIME_RATIO * others[0] + MORE_SECONDS:
@@ -472,7 +508,7 @@ def print_family(name, make, folder, every, arguments):
         rows.append(measure(make, times * arguments.size, folder, every, arguments, name))
         cells = "".join(f" {cell(seconds, 2)} {cell(memory, 0)}" for _, seconds, memory in rows[-1])
         print(f"{name:18} {times * arguments.size:>10,}{cells}", end="\n" if times != SIZES[-1] else "", flush=True)
-    words = missed(name, arguments.size * SIZES[-1], rows[-1])
+    words = missed(name, arguments.size * SIZES[-1], rows[-1], arguments.by)
     if all(row[0][1] is not None for row in rows):
         for index, least, title in ((1, LEAST_SECONDS, "time"), (2, LEAST_MEMORY, "memory")):
             ours = exponents(rows, index)[0]
@@ -485,12 +521,13 @@ def print_family(name, make, folder, every, arguments):
 
 def run(arguments):
     programs.check_tools("/usr/bin/time", *([] if arguments.alone else ["minisat", "cadical"]))
-    programs.take_ours(arguments.program)
-    every = [programs.Program("varisat", [programs.PROGRAM, "solve"], options=tuple(arguments.option)), *([] if arguments.alone else peers())]
-    print(programs.machine())
-    print(f"seconds of the processor, at most {arguments.limit}, and MiB; then the exponents of ours, and the goals that are missed\n")
-    print(f"{'family':18} {'literals':>10}" + "".join(f" {program.name[:13]:>13}, s" + " " * 2 for program in every))
+    if arguments.check and arguments.by != "solve":
+        programs.stop("--check goes with --by solve alone")
     with tempfile.TemporaryDirectory() as folder:
+        every = [deciding(arguments, folder), *([] if arguments.alone else peers())]
+        print(programs.machine())
+        print(f"seconds of the processor, at most {arguments.limit}, and MiB; then the exponents of ours, and the goals that are missed\n")
+        print(f"{'family':18} {'literals':>10}" + "".join(f" {program.name[:13]:>13}, s" + " " * 2 for program in every))
         found = {name: print_family(name, FAMILIES[name], folder, every, arguments) for name in arguments.only or FAMILIES}
     bad = {name: words for name, words in found.items() if words}
     print(f"\n{len(found)} families, {len(bad)} of which miss a goal" + "".join(f"; {name}: {', '.join(words)}" for name, words in bad.items()))

@@ -55,6 +55,8 @@ void client_freeze(struct handle *, int32_t number);
 void client_melt(struct handle *, int32_t number);
 uint64_t client_eliminations(struct handle *, bool restored);
 void client_begin(struct handle *);
+/* Whether a part was done. */
+bool client_prepare(struct handle *);
 uint8_t client_search(struct handle *);
 int32_t client_value(struct handle *, int32_t number);
 bool client_has_failed(struct handle *, int32_t number);

@@ -13,16 +13,11 @@
 /* How many steps a search makes between two questions whether it is to end. */
 static const uint64_t steps_between = 1000;
 
-/* How many literals the clauses have at least that a new client simplifies. */
-static const uint64_t least_literals = 1000;
-
 struct client {
     struct handle handle;
     void *data;
     int (*terminate)(void *data);
     bool is_solving;
-    /* How many literals were given since the last search, and how many of them are simplified at least: none where this is 0. */
-    uint64_t literals, least;
     /* How long they were simplified and stored so far. */
     double milliseconds;
     /* Where a callback of varisat.h calls: what that call is charged to. */
@@ -47,11 +42,6 @@ const char *ipasir_signature(void) {
     return varisat_version();
 }
 
-static void simplify_from(struct client *client, uint32_t least) {
-    client_simplify_from(&client->handle, least);
-    client->least = least;
-}
-
 /* VARISAT_SIMPLIFY is how many literals a batch of clauses has at least that is simplified, or 0 to simplify none. Another text than
  * such a number changes nothing. */
 static void set_by_environment(struct client *client) {
@@ -61,7 +51,7 @@ static void set_by_environment(struct client *client) {
     char *end;
     unsigned long number = strtoul(text, &end, 10);
     if (*end == '\0' && number <= UINT32_MAX)
-        simplify_from(client, (uint32_t)number);
+        client_simplify_from(&client->handle, (uint32_t)number);
 }
 
 void *ipasir_init(void) {
@@ -69,7 +59,6 @@ void *ipasir_init(void) {
     if (!client)
         return NULL;
     bool is_open = client_open(&client->handle);
-    client->least = least_literals;
     if (is_open)
         set_by_environment(client);
     leave(client);
@@ -96,15 +85,7 @@ static void give(void *solver, void (*call)(struct handle *, int32_t), int32_t n
     leave(client);
 }
 
-void ipasir_add(void *solver, int32_t number) {
-    struct client *client = enter(solver);
-    if (!client)
-        return;
-    client_add(&client->handle, number);
-    client->literals += number != 0;
-    leave(client);
-}
-
+void ipasir_add(void *solver, int32_t number) { give(solver, client_add, number); }
 void ipasir_assume(void *solver, int32_t number) { give(solver, client_assume, number); }
 
 static double milliseconds(void) {
@@ -121,22 +102,30 @@ static bool is_to_end(struct client *client) {
     return client->terminate && client->terminate(client->data);
 }
 
-/* Has enough clauses simplified and stored by a search that may make no step, so that the callback can be asked before the next one. */
-static int simplify(struct client *client) {
+/* Has the clauses simplified in parts, if they are enough, and then stored by a search that may make no step. The callback is asked after
+ * each part, and once they are stored. Whether the search is to go on; `answer` is what it came to. */
+static bool prepare(struct client *client, int *answer) {
     double began = milliseconds();
-    client_limit_steps(&client->handle, 0);
-    int answer = client_search(&client->handle);
-    limit_steps(client);
-    client->milliseconds += milliseconds() - began;
-    return answer;
+    bool is_batch = false, is_ended = false;
+    while (!is_ended && client_prepare(&client->handle)) {
+        is_batch = true;
+        is_ended = is_to_end(client);
+    }
+    *answer = 0;
+    if (is_batch && !is_ended) {
+        client_limit_steps(&client->handle, 0);
+        *answer = client_search(&client->handle);
+        limit_steps(client);
+        is_ended = *answer != 0 || is_to_end(client);
+    }
+    client->milliseconds += is_batch ? milliseconds() - began : 0;
+    return !is_ended;
 }
 
 static int search(struct client *client) {
+    int answer;
     client_begin(&client->handle);
-    bool is_batch = client->least && client->literals >= client->least;
-    client->literals = 0;
-    int answer = is_batch ? simplify(client) : 0;
-    if (answer != 0 || (is_batch && is_to_end(client)))
+    if (!prepare(client, &answer))
         return answer;
     do
         answer = client_search(&client->handle);
@@ -186,7 +175,7 @@ int varisat_ipasir_set(void *solver, const char *name, int value) {
         return 0;
     bool is_known = name && strcmp(name, "simplify") == 0 && value >= 0;
     if (is_known)
-        simplify_from(client, (uint32_t)value);
+        client_simplify_from(&client->handle, (uint32_t)value);
     leave(client);
     return is_known;
 }

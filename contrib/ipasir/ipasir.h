@@ -49,7 +49,8 @@ int32_t ipasir_val(void *solver, int32_t number);
 /* 1 where the literal is one of the assumptions for which the last search answered 20, and else 0. */
 int ipasir_failed(void *solver, int32_t number);
 
-/* The callback is asked each 1,000 steps of a search, which ends where it returns another number than 0. NULL asks none. */
+/* The callback is asked each 1,000 steps of a search and after each part of a simplification. The search ends if it returns another
+ * number than 0. NULL asks none. */
 void ipasir_set_terminate(void *solver, void *data, int (*terminate)(void *data));
 
 /* Does nothing: learned clauses are not told. */

@@ -1,5 +1,6 @@
-/* Random clients that give clauses in batches, some of which are simplified, and name eliminated variables again. The variables are a few
- * inputs, and gates of earlier variables, so that a table of all values of the inputs says what each search has to answer. */
+/* Random clients that give clauses in batches, some of which are simplified, and name eliminated variables again. Their callbacks end some
+ * searches, also while a batch is simplified. The variables are a few inputs, and gates of earlier variables, so that a table of all values
+ * of the inputs says what each search has to answer. */
 #include "check.h"
 
 #include "../../c/varisat.h"
@@ -27,7 +28,9 @@ static int assumed[MOST_ASSUMPTIONS];
 static int assumed_count;
 static unsigned long long seed = 88172645463325252ULL;
 static void *solver;
-static long searches, satisfiable, eliminated, restored;
+static long searches, satisfiable, ended, eliminated, restored;
+/* How often the callback goes on before it ends the search. */
+static int patience;
 
 static int draw(int below) {
     seed ^= seed << 13, seed ^= seed >> 7, seed ^= seed << 17;
@@ -144,13 +147,35 @@ static void check_core(void) {
     CHECK(is_assumed || !ipasir_failed(solver, other));
 }
 
-static void search(void) {
+static int ends(void *data) {
+    (void)data;
+    return patience-- == 0;
+}
+
+/* A search under new assumptions: its answer, which is right or 0. */
+static int ask(void) {
     assumed_count = draw(3) ? draw(4) : draw(MOST_ASSUMPTIONS + 1);
     for (int i = 0; i < assumed_count; i++)
         ipasir_assume(solver, assumed[i] = draw_literal());
     int answer = ipasir_solve(solver);
+    CHECK(answer == 0 || answer == (is_possible(assumed, assumed_count) ? 10 : 20));
+    return answer;
+}
+
+/* A search that the callback may end, in any part of a batch. */
+static void try_to_search(void) {
+    patience = draw(8);
+    ipasir_set_terminate(solver, NULL, ends);
+    ended += ask() == 0;
+    ipasir_set_terminate(solver, NULL, NULL);
+}
+
+static void search(void) {
+    if (draw(3) == 0)
+        try_to_search();
+    int answer = ask();
+    CHECK(answer != 0);
     searches++;
-    CHECK(answer == (is_possible(assumed, assumed_count) ? 10 : 20));
     if (answer == 10)
         satisfiable++, check_model();
     else
@@ -181,8 +206,8 @@ int main(int count, char **words) {
     for (int i = 0; searches < most; i++)
         play(i % 8 ? 20 + draw(150) : 1200);
     CHECK(eliminated > searches && restored > 0 && restored < eliminated);
-    CHECK(satisfiable > most / 20 && satisfiable < searches);
-    printf("%s: %ld searches over batches, %ld satisfiable, %ld variables eliminated, %ld restored: all right\n", ipasir_signature(),
-        searches, satisfiable, eliminated, restored);
+    CHECK(satisfiable > most / 20 && satisfiable < searches && ended > most / 20);
+    printf("%s: %ld searches over batches, %ld satisfiable, %ld more ended, %ld variables eliminated, %ld restored: all right\n",
+        ipasir_signature(), searches, satisfiable, ended, eliminated, restored);
     return 0;
 }

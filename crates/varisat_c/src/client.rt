@@ -1,6 +1,6 @@
 //! A client of the solver for C programs: each call takes a handle, behind which a client stands.
 ghost use Rattle.std.specs.Prelude.{◌≡◌, ◌↔◌, None, IsSome, IsTrue, IfSome};
-ghost use Rattle.varisat_client.specs.promises.Pasts.{empty_client_past, AddsNumber, AssumesNumber, Begins, LimitsSteps, ReturnsValue, ReturnsFailed};
+ghost use Rattle.varisat_client.specs.promises.Pasts.{empty_client_past, AddsNumber, AssumesNumber, Begins, LimitsSteps, Prepares, ReturnsValue, ReturnsFailed};
 ghost use Rattle.varisat_client.specs.inside.Clients.{RepresentsPast, IsTrueOfPast, Moves};
 ghost use Rattle.varisat_c.specs.Ends.{SearchesBy, refusal_code};
 ghost use Rattle.varisat_c.specs.Slots.{MovesHeld, IsTrueBehind};
@@ -136,6 +136,18 @@ pub extern "C" fn client_begin(alloc: Global, handle: &mut ClientHandle)
     let mut client = handle.take(alloc);
     client.begin();
     handle.put(alloc, client);
+}
+
+/// Does a part of the simplification that the next search begins with, which takes some milliseconds. Whether it did one.
+#[unsafe(no_mangle)]
+pub extern "C" fn client_prepare(alloc: Global, handle: &mut ClientHandle) -> bool
+    requires { IsSome handle.old.held }
+    ensures { MovesHeld (Moves Prepares) handle.old.held handle.new.held }
+{
+    let mut client = handle.take(alloc);
+    let is_part = client.prepare();
+    handle.put(alloc, client);
+    is_part
 }
 
 /// Searches: 10 where some assignment satisfies the clauses and makes the assumptions true, 20 where none does, 0 where

@@ -2,7 +2,7 @@
 use Rattle.std.proofs.Common.{◌≡◌, ◌≢◌, ℕ, zero, suc, ℤ, pos, negsuc, Bool, true, false, Some, None, List, [], ◌∷◌, ◌++◌, if◌then◌else◌, refl, sym, ap, ◌∙◌, subst}
 use Rattle.varisat_theory.specs.promises.Literals.{Literal, IsSatisfiableWith}
 use Rattle.varisat_literals.specs.promises.Numbers.{literal_numbered}
-use Rattle.varisat_client.specs.promises.Pasts.{ClientPast, refuse, count, Refuses, AddsNumber, AssumesNumber, Begins, LimitsSteps, IsSearchEnd}
+use Rattle.varisat_client.specs.promises.Pasts.{ClientPast, refuse, count, Refuses, AddsNumber, AssumesNumber, Begins, LimitsSteps, Prepares, IsSearchEnd}
 use Rattle.varisat_client.specs.promises.Pasts as past
 use Rattle.varisat_client.specs.promises.Runs.{Makes, MakeInTurn}
 use Rattle.varisat_client.specs.promises.Given.{Given, is_zero, give, IsRightAnswer, AreDecided}
@@ -95,57 +95,77 @@ search-agrees end p q g (past.Interrupted o r m few e) a = agree-by q (record p 
 same-agrees : (p q : ClientPast) (g : Given) → q ≡ p → Agrees p g → Agrees q g
 same-agrees p q g e a = subst (λ x. Agrees x g) (sym e) a
 
+prepare-agrees : (p q : ClientPast) (g : Given) → Prepares p q → Agrees p g → Agrees q g
+prepare-agrees p q g (past.Refused r) a = refused-agrees [] false p q g r
+prepare-agrees p q g (past.Prepared e) a = same-agrees p q g e a
+
 -- each call moves both alike
 moves-alike : (p q : ClientPast) (g : Given) (c : Call) (a : Answer) → Makes p c a q → Agrees p g → Agrees q (give c g)
 moves-alike p q g (call.Add n) answer.Done m h = add-agrees n p q g m h
+moves-alike p q g (call.Add n) (answer.Prepared r) m h = absurd m
 moves-alike p q g (call.Add n) (answer.Search r) m h = absurd m
 moves-alike p q g (call.Add n) (answer.Value r) m h = absurd m
 moves-alike p q g (call.Add n) (answer.HasFailed r) m h = absurd m
 moves-alike p q g (call.Add n) (answer.Refusal r) m h = absurd m
 moves-alike p q g (call.Add n) (answer.Steps r) m h = absurd m
 moves-alike p q g (call.Assume n) answer.Done m h = assume-agrees n p q g m h
+moves-alike p q g (call.Assume n) (answer.Prepared r) m h = absurd m
 moves-alike p q g (call.Assume n) (answer.Search r) m h = absurd m
 moves-alike p q g (call.Assume n) (answer.Value r) m h = absurd m
 moves-alike p q g (call.Assume n) (answer.HasFailed r) m h = absurd m
 moves-alike p q g (call.Assume n) (answer.Refusal r) m h = absurd m
 moves-alike p q g (call.Assume n) (answer.Steps r) m h = absurd m
 moves-alike p q g call.Begin answer.Done m h = begin-agrees p q g m h
+moves-alike p q g call.Begin (answer.Prepared r) m h = absurd m
 moves-alike p q g call.Begin (answer.Search r) m h = absurd m
 moves-alike p q g call.Begin (answer.Value r) m h = absurd m
 moves-alike p q g call.Begin (answer.HasFailed r) m h = absurd m
 moves-alike p q g call.Begin (answer.Refusal r) m h = absurd m
 moves-alike p q g call.Begin (answer.Steps r) m h = absurd m
+moves-alike p q g call.Prepare answer.Done m h = absurd m
+moves-alike p q g call.Prepare (answer.Prepared r) m h = prepare-agrees p q g m h
+moves-alike p q g call.Prepare (answer.Search r) m h = absurd m
+moves-alike p q g call.Prepare (answer.Value r) m h = absurd m
+moves-alike p q g call.Prepare (answer.HasFailed r) m h = absurd m
+moves-alike p q g call.Prepare (answer.Refusal r) m h = absurd m
+moves-alike p q g call.Prepare (answer.Steps r) m h = absurd m
 moves-alike p q g call.Search answer.Done m h = absurd m
+moves-alike p q g call.Search (answer.Prepared r) m h = absurd m
 moves-alike p q g call.Search (answer.Search r) m h = search-agrees r p q g m h
 moves-alike p q g call.Search (answer.Value r) m h = absurd m
 moves-alike p q g call.Search (answer.HasFailed r) m h = absurd m
 moves-alike p q g call.Search (answer.Refusal r) m h = absurd m
 moves-alike p q g call.Search (answer.Steps r) m h = absurd m
 moves-alike p q g (call.LimitSteps n) answer.Done m h = limit-agrees n p q g m h
+moves-alike p q g (call.LimitSteps n) (answer.Prepared r) m h = absurd m
 moves-alike p q g (call.LimitSteps n) (answer.Search r) m h = absurd m
 moves-alike p q g (call.LimitSteps n) (answer.Value r) m h = absurd m
 moves-alike p q g (call.LimitSteps n) (answer.HasFailed r) m h = absurd m
 moves-alike p q g (call.LimitSteps n) (answer.Refusal r) m h = absurd m
 moves-alike p q g (call.LimitSteps n) (answer.Steps r) m h = absurd m
 moves-alike p q g (call.Value n) answer.Done m h = absurd m
+moves-alike p q g (call.Value n) (answer.Prepared r) m h = absurd m
 moves-alike p q g (call.Value n) (answer.Search r) m h = absurd m
 moves-alike p q g (call.Value n) (answer.Value r) m h = same-agrees p q g m.1 h
 moves-alike p q g (call.Value n) (answer.HasFailed r) m h = absurd m
 moves-alike p q g (call.Value n) (answer.Refusal r) m h = absurd m
 moves-alike p q g (call.Value n) (answer.Steps r) m h = absurd m
 moves-alike p q g (call.HasFailed n) answer.Done m h = absurd m
+moves-alike p q g (call.HasFailed n) (answer.Prepared r) m h = absurd m
 moves-alike p q g (call.HasFailed n) (answer.Search r) m h = absurd m
 moves-alike p q g (call.HasFailed n) (answer.Value r) m h = absurd m
 moves-alike p q g (call.HasFailed n) (answer.HasFailed r) m h = same-agrees p q g m.1 h
 moves-alike p q g (call.HasFailed n) (answer.Refusal r) m h = absurd m
 moves-alike p q g (call.HasFailed n) (answer.Steps r) m h = absurd m
 moves-alike p q g call.Refusal answer.Done m h = absurd m
+moves-alike p q g call.Refusal (answer.Prepared r) m h = absurd m
 moves-alike p q g call.Refusal (answer.Search r) m h = absurd m
 moves-alike p q g call.Refusal (answer.Value r) m h = absurd m
 moves-alike p q g call.Refusal (answer.HasFailed r) m h = absurd m
 moves-alike p q g call.Refusal (answer.Refusal r) m h = same-agrees p q g m.1 h
 moves-alike p q g call.Refusal (answer.Steps r) m h = absurd m
 moves-alike p q g call.Steps answer.Done m h = absurd m
+moves-alike p q g call.Steps (answer.Prepared r) m h = absurd m
 moves-alike p q g call.Steps (answer.Search r) m h = absurd m
 moves-alike p q g call.Steps (answer.Value r) m h = absurd m
 moves-alike p q g call.Steps (answer.HasFailed r) m h = absurd m
@@ -168,6 +188,7 @@ decides : (p q : ClientPast) (g : Given) (c : Call) (a : Answer) → Makes p c a
 decides p q g (call.Add n) (answer.Search r) m h = absurd m
 decides p q g (call.Assume n) (answer.Search r) m h = absurd m
 decides p q g call.Begin (answer.Search r) m h = absurd m
+decides p q g call.Prepare (answer.Search r) m h = absurd m
 decides p q g call.Search (answer.Search r) m h = search-decides r p q g m h
 decides p q g (call.LimitSteps n) (answer.Search r) m h = absurd m
 decides p q g (call.Value n) (answer.Search r) m h = absurd m
@@ -175,6 +196,7 @@ decides p q g (call.HasFailed n) (answer.Search r) m h = absurd m
 decides p q g call.Refusal (answer.Search r) m h = absurd m
 decides p q g call.Steps (answer.Search r) m h = absurd m
 decides p q g c answer.Done m h = tt
+decides p q g c (answer.Prepared r) m h = tt
 decides p q g c (answer.Value r) m h = tt
 decides p q g c (answer.HasFailed r) m h = tt
 decides p q g c (answer.Refusal r) m h = tt

@@ -11,7 +11,9 @@ use Rattle.varisat_formula.specs.promises.Formulas.{variables_of}
 use Rattle.varisat_literals.specs.promises.Numbers.{variable_limit}
 use Rattle.varisat_solver.proofs.calls.Counted.{join-more, join-has, join-only}
 use Rattle.varisat_solver.specs.promises.ClauseCalls.{AddsFormula}
-use Rattle.varisat_incremental.specs.Reconstructions.{Reconstruction, no_clauses, HasTaken, KeepsValues, Takes}
+use Rattle.varisat_incremental.specs.Reconstructions.{HasTaken, KeepsValues}
+use Rattle.varisat_incremental.specs.Batches.{Batches, no_batches, HasBegun, Closed, TakesPart, TakesAll}
+use Rattle.varisat_incremental.proofs.BatchLemmas.{closed-taken}
 use Rattle.varisat_client.proofs.Giving.{gives-all, model-of-all}
 use Rattle.varisat_theory.proofs.bounds.CallBounds.{few_none}
 use Rattle.varisat_literals.specs.promises.Numbers.{literal_numbered}
@@ -32,7 +34,7 @@ use Rattle.varisat_client.specs.declared.refusal.Refusal.{Refusal}
 use Rattle.varisat_client.specs.declared.refusal.Refusal.TheVariants.{OutOfMemory, VariableLimit, ClauseStoreFull}
 use Rattle.varisat_client.specs.inside.Refusals.{refusal_for}
 use Rattle.varisat_client.specs.inside.LiteralSets.{Has}
-use Rattle.varisat_client.specs.promises.Pasts.{ClientPast, empty_client_past, refuse, count, Again, Memory, Limit, Full, AddsNumber, AssumesNumber, Begins, LimitsSteps, IsSearchEnd, IsFoundModel, ReturnsFailed}
+use Rattle.varisat_client.specs.promises.Pasts.{ClientPast, empty_client_past, refuse, count, Again, Memory, Limit, Full, AddsNumber, AssumesNumber, Begins, LimitsSteps, Prepares, IsSearchEnd, IsFoundModel, ReturnsFailed}
 use Rattle.varisat_client.specs.promises.Pasts as past
 use Rattle.varisat_client.specs.inside.Clients.{first_state, Client, IsSetOfModel, IsSetOfCore, MadeFewSince, CountsUpTo, HasGiven, IsSettled, HoldsPast, RepresentsPast, Moves, GivesPending, model_of_all, KeepsModel, KeepsCore}
 use Rattle.varisat_client.specs.inside.Clients as client
@@ -46,7 +48,7 @@ stands-free : (g : Client) (p : ClientPast) → g.refusal ≡ p.refusal → p.re
 stands-free g p e free k = record { refusal = e; full = λ f. absurd (let z : None ≡ Some ClauseStoreFull = sym free ∙ f in cc); holds = λ _. k }
 
 -- nothing was given yet
-pub is-new : (g : Client) → g.refusal ≡ None → Represents g.solver first_state → g.pending ≡ [] → g.reconstruction ≡ no_clauses → g.is_changed ≡ false →
+pub is-new : (g : Client) → g.refusal ≡ None → Represents g.solver first_state → g.pending ≡ [] → g.batches ≡ no_batches → g.is_changed ≡ false →
     g.var_count ≡ 0 → g.clause ≡ [] → g.assumptions ≡ [] → g.assumed ≡ [] → IsSetOfModel [] g → IsSetOfCore [] g → RepresentsPast g empty_client_past
 is-new g r s pending none unchanged no_vars c a b m k = stands-free g empty_client_past r refl (record {
   state = first_state;
@@ -56,7 +58,7 @@ is-new g r s pending none unchanged no_vars c a b m k = stands-free g empty_clie
     given = [];
     known = [];
     whole = sym pending;
-    reduced = subst (HasTaken [] []) (sym none) (record {
+    reduced = subst (HasBegun [] []) (sym none) (Closed refl (record {
       keeps = λ _ h. h;
       implied = λ _ h. h;
       extends = λ _ _ h. h;
@@ -64,7 +66,7 @@ is-new g r s pending none unchanged no_vars c a b m k = stands-free g empty_clie
       frozen = λ _ i. absurd i;
       named = λ _ _ i. absurd i;
       saved = λ _ _ i. absurd i;
-    });
+    }));
     fits = record {
       valid = refl;
       proof = refl;
@@ -92,6 +94,7 @@ is-new g r s pending none unchanged no_vars c a b m k = stands-free g empty_clie
     fresh = λ _. refl;
     made = λ _. record { same = refl; few = few_none 0 };
     all = λ _. pending;
+    closed = λ _. record { none_open = ap (λ (b : Batches). b.open_batch) none; none_ended = ap (λ (b : Batches). b.ended) none };
     keeps = λ _ _ _ i. absurd i;
   };
   counts = record {
@@ -152,12 +155,13 @@ counts-more m n P Q A B counted d e small clauses list k =
       small = small;
     }
 
-settled-after : (b : Bool) (pending : List Clause) (r : Reconstruction) (A : List Literal) (since later : ℕ) (s t : State) → b ≡ false → MadeFewSince t later →
+settled-after : (b : Bool) (pending : List Clause) (r : Batches) (A : List Literal) (since later : ℕ) (s t : State) → b ≡ false → MadeFewSince t later →
     IsSettled b pending r A since s → IsSettled b pending r A later t
 settled-after b pending r A since later s t e made k = record {
   fresh = λ x. absurd (let z : true ≡ false = sym x ∙ e in cc);
   made = λ _. made;
   all = k.all;
+  closed = k.closed;
   keeps = k.keeps;
 }
 
@@ -262,8 +266,8 @@ put-literal n g h z e put q p st =
       stands-free h to (ap (λ (x : Client). x.refusal) q ∙ st.refusal) r (record {
         state = k.state;
         stands = subst (λ (x : Client). Represents x.solver k.state) (sym q) k.stands;
-        gave = subst (λ (x : Client). HasGiven x.pending x.reconstruction p.clauses p.assumed p.steps p.limit p.counted k.state) (sym q) k.gave;
-        settled = subst (λ (x : Client). IsSettled x.is_changed x.pending x.reconstruction p.assumed p.since k.state) (sym q) k.settled;
+        gave = subst (λ (x : Client). HasGiven x.pending x.batches p.clauses p.assumed p.steps p.limit p.counted k.state) (sym q) k.gave;
+        settled = subst (λ (x : Client). IsSettled x.is_changed x.pending x.batches p.assumed p.since k.state) (sym q) k.settled;
         counts = subst (λ (x : Client). CountsUpTo x.var_count p.clauses p.assumed p.counted) (sym q) k.counts;
         clause = put ∙ ap (λ (ls : List Literal). ls ++ literal_numbered n ∷ []) k.clause;
         assumptions = ap (λ (x : Client). x.assumptions) q ∙ k.assumptions;
@@ -285,8 +289,8 @@ put-assumption n g h z e put q p st =
       stands-free h to (ap (λ (x : Client). x.refusal) q ∙ st.refusal) r (record {
         state = k.state;
         stands = subst (λ (x : Client). Represents x.solver k.state) (sym q) k.stands;
-        gave = subst (λ (x : Client). HasGiven x.pending x.reconstruction p.clauses p.assumed p.steps p.limit p.counted k.state) (sym q) k.gave;
-        settled = subst (λ (x : Client). IsSettled x.is_changed x.pending x.reconstruction p.assumed p.since k.state) (sym q) k.settled;
+        gave = subst (λ (x : Client). HasGiven x.pending x.batches p.clauses p.assumed p.steps p.limit p.counted k.state) (sym q) k.gave;
+        settled = subst (λ (x : Client). IsSettled x.is_changed x.pending x.batches p.assumed p.since k.state) (sym q) k.settled;
         counts = subst (λ (x : Client). CountsUpTo x.var_count p.clauses p.assumed p.counted) (sym q) k.counts;
         clause = ap (λ (x : Client). x.clause) q ∙ k.clause;
         assumed = ap (λ (x : Client). x.assumed) q ∙ k.assumed;
@@ -332,6 +336,7 @@ ends-clause g h n free e small more none q p st =
           fresh = λ _. refl;
           made = λ z. absurd (let y : true ≡ false = z in cc);
           all = λ z. absurd (let y : true ≡ false = z in cc);
+          closed = λ z. absurd (let y : true ≡ false = z in cc);
           keeps = λ z. absurd (let y : true ≡ false = z in cc);
         };
         counts = counts-more g.var_count n p.clauses (p.clauses ++ p.clause ∷ []) p.assumed p.assumed p.counted p.clause
@@ -379,6 +384,7 @@ begins-search g h d n e own call m now none q p st =
           fresh = λ _. refl;
           made = λ z. absurd (let y : true ≡ false = z in cc);
           all = λ z. absurd (let y : true ≡ false = z in cc);
+          closed = λ z. absurd (let y : true ≡ false = z in cc);
           keeps = λ z. absurd (let y : true ≡ false = z in cc);
         };
         counts = counts-more g.var_count n p.clauses p.clauses p.assumed p.assumptions p.counted p.assumptions size
@@ -421,6 +427,7 @@ limits-steps steps u g h e given call q p st =
           fresh = λ _. refl;
           made = λ _. fitting.since-limited k.state t u configures;
           all = k.settled.all;
+          closed = k.settled.closed;
           keeps = k.settled.keeps;
         };
         counts = k.counts;
@@ -443,12 +450,12 @@ limit-refused steps u g h after e free given call p st =
 
 -- 5. What is pending.
 
-pub gives-pending : (g h : Client) (x : Summary) (r : Reconstruction) (G : List Clause) → g.is_changed ≡ true → Takes g.pending g.assumed G g.reconstruction r →
+pub gives-pending : (g h : Client) (x : Summary) (r : Batches) (G : List Clause) → g.is_changed ≡ true → TakesAll g.pending g.assumed G g.batches r →
     ((s : State) → Represents g.solver s → (t : State) × AddsFormula s G (Ok tt) t × Represents x t) →
-    h.pending ≡ [] → h ≡ record g { solver = x; pending = h.pending; reconstruction = r; is_changed = false } → (p : ClientPast) → HoldsPast g p → HoldsPast h p
+    h.pending ≡ [] → h ≡ record g { solver = x; pending = h.pending; batches = r; is_changed = false } → (p : ClientPast) → HoldsPast g p → HoldsPast h p
 gives-pending g h x r G changed takes call none q p k =
     let (t, adds, stands) = call k.state k.stands in
-    let (taken, keeps) = takes k.gave.taken k.gave.given k.gave.reduced in
+    let (taken, closed, keeps) = takes k.gave.taken k.gave.given k.gave.reduced in
     let all : p.clauses ≡ k.gave.taken ++ g.pending = k.gave.whole in
     let gives = gives-all G k.state t k.gave.given p.assumed p.steps p.limit k.gave.known p.counted adds k.gave.fits k.gave.among k.gave.within
     (λ c l i j. let (m, (d, y, z), o) = taken.named c l (∈-append_right c k.gave.given G i) j in
@@ -461,7 +468,7 @@ gives-pending g h x r G changed takes call none q p k =
         given = k.gave.given ++ G;
         known = gives.known;
         whole = all ∙ sym (append-nil (k.gave.taken ++ g.pending)) ∙ ap (λ (X : List Clause). (k.gave.taken ++ g.pending) ++ X) (sym none);
-        reduced = taken;
+        reduced = Closed closed.none_open (subst (λ (Y : List Clause). HasTaken (k.gave.taken ++ g.pending) Y r.reconstruction) (sym (ap (λ (Y : List Clause). (k.gave.given ++ G) ++ Y) closed.none_ended ∙ append-nil (k.gave.given ++ G))) taken);
         fits = gives.fits;
         among = gives.among;
         within = gives.within;
@@ -470,7 +477,8 @@ gives-pending g h x r G changed takes call none q p k =
         fresh = λ _. k.settled.fresh changed;
         made = λ _. subst (MadeFewSince t) (sym (k.settled.fresh changed)) gives.since;
         all = λ _. none;
-        keeps = λ _. subst (λ (A : List Literal). KeepsValues A r.stack) k.assumed keeps;
+        closed = λ _. closed;
+        keeps = λ _. subst (λ (A : List Literal). KeepsValues A r.reconstruction.stack) k.assumed keeps;
       };
       counts = k.counts;
       clause = k.clause;
@@ -479,6 +487,53 @@ gives-pending g h x r G changed takes call none q p k =
       model = k.model;
       core = k.core;
     })
+
+-- or a part of it is simplified
+pub prepares : (g h : Client) (b : Batches) → is_some g.refusal ≡ false → g.is_changed ≡ true → TakesPart g.pending h.pending g.batches b →
+    h ≡ record g { pending = h.pending; batches = b } → Moves Prepares g h
+prepares g h b e changed takes q p st =
+    let r = not-refused g p st e in
+    let k = st.holds r in
+    let (more, same, begun) = takes k.gave.taken k.gave.given k.gave.reduced in
+    let next : Client = record g { pending = h.pending; batches = b } in (
+      p,
+      past.Prepared refl,
+      subst (λ (x : Client). RepresentsPast x p) (sym q) (stands-free next p st.refusal r (record {
+        state = k.state;
+        stands = k.stands;
+        gave = record {
+          taken = more;
+          given = k.gave.given;
+          known = k.gave.known;
+          whole = k.gave.whole ∙ same;
+          reduced = begun;
+          fits = k.gave.fits;
+          among = k.gave.among;
+          within = k.gave.within;
+        };
+        settled = record {
+          fresh = k.settled.fresh;
+          made = λ z. absurd (let y : true ≡ false = sym changed ∙ z in cc);
+          all = λ z. absurd (let y : true ≡ false = sym changed ∙ z in cc);
+          closed = λ z. absurd (let y : true ≡ false = sym changed ∙ z in cc);
+          keeps = λ z. absurd (let y : true ≡ false = sym changed ∙ z in cc);
+        };
+        counts = k.counts;
+        clause = k.clause;
+        assumptions = k.assumptions;
+        assumed = k.assumed;
+        model = k.model;
+        core = k.core;
+      })),
+    )
+
+-- for which memory ran out
+pub prepare-refused : (g h : Client) → is_some g.refusal ≡ false → h.refusal ≡ Some OutOfMemory → Moves Prepares g h
+prepare-refused g h e f = runs-out Prepares g h e f (λ p free. past.Refused (Memory free none-past-limit refl))
+
+-- nothing is to be simplified
+pub prepares-nothing : (g : Client) → Moves Prepares g g
+prepares-nothing g p st = (p, past.Prepared refl, st)
 
 -- where it could not be given, the search is refused
 pub search-stops : (g h : Client) → is_some g.refusal ≡ false → GivesPending g h → is_some h.refusal ≡ true → Moves (IsSearchEnd end.Refused) g h
@@ -515,7 +570,8 @@ finds-model r g m h e still q call (client.Kept list found tells set o) = λ p s
       to,
       past.Satisfiable found free
           (subst (λ (P : List Clause). IsFoundModel P p.assumed p.counted all) (sym same)
-          (model-of-all k.gave.taken k.gave.given p.assumed k.gave.known p.counted g.var_count list g.reconstruction k.gave.reduced (k.settled.keeps still)
+          (model-of-all k.gave.taken k.gave.given p.assumed k.gave.known p.counted g.var_count list g.batches.reconstruction
+          (closed-taken k.gave.taken k.gave.given g.batches (k.settled.closed still) k.gave.reduced) (k.settled.keeps still)
           (fitting.is-model t k.gave.given p.assumed t.ledger.steps p.limit k.gave.known list fits among (tells t stands)) k.gave.within
           (λ c l i j. k.counts.named c l (subst (λ (P : List Clause). c ∈ P) (sym same) i) j) k.counts.assumed k.counts.below k.counts.up_to))
           (fitting.decided-few p to k.gave.known k.gave.within k.state t true solves k.gave.among (k.settled.made still) k.gave.fits.steps k.gave.fits.limit refl refl) refl,
@@ -532,7 +588,7 @@ finds-model r g m h e still q call (client.Kept list found tells set o) = λ p s
           among = among;
           within = k.gave.within;
         };
-        settled = settled-after g.is_changed g.pending g.reconstruction p.assumed p.since t.ledger.since k.state t still
+        settled = settled-after g.is_changed g.pending g.batches p.assumed p.since t.ledger.since k.state t still
             (fitting.since-decided k.state t true p.since solves (k.settled.made still)) k.settled;
         counts = k.counts;
         clause = k.clause;
@@ -559,7 +615,7 @@ finds-core r g m h e still q call (client.Kept core found tells set o) = λ p st
     let own : h ≡ next = o ∙ ap (λ (x : Client). record x { core = h.core }) q in (
       to,
       past.Unsatisfiable found free
-          (part, (λ (a, all, makes). none (a, k.gave.reduced.keeps a (λ c i. all c (subst (λ (P : List Clause). c ∈ P) (sym k.gave.whole) (∈-append_left c k.gave.taken g.pending i))), makes)))
+          (part, (λ (a, all, makes). none (a, (closed-taken k.gave.taken k.gave.given g.batches (k.settled.closed still) k.gave.reduced).keeps a (λ c i. all c (subst (λ (P : List Clause). c ∈ P) (sym k.gave.whole) (∈-append_left c k.gave.taken g.pending i))), makes)))
           (fitting.decided-few p to k.gave.known k.gave.within k.state t false solves k.gave.among (k.settled.made still) k.gave.fits.steps k.gave.fits.limit refl refl) refl,
       subst (λ (x : Client). RepresentsPast x to) (sym own) (stands-free next to st.refusal free (record {
         state = t;
@@ -574,7 +630,7 @@ finds-core r g m h e still q call (client.Kept core found tells set o) = λ p st
           among = fitting.counts-decided k.state t false k.gave.known solves k.gave.among;
           within = k.gave.within;
         };
-        settled = settled-after g.is_changed g.pending g.reconstruction p.assumed p.since t.ledger.since k.state t still
+        settled = settled-after g.is_changed g.pending g.batches p.assumed p.since t.ledger.since k.state t still
             (fitting.since-decided k.state t false p.since solves (k.settled.made still)) k.settled;
         counts = k.counts;
         clause = k.clause;
@@ -611,7 +667,7 @@ spends-steps g h e still q call p st =
           among = fitting.counts-spent k.state t k.gave.known solves k.gave.among;
           within = k.gave.within;
         };
-        settled = settled-after g.is_changed g.pending g.reconstruction p.assumed p.since t.ledger.since k.state t still
+        settled = settled-after g.is_changed g.pending g.batches p.assumed p.since t.ledger.since k.state t still
             (fitting.since-spent k.state t solves) k.settled;
         counts = k.counts;
         clause = k.clause;

@@ -14,7 +14,7 @@ use varisat::io::MemoryTarget;
 use varisat::solver::SolverError;
 use varisat::{CnfFormula, Lit, Solver};
 use varisat_formula::values::{literals_of, values_of};
-use varisat_incremental::reconstruction::Reconstruction;
+use varisat_incremental::batches::Batches;
 
 // The settings of a client's solver. Where calls come to many conflicts they took 0.7 of the time of a new solver's
 // settings, and else the same. Restarts that glue chooses, as the program has for a file, were not tried on calls.
@@ -71,7 +71,7 @@ pub struct Client<A: Allocator + Copy> {
     solver: Solver<MemoryTarget<A>, A>,
     // The clauses that the solver was not given yet, and by which models are extended to those that it never gets.
     pending: CnfFormula<A>,
-    reconstruction: Reconstruction<A>,
+    batches: Batches<A>,
     // Whether a clause ended or a search was begun since the solver was given the clauses.
     is_changed: bool,
     // How many variables there are up to the highest that is counted.
@@ -94,7 +94,7 @@ impl<A: Allocator + Copy> Model for Client<A> {
     ghost view = { λ c. record {
       solver = c.solver;
       pending = c.pending.clauses;
-      reconstruction = c.reconstruction;
+      batches = c.batches;
       is_changed = c.is_changed;
       var_count = c.var_count;
       clause = c.clause.items;
@@ -109,7 +109,7 @@ impl<A: Allocator + Copy> Model for Client<A> {
 }
 
 impl<A: Allocator + Copy> Client<A> {
-    ghost use Rattle.varisat_client.specs.promises.Pasts.{empty_client_past, AddsNumber, AssumesNumber, Begins, LimitsSteps, IsSearchEnd, ReturnsValue, ReturnsFailed};
+    ghost use Rattle.varisat_client.specs.promises.Pasts.{empty_client_past, AddsNumber, AssumesNumber, Begins, LimitsSteps, Prepares, IsSearchEnd, ReturnsValue, ReturnsFailed};
     ghost use Rattle.varisat_client.specs.inside.Clients.{RepresentsPast, IsTrueOfPast, Moves, GivesPending, model_of_all, RunsOutOfMemory, KeepsModel, KeepsCore};
 
     /// A client with a new solver. It takes no memory.
@@ -120,7 +120,7 @@ impl<A: Allocator + Copy> Client<A> {
             alloc,
             solver: new_solver(alloc),
             pending: CnfFormula::new_in(alloc),
-            reconstruction: Reconstruction::new_in(alloc),
+            batches: Batches::new_in(alloc),
             is_changed: false,
             var_count: 0,
             clause: Vec::new(alloc),
@@ -218,7 +218,7 @@ impl<A: Allocator + Copy> Client<A> {
     pub fn simplify_from(&mut self, literals: usize)
         ensures { self.new ≡ self.old }
     {
-        self.reconstruction.simplify_from(literals);
+        self.batches.simplify_from(literals);
     }
 
     /// Hints that later clauses or assumptions name the variable of the number: until `melt` it is not eliminated, which
@@ -229,7 +229,7 @@ impl<A: Allocator + Copy> Client<A> {
         let Some(lit) = hint_for(number) else {
             return;
         };
-        self.reconstruction.freeze(lit);
+        self.batches.freeze(lit);
     }
 
     /// Takes back the hint of `freeze`. A variable stays if the solver has it already.
@@ -239,17 +239,39 @@ impl<A: Allocator + Copy> Client<A> {
         let Some(lit) = hint_for(number) else {
             return;
         };
-        self.reconstruction.melt(lit);
+        self.batches.melt(lit);
     }
 
     /// How many variables simplifications eliminated so far.
     pub fn eliminations(&self) -> u64 {
-        self.reconstruction.eliminations()
+        self.batches.eliminations()
     }
 
     /// How many of them were restored so far.
     pub fn restorations(&self) -> u64 {
-        self.reconstruction.restorations()
+        self.batches.restorations()
+    }
+
+    /// Does a part of the simplification that a search begins with, once `begin` was called: it takes some milliseconds, or
+    /// as long as a few passes over the clauses that were given since the last search. Returns whether it did one: false
+    /// comes once nothing is left to be simplified. The next search takes what is there, whether or not parts are left.
+    /// After a refused call it does nothing.
+    pub fn prepare(&mut self) -> bool
+        ensures { Moves Prepares self.old self.new }
+    {
+        if self.refusal.is_some() {
+            return false;
+        }
+        if !self.is_changed {
+            return false;
+        }
+        match self.batches.go_on(&mut self.pending, &self.assumed) {
+            Ok(is_part) => is_part,
+            Err(_) => {
+                self.refusal = Some(Refusal::OutOfMemory);
+                false
+            }
+        }
     }
 
     /// How many steps all searches made together, as long as no call was refused.
@@ -297,7 +319,7 @@ impl<A: Allocator + Copy> Client<A> {
         ensures { self.old.is_changed ≡ true → self.old.refusal ≡ None → GivesPending self.old self.new }
     {
         let pending = replace(&mut self.pending, CnfFormula::new_in(self.alloc));
-        let Ok(formula) = self.reconstruction.take(pending, &self.assumed) else {
+        let Ok(formula) = self.batches.take(pending, &self.assumed) else {
             self.refusal = Some(Refusal::OutOfMemory);
             return;
         };
@@ -336,7 +358,7 @@ impl<A: Allocator + Copy> Client<A> {
         ensures { IfOk result (λ all. all.items ≡ model_of_all self.now list.now) }
     {
         let mut values = values_of(self.alloc, self.var_count, list)?;
-        self.reconstruction.extend_model(&mut values);
+        self.batches.extend_model(&mut values);
         let all = literals_of(self.alloc, &values)?;
         Ok(all)
     }

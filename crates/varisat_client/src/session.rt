@@ -15,6 +15,7 @@ pub enum Call {
     Add(i32),
     Assume(i32),
     Begin,
+    Prepare,
     Search,
     LimitSteps(u64),
     Value(i32),
@@ -27,6 +28,7 @@ pub enum Call {
 #[derive(Clone, Copy)]
 pub enum Answer {
     Done,
+    Prepared(bool),
     Search(SearchEnd),
     Value(i32),
     HasFailed(bool),
@@ -51,6 +53,7 @@ pub fn make_call<A: Allocator + Copy>(client: &mut Client<A>, call: Call) -> Ans
             client.begin();
             Answer::Done
         }
+        Call::Prepare => Answer::Prepared(client.prepare()),
         Call::Search => Answer::Search(client.search()),
         Call::LimitSteps(steps) => {
             client.limit_steps(steps);

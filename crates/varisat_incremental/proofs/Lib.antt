@@ -1,3 +1,4 @@
+pub mod BatchLemmas
 pub mod FlagLemmas
 pub mod StackLemmas
 pub mod TakingLemmas

@@ -1,2 +1,3 @@
+pub mod Batches
 pub mod Flags
 pub mod Reconstructions

@@ -2,6 +2,7 @@
 ghost use Rattle.std.specs.Prelude.{◌≡◌, ◌++◌, [], false, IsTrue, OnOk, IfOk};
 ghost use Rattle.varisat_rules.specs.promises.Stacks.{extended};
 ghost use Rattle.varisat_incremental.specs.Flags.{AreAmong};
+ghost use Rattle.varisat_incremental.specs.Batches.{BeginsBatch, EndsBatch};
 ghost use Rattle.varisat_incremental.specs.Reconstructions.{no_clauses, IsLedBy, AreLedBy, Takes, Restores, RestoresSome, BringsBack, Reduces, Saves, TakesRest};
 
 use crate::flags::{
@@ -15,7 +16,7 @@ use varisat_database::database::literals_in;
 use varisat_formula::formula::cnf::{CnfFormula, FormulaError};
 use varisat_literals::Lit;
 use varisat_simplify::clauses::ClauseList;
-use varisat_simplify::simplify::{Limits, simplify_with};
+use varisat_simplify::simplify::{Limits, Simplification, simplify_with};
 use varisat_simplify::stack::extend;
 
 /// A batch of fewer literals is not simplified, unless another count is set.
@@ -24,6 +25,9 @@ const LEAST_LITERALS: usize = 1000;
 /// A batch is simplified if its literals are at least this share of those that are there: a simplification goes through
 /// the flags of all variables, so that all simplifications together are linear in the literals that were ever taken.
 const SHARE: usize = 256;
+
+/// About how many literals a part of a simplification looks at: some milliseconds' work.
+const PART: u64 = 200_000;
 
 /// How often all literals that are there are read to restore variables, before all variables are restored at once.
 const MOST_READS: u64 = 256;
@@ -60,6 +64,34 @@ impl<A: Allocator + Copy> Model for Reconstruction<A> {
       eliminated = r.eliminated.items;
       frozen = r.frozen.items;
     } };
+}
+
+/// A batch that is being simplified in parts.
+#[derive(Drop)]
+pub struct Batch<A: Allocator + Copy> {
+    // The clauses that were restored as it was begun.
+    restored: CnfFormula<A>,
+    simplification: Simplification<A>,
+}
+
+impl<A: Allocator + Copy> Model for Batch<A> {
+    ghost use Rattle.varisat_incremental.specs.Batches as batches;
+
+    ghost Value = { batches.Batch };
+
+    ghost view = { λ b. record { restored = b.restored.clauses; simplification = b.simplification } };
+}
+
+impl<A: Allocator + Copy> Batch<A> {
+    ghost use Rattle.varisat_incremental.specs.Batches.{ContinuesBatch};
+
+    /// Does a part of the simplification. Returns whether a part is left to do.
+    pub fn go_on(&mut self) -> Result<bool, AllocError>
+        ensures { OnOk result (ContinuesBatch self.old self.new) }
+    {
+        let is_more = self.simplification.go_on(PART)?;
+        Ok(is_more)
+    }
 }
 
 /// Whether the first literal of the clause is of a flagged variable. An empty clause counts as such.
@@ -100,7 +132,7 @@ fn count_leads<A: Allocator + Copy>(stack: &ClauseList<A>) -> u64 {
 }
 
 /// Adds the clauses after the others.
-fn append<A: Allocator + Copy>(
+pub(crate) fn append<A: Allocator + Copy>(
     formula: &mut CnfFormula<A>,
     more: &CnfFormula<A>,
 ) -> Result<(), FormulaError>
@@ -354,6 +386,57 @@ impl<A: Allocator + Copy> Reconstruction<A> {
         drop(left);
         self.count_given(&given);
         Ok(given)
+    }
+
+    /// Whether the clauses are a batch that is worth a simplification.
+    pub fn is_batch(&self, formula: &CnfFormula<A>) -> bool {
+        self.is_worth(literals_in(formula))
+    }
+
+    /// Begins to simplify more clauses in parts, with literals that are to be assumed. Until the batch ends nothing else may be
+    /// taken.
+    pub fn begin(
+        &mut self,
+        formula: CnfFormula<A>,
+        assumed: &[Lit],
+    ) -> Result<Batch<A>, FormulaError>
+        ensures { IfOk result (λ o. BeginsBatch formula o self.old self.new) }
+    {
+        let keeps = self.keeps_stack();
+        self.note_named(&formula, assumed);
+        let restored = self.bring_back(&formula, assumed, keeps)?;
+        let limits = Limits::of_batch(literals_in(&formula));
+        let simplification = Simplification::begin(
+            self.alloc,
+            formula,
+            &self.frozen,
+            limits,
+            true,
+        )?;
+        Ok(Batch {
+            restored,
+            simplification,
+        })
+    }
+
+    /// Ends the simplification of a batch. Adds to the others the clauses that a solver is to be given: those that were
+    /// restored as it was begun, and what is left of its own.
+    pub fn end(&mut self, batch: Batch<A>, given: &mut CnfFormula<A>) -> Result<(), FormulaError>
+        ensures { OnOk result (EndsBatch batch given.old.clauses given.new.clauses self.old self.new) }
+    {
+        let Batch {
+            restored,
+            simplification,
+        } = batch;
+        let made = simplification.end()?;
+        drop(made.history);
+        self.save(&made.stack)?;
+        set_all_flags(&mut self.frozen, &made.formula)?;
+        append(given, &restored)?;
+        append(given, &made.formula)?;
+        self.count_given(&restored);
+        self.count_given(&made.formula);
+        Ok(())
     }
 
     /// Makes of values that satisfy the clauses that were returned values that satisfy those that were taken.

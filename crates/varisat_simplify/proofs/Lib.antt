@@ -1,4 +1,5 @@
 pub mod CountLemmas
 pub mod LoadLemmas
 pub mod NormalLemmas
+pub mod PartLemmas
 pub mod UnloadLemmas

@@ -197,11 +197,14 @@ pub fn eliminate<A: Allocator + Copy>(
 {
     let positive = var.positive();
     let negative = var.negative();
-    let lit = if db.count(positive) <= db.count(negative) {
-        positive
-    } else {
-        negative
-    };
+    let with = db.count(positive);
+    let against = db.count(negative);
+    limits.spend(
+        (with as u64)
+            .saturating_add(against as u64)
+            .saturating_add(1),
+    );
+    let lit = if with <= against { positive } else { negative };
     let done = eliminate_by(db, lit, limits, scratch)?;
     Ok(done)
 }

@@ -32,6 +32,8 @@ pub struct Limits {
     pub fewer_clauses: usize,
     /// Whether the simplification ends once it eliminates variables and no literal less is left.
     pub ends_without_gain: bool,
+    /// How much work the part may still take that is being done, counted as comparisons and resolvents are.
+    pub part: u64,
 }
 
 impl Limits {
@@ -52,6 +54,7 @@ impl Limits {
             resolvent_literals: 20,
             fewer_clauses: 0,
             ends_without_gain: false,
+            part: 0,
         }
     }
 
@@ -70,6 +73,7 @@ impl Limits {
             resolvent_literals: 4,
             fewer_clauses: 1,
             ends_without_gain: true,
+            part: 0,
         }
     }
 
@@ -78,9 +82,25 @@ impl Limits {
         db.literal_count() as u64 >= self.literals
     }
 
+    /// Begins a part that may take so much work.
+    pub fn begin_part(&mut self, work: u64) {
+        self.part = work;
+    }
+
+    /// Whether the work of the part is done.
+    pub fn is_part_done(&self) -> bool {
+        self.part == 0
+    }
+
+    /// Takes work off the part alone.
+    pub fn spend(&mut self, work: u64) {
+        self.part = self.part.saturating_sub(work);
+    }
+
     /// Takes off so many literals that are looked at to compare clauses.
     pub fn compare(&mut self, literals: usize) {
         self.comparisons = self.comparisons.saturating_sub(literals as u64);
+        self.spend(literals as u64);
     }
 
     /// Takes off so many pairs of literals, if as many are left. Returns whether they were.
@@ -89,6 +109,7 @@ impl Limits {
             return false;
         }
         self.resolvents -= pairs;
+        self.spend(pairs);
         true
     }
 

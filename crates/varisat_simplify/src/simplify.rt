@@ -1,8 +1,8 @@
 //! The simplification of a formula.
 ghost use Rattle.varisat_theory.specs.promises.Literals.{Assignment, SatisfiesAll};
-ghost use Rattle.std.specs.Prelude.{◌≡◌, ◌⊎◌, ℕ, ◌-◌, ◌/◌, ◌<◌, ◌≤◌, ◌^◌, true, min, length, take, OnOk, IfOk, IfErr, IsTrue};
+ghost use Rattle.std.specs.Prelude.{◌≡◌, ◌⊎◌, ℕ, Bool, List, ◌-◌, ◌/◌, ◌<◌, ◌≤◌, ◌^◌, true, min, length, take, OnOk, IfOk, IfErr, IsTrue};
 ghost use Rattle.varisat_formula.specs.declared.formula.cnf.FormulaError.TheVariants.{Memory};
-ghost use Rattle.varisat_formula.specs.promises.Formulas.{AllBelow, AreBelow};
+ghost use Rattle.varisat_formula.specs.promises.Formulas.{Formula, AllBelow, AreBelow};
 ghost use Rattle.varisat_database.specs.Databases.{no_clauses};
 ghost use Rattle.varisat_rules.specs.inside.States.{live_clauses, IsLaterState};
 ghost use Rattle.varisat_simplify.specs.inside.Loading.{IsLoaded};
@@ -17,6 +17,7 @@ use crate::normal::{MOST_SHORT, is_normal, normalize};
 use crate::propagate::propagate;
 use crate::subsume::subsume_from;
 use std::alloc::{AllocError, Allocator};
+use std::marker::Model;
 use varisat_database::clauses::ClauseList;
 use varisat_database::database::{Database, filled, literals_in};
 use varisat_database::history::History;
@@ -158,65 +159,142 @@ fn candidates<A: Allocator + Copy>(
     Ok(())
 }
 
-/// Tries each of the variables, and returns the place of the first clause that was not used on others.
+/// Tries the variables in turn until the part's work is done. Returns how many it tried, and the place of the first clause
+/// that was not used on others.
 fn eliminate_all<A: Allocator + Copy>(
     db: &mut Database<A>,
     order: &[u64],
     first: usize,
     limits: &mut Limits,
     scratch: &mut Scratch<A>,
-) -> Result<usize, AllocError>
+) -> Result<(usize, usize), AllocError>
     ensures { OnOk result (IsLaterState db.old db.new) }
 {
     let mut place = first;
+    let mut tried: usize = 0;
     for key in order {
+        if limits.is_part_done() {
+            return Ok((tried, place));
+        }
         let var = Var::from_index((*key % 0x8000_0000) as usize);
         if eliminate(db, var, limits, scratch)? {
             place = subsume_from(db, place, limits, scratch)?;
         }
+        tried = tried.saturating_add(1);
     }
-    Ok(place)
+    Ok((tried, place))
 }
 
-/// Whether fewer literals are left than before. It is set to what is left.
-fn is_gain<A: Allocator + Copy>(db: &Database<A>, before: &mut usize) -> bool {
-    let left = live_literals(db);
-    let is_less = left < *before;
-    *before = left;
-    is_less
+/// How far the rounds came in which variables are eliminated.
+#[derive(Drop)]
+struct Rounds<A: Allocator + Copy> {
+    // The variables of this round, by their costs, how many of them were tried, and how many are to be tried before the
+    // literals are counted again.
+    order: Vec<u64, A>,
+    tried: usize,
+    end: usize,
+    // How many rounds may still begin.
+    left: usize,
+    // The place of the first clause that was not used on others.
+    place: usize,
+    // How many literals there were when they were counted last.
+    literals: usize,
 }
 
-/// Tries the variables in parts, and returns the place of the first clause that was not used on others; or none, if a
-/// part took no literal away and the limits say that this is the end.
-fn eliminate_in_parts<A: Allocator + Copy>(
-    db: &mut Database<A>,
-    order: &[u64],
-    first: usize,
-    limits: &mut Limits,
-    scratch: &mut Scratch<A>,
-) -> Result<Option<usize>, AllocError>
-    ensures { OnOk result (IsLaterState db.old db.new) }
-{
-    let length = (order.len() / MOST_PARTS).max(LEAST_PART);
-    let mut place = first;
-    let mut start: usize = 0;
-    let mut before = if limits.ends_without_gain {
-        live_literals(db)
-    } else {
-        0
-    };
-    for _ in 0..MOST_PARTS + 1 {
-        if start >= order.len() {
-            return Ok(Some(place));
+impl<A: Allocator + Copy> Rounds<A> {
+    /// No round was begun. It takes no memory.
+    fn new_in(alloc: A) -> Rounds<A> {
+        Rounds {
+            order: Vec::new(alloc),
+            tried: 0,
+            end: 0,
+            left: MOST_ROUNDS,
+            place: 0,
+            literals: 0,
         }
-        let end = start.saturating_add(length).min(order.len());
-        place = eliminate_all(db, &order[start..end], place, limits, scratch)?;
-        if limits.ends_without_gain && !is_gain(db, &mut before) {
-            return Ok(None);
-        }
-        start = end;
     }
-    Ok(Some(place))
+
+    /// Sets after how many variables the literals are counted again.
+    fn move_end(&mut self) {
+        let length = (self.order.len() / MOST_PARTS).max(LEAST_PART);
+        self.end = self.tried.saturating_add(length).min(self.order.len());
+    }
+
+    /// Counts the literals, if the limits say that a simplification ends without gain. Returns whether they became fewer, or were
+    /// not counted.
+    fn is_gain(&mut self, db: &Database<A>, limits: &Limits) -> bool {
+        if !limits.ends_without_gain {
+            return true;
+        }
+        let before = self.literals;
+        self.literals = live_literals(db);
+        self.literals < before
+    }
+
+    /// Begins a round with the variables whose clauses changed. Returns whether there is one.
+    fn begin_round(&mut self, db: &mut Database<A>, limits: &Limits) -> Result<bool, AllocError>
+        ensures { db.new ≡ db.old }
+    {
+        if self.left == 0 {
+            return Ok(false);
+        }
+        self.left -= 1;
+        candidates(db, &mut self.order)?;
+        self.is_gain(db, limits);
+        self.tried = 0;
+        self.move_end();
+        Ok(!self.order.is_empty())
+    }
+
+    /// Tries variables until the part's work is done, or the literals are to be counted again.
+    fn try_some(
+        &mut self,
+        db: &mut Database<A>,
+        limits: &mut Limits,
+        scratch: &mut Scratch<A>,
+    ) -> Result<(), AllocError>
+        ensures { OnOk result (IsLaterState db.old db.new) }
+    {
+        let end = self.end.min(self.order.len());
+        let start = self.tried.min(end);
+        let (tried, place) = eliminate_all(
+            db,
+            &self.order[start..end],
+            self.place,
+            limits,
+            scratch,
+        )?;
+        self.tried = start.saturating_add(tried);
+        self.place = place;
+        Ok(())
+    }
+
+    /// Goes on until the part's work is done, a round begins, or the literals were counted again. Returns whether more is left
+    /// to do: nothing is once no variable is left whose clauses changed, as many rounds began as may, or a part of the variables
+    /// was no gain.
+    fn go_on(
+        &mut self,
+        db: &mut Database<A>,
+        limits: &mut Limits,
+        scratch: &mut Scratch<A>,
+    ) -> Result<bool, AllocError>
+        ensures { OnOk result (IsLaterState db.old db.new) }
+    {
+        self.place = subsume_from(db, self.place, limits, scratch)?;
+        if limits.is_part_done() {
+            return Ok(true);
+        }
+        if self.tried >= self.order.len() {
+            let is_begun = self.begin_round(db, limits)?;
+            return Ok(is_begun);
+        }
+        self.try_some(db, limits, scratch)?;
+        if self.tried < self.end {
+            return Ok(true);
+        }
+        self.move_end();
+        Ok(self.is_gain(db, limits))
+    }
 }
 
 /// Finds equal and failed literals, if the limits say so, and then lets eliminations add literals as long as the
@@ -235,52 +313,10 @@ fn find_equal<A: Allocator + Copy>(
     if limits.visits == 0 {
         return Ok(first);
     }
+    limits.begin_part(u64::MAX);
     let place = equate(db, alloc, first, limits, scratch)?;
     limits.room = (given - given / 20).saturating_sub(live_literals(db)) as u64;
     Ok(place)
-}
-
-/// Eliminates variables until nothing changes, or for so many rounds, or until the work is spent that the limits allow.
-/// `first` is the place of the first clause that was not used on others.
-fn eliminate_by_rounds<A: Allocator + Copy>(
-    db: &mut Database<A>,
-    first: usize,
-    limits: &mut Limits,
-    order: &mut Vec<u64, A>,
-    scratch: &mut Scratch<A>,
-) -> Result<(), AllocError>
-    ensures { OnOk result (IsLaterState db.old db.new) }
-{
-    let mut place = first;
-    for _ in 0..MOST_ROUNDS {
-        candidates(db, order)?;
-        if order.is_empty() {
-            return Ok(());
-        }
-        let part = eliminate_in_parts(db, order, place, limits, scratch)?;
-        let Some(next) = part else {
-            return Ok(());
-        };
-        place = next;
-    }
-    Ok(())
-}
-
-/// Simplifies the clauses, of which so many literals were given, within the limits.
-fn run<A: Allocator + Copy>(
-    db: &mut Database<A>,
-    alloc: A,
-    given: usize,
-    limits: &mut Limits,
-    order: &mut Vec<u64, A>,
-    scratch: &mut Scratch<A>,
-) -> Result<(), AllocError>
-    ensures { OnOk result (IsLaterState db.old db.new) }
-{
-    let first = subsume_from(db, 0, limits, scratch)?;
-    let place = find_equal(db, alloc, given, first, limits, scratch)?;
-    eliminate_by_rounds(db, place, limits, order, scratch)?;
-    Ok(())
 }
 
 /// The live clauses.
@@ -314,31 +350,6 @@ fn unload_first<A: Allocator + Copy>(
         formula.add_clause(db.clause(place))?;
     }
     Ok(formula)
-}
-
-/// Loads the formula and simplifies. Returns how many clauses were loaded: those at the first places.
-fn reduce<A: Allocator + Copy>(
-    alloc: A,
-    db: &mut Database<A>,
-    formula: CnfFormula<A>,
-    limits: &mut Limits,
-    order: &mut Vec<u64, A>,
-    scratch: &mut Scratch<A>,
-) -> Result<usize, AllocError>
-    requires empty { db.old ≡ no_clauses db.old.var_count db.old.frozen db.old.saves_both }
-    ensures reduced { IfOk result (λ count.
-        IsReduced formula.clauses db.old.var_count db.old.frozen db.old.saves_both count db.new) }
-    ensures room { IfOk result (λ count. count ≤ length db.new.clauses) }
-{
-    load(db, &formula, scratch)?;
-    drop(formula);
-    let count = db.len();
-    let given = db.literal_count();
-    propagate(db, alloc, limits, &mut scratch.literals)?;
-    db.list_all()?;
-    run(db, alloc, given, limits, order, scratch)?;
-    db.unlist();
-    Ok(count)
 }
 
 /// How many literals the clauses at the first places have, live or not.
@@ -444,6 +455,180 @@ fn positions_for<A: Allocator + Copy>(
     Ok(Vec::new(alloc))
 }
 
+/// What is done next.
+#[derive(Clone, Copy)]
+enum Stage {
+    // Clauses of one literal are used on the others.
+    Propagation,
+    // The places of clauses are listed by their literals.
+    Listing,
+    // Each clause is used on the others.
+    Subsumption,
+    // Equal and failed literals are found.
+    Equation,
+    // Variables are eliminated.
+    Elimination,
+}
+
+/// A simplification that is done in parts. What was not done yet stays as it is.
+#[derive(Drop)]
+pub struct Simplification<A: Allocator + Copy> {
+    alloc: A,
+    db: Database<A>,
+    // How many clauses were loaded: those at the first places. How many literals they have.
+    count: usize,
+    given: usize,
+    stage: Stage,
+    rounds: Rounds<A>,
+    limits: Limits,
+    scratch: Scratch<A>,
+}
+
+impl<A: Allocator + Copy> Model for Simplification<A> {
+    ghost use Rattle.varisat_simplify.specs.inside.Parts as parts;
+
+    ghost Value = { parts.Simplification };
+
+    ghost view = { λ s. record { database = s.db; loaded = s.count } };
+}
+
+/// Does what is next, and returns what is then, and whether more is left to do.
+fn advance<A: Allocator + Copy>(
+    alloc: A,
+    db: &mut Database<A>,
+    given: usize,
+    stage: Stage,
+    rounds: &mut Rounds<A>,
+    limits: &mut Limits,
+    scratch: &mut Scratch<A>,
+) -> Result<(Stage, bool), AllocError>
+    ensures { OnOk result (IsLaterState db.old db.new) }
+{
+    match stage {
+        Stage::Propagation => {
+            propagate(db, alloc, limits, &mut scratch.literals)?;
+            Ok((Stage::Listing, true))
+        }
+        Stage::Listing => {
+            db.list_all()?;
+            Ok((Stage::Subsumption, true))
+        }
+        Stage::Subsumption => {
+            rounds.place = subsume_from(db, rounds.place, limits, scratch)?;
+            if rounds.place < db.len() {
+                return Ok((Stage::Subsumption, true));
+            }
+            Ok((Stage::Equation, true))
+        }
+        Stage::Equation => {
+            rounds.place = find_equal(db, alloc, given, rounds.place, limits, scratch)?;
+            Ok((Stage::Elimination, true))
+        }
+        Stage::Elimination => {
+            let is_more = rounds.go_on(db, limits, scratch)?;
+            Ok((Stage::Elimination, is_more))
+        }
+    }
+}
+
+impl<A: Allocator + Copy> Simplification<A> {
+    ghost use Rattle.varisat_simplify.specs.inside.Parts.{IsBegunOf, GoesOn, IsSimplified};
+
+    /// Begins to simplify the formula, whose memory is given back. Variables that are flagged in `frozen` are not resolved away.
+    /// Where `saves_both` is true, the stack gets the clauses with either literal of an eliminated variable, so that the variable
+    /// can be restored with them. The only error is out of memory.
+    pub fn begin(
+        alloc: A,
+        formula: CnfFormula<A>,
+        frozen: &[bool],
+        limits: Limits,
+        saves_both: bool,
+    ) -> Result<Simplification<A>, AllocError>
+        ensures { IfOk result (λ s. IsBegunOf formula frozen.now saves_both s) }
+    {
+        let count = named_count(&formula);
+        let names = ShortNames::of_formula(alloc, &formula, count, literals_in(&formula))?;
+        let positions = positions_for(alloc, &formula, &names)?;
+        let mut db = Database::new_in(alloc, count, frozen, saves_both, names)?;
+        let mut scratch = Scratch {
+            literals: Vec::new(alloc),
+            with: Vec::new(alloc),
+            against: Vec::new(alloc),
+            positions,
+        };
+        load(&mut db, &formula, &mut scratch)?;
+        drop(formula);
+        let loaded = db.len();
+        let given = db.literal_count();
+        Ok(Simplification {
+            alloc,
+            db,
+            count: loaded,
+            given,
+            stage: Stage::Propagation,
+            rounds: Rounds::new_in(alloc),
+            limits,
+            scratch,
+        })
+    }
+
+    /// Does a part, which looks at about so many literals, but goes through all clauses if need be. Returns whether more is left
+    /// to do. After out of memory nothing is known of what is left.
+    pub fn go_on(&mut self, work: u64) -> Result<bool, AllocError>
+        ensures { OnOk result (GoesOn self.old self.new) }
+    {
+        self.limits.begin_part(work);
+        let (stage, is_more) = advance(
+            self.alloc,
+            &mut self.db,
+            self.given,
+            self.stage,
+            &mut self.rounds,
+            &mut self.limits,
+            &mut self.scratch,
+        )?;
+        self.stage = stage;
+        Ok(is_more)
+    }
+
+    /// Does all parts that are left.
+    fn complete(&mut self) -> Result<(), AllocError>
+        ensures { OnOk result (GoesOn self.old self.new) }
+    {
+        for _ in 0..u64::MAX {
+            if !self.go_on(u64::MAX)? {
+                return Ok(());
+            }
+        }
+        Ok(())
+    }
+
+    /// Returns what was made of the formula, whatever was done. The only error is out of memory.
+    pub fn end(self) -> Result<Simplified<A>, FormulaError>
+        ensures made { IfOk result (λ s. (f : Formula) (frozen : List Bool) (both : Bool) →
+            IsBegunOf f frozen both self → IsSimplified f frozen both s.formula s.stack s.history.lines) }
+        ensures memory { IfErr result (λ e. e ≡ Memory) }
+    {
+        let Simplification {
+            alloc,
+            mut db,
+            count,
+            given: _,
+            stage: _,
+            rounds,
+            limits: _,
+            scratch,
+        } = self;
+        drop(rounds);
+        drop(scratch);
+        db.unlist();
+        // There are fewer clauses only after a part that ran out of memory.
+        let loaded = count.min(db.len());
+        let made = finish(alloc, db, loaded)?;
+        Ok(made)
+    }
+}
+
 /// Makes a formula that has a model just where the given one has, and whose models are extended to ones of it. It
 /// counts the variables up to the highest that the given one names. Variables that are flagged in `frozen` are not
 /// resolved away, and no extension changes their values, those of variables that are left, or those of variables that
@@ -483,21 +668,8 @@ pub fn simplify_with<A: Allocator + Copy>(
         (a : Assignment) → SatisfiesAll a formula.clauses → SatisfiesAll a s.stack) }
     ensures memory { IfErr result (λ e. e ≡ Memory) }
 {
-    let count = named_count(&formula);
-    let names = ShortNames::of_formula(alloc, &formula, count, literals_in(&formula))?;
-    let positions = positions_for(alloc, &formula, &names)?;
-    let mut db = Database::new_in(alloc, count, frozen, saves_both, names)?;
-    let mut scratch = Scratch {
-        literals: Vec::new(alloc),
-        with: Vec::new(alloc),
-        against: Vec::new(alloc),
-        positions,
-    };
-    let mut order = Vec::new(alloc);
-    let mut left = limits;
-    let given = reduce(alloc, &mut db, formula, &mut left, &mut order, &mut scratch)?;
-    drop(order);
-    drop(scratch);
-    let made = finish(alloc, db, given)?;
+    let mut simplification = Simplification::begin(alloc, formula, frozen, limits, saves_both)?;
+    simplification.complete()?;
+    let made = simplification.end()?;
     Ok(made)
 }

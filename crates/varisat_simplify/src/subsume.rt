@@ -114,7 +114,8 @@ fn subsume_with<A: Allocator + Copy>(
     Ok(())
 }
 
-/// Uses each clause from the place on, those that are added meanwhile too, and returns the place behind the last.
+/// Uses each clause from the place on, those that are added meanwhile too, until the part's work is done. Returns the first
+/// place that is left, or that after the last one.
 pub fn subsume_from<A: Allocator + Copy>(
     db: &mut Database<A>,
     first: usize,
@@ -125,7 +126,7 @@ pub fn subsume_from<A: Allocator + Copy>(
 {
     let mut place = first;
     for _ in 0..u64::MAX {
-        if place >= db.len() {
+        if place >= db.len() || limits.is_part_done() {
             return Ok(place);
         }
         subsume_with(db, place, limits, scratch)?;

@@ -14,7 +14,8 @@ use Rattle.varisat_names.specs.declared.config.SolverConfigUpdate.{SolverConfigU
 use Rattle.varisat_solver.specs.inside.Representations.{Represents}
 use Rattle.varisat_formula.specs.promises.Values.{literals_from, model_values}
 use Rattle.varisat_rules.specs.promises.Stacks.{extended}
-use Rattle.varisat_incremental.specs.Reconstructions.{Reconstruction, HasTaken, KeepsValues}
+use Rattle.varisat_incremental.specs.Reconstructions.{KeepsValues}
+use Rattle.varisat_incremental.specs.Batches.{Batches, IsClosed, HasBegun}
 use Rattle.varisat_client.specs.inside.LiteralSets.{IsSetOf}
 use Rattle.varisat_client.specs.promises.Pasts.{ClientPast, IsUpToCounted}
 use Rattle.varisat_client.specs.declared.client.SearchEnd.{SearchEnd}
@@ -30,14 +31,15 @@ client_update = record no_update { reduce_locals_interval = Some 2000; luby_rest
 abbrev pub first_state : State
 first_state = with_update client_update (new_state false)
 
--- What the solver holds; the clauses that it was not given yet; what was eliminated; whether a clause ended or a search
--- was begun since the solver was given all; how many variables there are up to the highest that is counted; the clause
--- that is being given; the assumptions for the next search, and those of the search that was begun last; the literals of
--- the last model and of the last core, as sets; why a call was refused, if one was.
+-- What the solver holds; the clauses that it was not given yet; what was eliminated, and the batch that is being
+-- simplified; whether a clause ended or a search was begun since the solver was given all; how many variables there are
+-- up to the highest that is counted; the clause that is being given; the assumptions for the next search, and those of
+-- the search that was begun last; the literals of the last model and of the last core, as sets; why a call was refused,
+-- if one was.
 pub record Client : Type 0 where
   pub solver : Summary
   pub pending : List Clause
-  pub reconstruction : Reconstruction
+  pub batches : Batches
   pub is_changed : Bool
   pub var_count : ℕ
   pub clause : List Literal
@@ -96,32 +98,33 @@ pub record CountsUpTo (n : ℕ) (P : List Clause) (A : List Literal) (counted : 
   pub small : n ≤ variable_limit
 
 -- Of the clauses P some are pending. The others were taken, and the solver was given some clauses for them.
-pub record HasGiven (pending : List Clause) (r : Reconstruction) (P : List Clause) (A : List Literal)
+pub record HasGiven (pending : List Clause) (b : Batches) (P : List Clause) (A : List Literal)
     (made most : ℕ) (counted : List ℕ) (s : State) : Type 0 where
   pub taken : List Clause
   pub given : List Clause
   pub known : List ℕ
   pub whole : P ≡ taken ++ pending
-  pub reduced : HasTaken taken given r
+  pub reduced : HasBegun taken given b
   pub fits : WasGiven s given A made most
   pub among : CountsAmong s known
   pub within : known ⊆ counted
 
--- Where something changed since the last search no step was made since; else nothing is pending, and no extension
--- changes the assumptions.
-pub record IsSettled (is_changed : Bool) (pending : List Clause) (r : Reconstruction) (A : List Literal) (since : ℕ)
+-- Where something changed since the last search no step was made since; else nothing is pending, the solver was given
+-- what batches came to, and no extension changes the assumptions.
+pub record IsSettled (is_changed : Bool) (pending : List Clause) (b : Batches) (A : List Literal) (since : ℕ)
     (s : State) : Type 0 where
   pub fresh : is_changed ≡ true → since ≡ 0
   pub made : is_changed ≡ false → MadeFewSince s since
   pub all : is_changed ≡ false → pending ≡ []
-  pub keeps : is_changed ≡ false → KeepsValues A r.stack
+  pub closed : is_changed ≡ false → IsClosed b
+  pub keeps : is_changed ≡ false → KeepsValues A b.reconstruction.stack
 
 -- What is held stands for the past, where no call was refused.
 pub record HoldsPast (g : Client) (p : ClientPast) : Type 0 where
   pub state : State
   pub stands : Represents g.solver state
-  pub gave : HasGiven g.pending g.reconstruction p.clauses p.assumed p.steps p.limit p.counted state
-  pub settled : IsSettled g.is_changed g.pending g.reconstruction p.assumed p.since state
+  pub gave : HasGiven g.pending g.batches p.clauses p.assumed p.steps p.limit p.counted state
+  pub settled : IsSettled g.is_changed g.pending g.batches p.assumed p.since state
   pub counts : CountsUpTo g.var_count p.clauses p.assumed p.counted
   pub clause : g.clause ≡ p.clause
   pub assumptions : g.assumptions ≡ p.assumptions
@@ -153,7 +156,7 @@ pub data GivesPending (g h : Client) : Type 0 where
 
 -- the literals that are true in the extension of a model of the solver's clauses
 abbrev pub model_of_all : Client → List Literal → List Literal
-model_of_all g m = literals_from 0 (extended g.reconstruction.stack (model_values g.var_count m))
+model_of_all g m = literals_from 0 (extended g.batches.reconstruction.stack (model_values g.var_count m))
 
 -- memory ran out
 pub record RunsOutOfMemory (r : SearchEnd) (h : Client) : Type 0 where

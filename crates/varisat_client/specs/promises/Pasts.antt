@@ -96,6 +96,11 @@ pub data LimitsSteps (steps : ℕ) (p q : ClientPast) : Type 0 where
   Refused : p.refusal ≢ None → q ≡ p → LimitsSteps steps p q
   Limited : p.refusal ≡ None → q ≡ record p { limit = steps; since = 0 } → LimitsSteps steps p q
 
+-- A part of the clauses is simplified before they are searched, of which nothing is to be seen; or memory runs out.
+pub data Prepares (p q : ClientPast) : Type 0 where
+  Refused : Refuses [] false p q → Prepares p q
+  Prepared : q ≡ p → Prepares p q
+
 -- the variable is one of those up to the highest that is counted
 abbrev pub IsUpToCounted : List ℕ → ℕ → Type 0
 IsUpToCounted counted u = (v : ℕ) × (v ∈ counted) × (u ≤ v)

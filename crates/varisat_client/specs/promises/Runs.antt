@@ -1,6 +1,6 @@
 -- Calls of a client in turn with their answers.
 use Rattle.std.specs.Prelude.{◌≡◌, None, List, [], ◌∷◌}
-use Rattle.varisat_client.specs.promises.Pasts.{ClientPast, AddsNumber, AssumesNumber, Begins, LimitsSteps, IsSearchEnd, ReturnsValue, ReturnsFailed}
+use Rattle.varisat_client.specs.promises.Pasts.{ClientPast, AddsNumber, AssumesNumber, Begins, LimitsSteps, Prepares, IsSearchEnd, ReturnsValue, ReturnsFailed}
 use Rattle.varisat_client.specs.declared.session.Call.{Call}
 use Rattle.varisat_client.specs.declared.session.Answer.{Answer}
 use Rattle.varisat_client.specs.declared.session.Call.TheVariants as call
@@ -11,6 +11,7 @@ abbrev pub Makes : ClientPast → Call → Answer → ClientPast → Type 0
 Makes p (call.Add n) answer.Done q = AddsNumber n p q
 Makes p (call.Assume n) answer.Done q = AssumesNumber n p q
 Makes p call.Begin answer.Done q = Begins p q
+Makes p call.Prepare (answer.Prepared b) q = Prepares p q
 Makes p call.Search (answer.Search r) q = IsSearchEnd r p q
 Makes p (call.LimitSteps n) answer.Done q = LimitsSteps n p q
 Makes p (call.Value n) (answer.Value r) q = ReturnsValue n r p × (q ≡ p)

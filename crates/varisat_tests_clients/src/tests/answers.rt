@@ -10,6 +10,7 @@ use varisat_client::session::{Answer, Call, answers_of, make_call};
 fn number_of(answer: Answer) -> i32 {
     match answer {
         Answer::Done => 0,
+        Answer::Prepared(is_part) => is_part as i32,
         Answer::Search(SearchEnd::Satisfiable) => 10,
         Answer::Search(SearchEnd::Unsatisfiable) => 20,
         Answer::Search(SearchEnd::Interrupted) => 0,
@@ -28,12 +29,13 @@ fn number_of(answer: Answer) -> i32 {
 type Row = &'static [(Call, i32)];
 
 // Nothing was asked yet: there is no model, no core and no refusal.
-const NEW: [(Call, i32); 7] = [
+const NEW: [(Call, i32); 8] = [
     (Value(1), 0),
     (HasFailed(1), 0),
     (Call::Refusal, 0),
     (Assume(0), 0),
     (Begin, 0),
+    (Call::Prepare, 0),
     (Search, 10),
     (Value(1), 0),
 ];

@@ -16,6 +16,9 @@ returns-in-Assume g c p st = let f : SFits w32 c.in-Assume.number = search rules
 pub returns-in-Begin : goal.returns-in-Begin
 returns-in-Begin g c p st = rw c.in-Begin.is (c.begin.ensures p st)
 
+pub returns-in-Prepare : goal.returns-in-Prepare
+returns-in-Prepare g c p st = rw c.in-Prepare.is (c.prepare.ensures p st)
+
 pub returns-in-Search : goal.returns-in-Search
 returns-in-Search g c p st = rw c.in-Search.is (c.search.ensures p st)
 

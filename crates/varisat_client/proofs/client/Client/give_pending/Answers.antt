@@ -1,7 +1,7 @@
 use Rattle.std.proofs.Common.{List, Some, Err, inl, refl, sym, subst, ap, ◌∙◌}
 use Rattle.varisat_theory.specs.promises.Literals.{Literal, Clause}
 use Rattle.varisat_formula.specs.promises.Formulas.{Formula}
-use Rattle.varisat_incremental.specs.Reconstructions.{Takes}
+use Rattle.varisat_incremental.specs.Batches.{TakesAll}
 use Rattle.varisat_client.specs.declared.refusal.Refusal.TheVariants.{OutOfMemory}
 use Rattle.varisat_client.specs.inside.Refusals.{store_refusal_for}
 use Rattle.varisat_client.specs.inside.Clients.{Given, OutOfRoom}
@@ -15,10 +15,10 @@ returns-in_default g c = λ changed free. OutOfRoom OutOfMemory refl (inl refl)
 pub returns-in-Ok-add_formula : goal.returns-in-Ok-add_formula
 returns-in-Ok-add_formula g c =
     let G = c.in-Ok.formula.clauses in
-    let before = c.self.inside.reconstruction in
+    let before = c.self.inside.batches in
     let after = c.take.new.self in
-    let takes = subst (λ (F : List Clause). Takes F c.self.inside.assumed.items G before after) (ap (λ (f : Formula). f.clauses) c.replace-pending.ensures.value)
-    (subst (λ (A : List Literal). Takes c.replace-pending.result.clauses A G before after) c.deref.ensures.value (c.in-Ok.ensures {u = tt})) in
+    let takes = subst (λ (F : List Clause). TakesAll F c.self.inside.assumed.items G before after) (ap (λ (f : Formula). f.clauses) c.replace-pending.ensures.value)
+    (subst (λ (A : List Literal). TakesAll c.replace-pending.result.clauses A G before after) c.deref.ensures.value (c.in-Ok.ensures {u = tt})) in
     rw (← c.self.view_is) (λ changed free. Given free refl
     (gives-pending _ _ c.add_formula.new.self after G changed takes c.in-Ok-add_formula.ensures.call
     (ap (λ (f : Formula). f.clauses) (c.replace-pending.ensures.after ∙ c.new_in.ensures)) refl))

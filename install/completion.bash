@@ -4,12 +4,12 @@ _varisat() {
   COMPREPLY=()
   case $COMP_CWORD:${COMP_WORDS[1]}:$before in
     1:*) choices="solve check session --help --version" files=1 ;;
-    *:--max-steps | *:--heap) return ;;
+    *:--max-steps | *:-t | *:--heap) return ;;
     *:--proof | *:--output) ;;
     *:check:*) choices="--drat --binary --marked --heap" ;;
     2:session:*) choices="--help" ;;
     *:session:*) ;;
-    *) choices="--proof --binary --marked --check --max-steps --heap --simplify --no-simplify --progress --statistics --output --wrap -n -q -v" ;;
+    *) choices="--proof --binary --marked --check --max-steps --heap --simplify --no-simplify --progress --statistics --output --wrap -n -q -t -v" ;;
   esac
   [[ $COMP_CWORD != 2 || $choices == --help ]] || choices+=" --help"
   if [[ $word == -* || $COMP_CWORD == 1 ]]; then

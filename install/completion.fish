@@ -9,6 +9,7 @@ complete -c varisat -n "__fish_seen_subcommand_from session" -f
 complete -c varisat -n "not __fish_seen_subcommand_from check session" -l proof -r -F -d "write a DRAT proof to a file"
 complete -c varisat -n "not __fish_seen_subcommand_from check session" -l check -d "have a checker inside the solver check each step"
 complete -c varisat -n "not __fish_seen_subcommand_from check session" -l max-steps -x -d "give up after so many steps"
+complete -c varisat -n "not __fish_seen_subcommand_from check session" -s t -x -d "give up after so many seconds of CPU time"
 complete -c varisat -n "not __fish_seen_subcommand_from session" -l heap -x -d "give the solver or the checker so many bytes of memory"
 complete -c varisat -n "not __fish_seen_subcommand_from check session" -l no-simplify -d "search the formula as it is"
 complete -c varisat -n "not __fish_seen_subcommand_from check session" -l progress -d "show how far the search is"

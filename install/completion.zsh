@@ -21,7 +21,8 @@ _varisat() {
       _arguments '--help[print more about solve]' \
         '--proof[write a DRAT proof to a file]:proof:_files' '(--marked)--binary[write the proof in the binary format]' \
         '(--binary)--marked[write the proof as marked text]' '--check[have a checker inside the solver check each step]' \
-        '--max-steps[give up after so many steps]:steps:' '--heap[give the solver so many bytes of memory]:bytes:' \
+        '--max-steps[give up after so many steps]:steps:' '-t[give up after so many seconds of CPU time]:seconds:' \
+        '--heap[give the solver so many bytes of memory]:bytes:' \
         '(--no-simplify)--simplify[simplify the formula however short it is]' '(--simplify)--no-simplify[search the formula as it is]' \
         '(-q)--progress[show how far the search is]' '(--progress -v --statistics)-q[show nothing on standard error but faults]' \
         '(-q)'{-v,--statistics}'[show what was counted and timed]' '--output[write the verdict to a file]:verdict:_files' \

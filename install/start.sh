@@ -47,7 +47,7 @@ tell_version() {
 # Whether the word behind such an option is its value.
 takes_value() {
   case $1 in
-    --proof | --output | --max-steps | --heap) ;;
+    --proof | --output | --max-steps | -t | --heap) ;;
     *) return 1 ;;
   esac
 }

@@ -25,6 +25,7 @@ options of solve, at any place behind it, each at most once; a value may follow 
     --marked         write it as marked text, with the clauses of FILE
     --check          have each step of the search checked
     --max-steps N    give up after N steps
+    -t SECONDS       give up after so many seconds of CPU time
     --heap BYTES     give the solver so many bytes of memory
     --simplify       simplify the formula first, however short it is
     --no-simplify    search the formula as it is, however long it is
@@ -53,7 +54,7 @@ more is simplified first, a shorter one is searched as it is. Prints one of
 
     s SATISFIABLE      exit code 10; a line v with the literals of a model and 0 follows
     s UNSATISFIABLE    exit code 20
-    s UNKNOWN          exit code 0; the steps of --max-steps were spent
+    s UNKNOWN          exit code 0; the steps of --max-steps were spent, or the time of -t
 
 Options, at any place behind solve or FILE, each at most once. A value may follow = too, as in --proof=P.
 A number N or BYTES may have a unit: k, M and G are 1000, 1000000 and 1000000000 steps, and 1024 bytes,
@@ -66,6 +67,8 @@ A number N or BYTES may have a unit: k, M and G are 1000, 1000000 and 1000000000
                      and not with --binary
     --check          have a checker inside the solver check each step; takes several times as long
     --max-steps N    make at most N steps, of which each ends with a conflict or an answer
+    -t SECONDS       make no further step once the process took so many seconds of CPU time, which is asked
+                     for after reading, after simplifying, and several times a second in the search
     --heap BYTES     give the solver a heap of so many bytes, from 4096, and no other memory; where it is
                      full: error: Out of memory, exit code 2
     --simplify       simplify the formula first, however short it is; not with --no-simplify or --marked
@@ -74,7 +77,7 @@ A number N or BYTES may have a unit: k, M and G are 1000, 1000000 and 1000000000
                      then, every 10000 steps and at the end: steps, conflicts, decisions,
                      propagations and restarts so far; variables that are not fixed; clauses of two
                      literals, given ones, and learned ones to keep (core), to keep if used (mid), or to
-                     drop by and by (local)
+                     drop by and by (local); with -t only what was counted, once a second and at the end
     -v, --statistics
                      show on standard error how many milliseconds reading, simplifying, the search and the end
                      of the proof took; steps, conflicts, decisions, propagations, restarts, literals of

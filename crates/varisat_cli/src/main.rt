@@ -5,7 +5,7 @@ ghost use Rattle.std.specs.Prelude.{◌≡◌, ◌≢◌, ◌↔◌, ◌⊎◌, 
 ghost use Rattle.std.specs.Fs.{file_type, IsDir};
 ghost use Rattle.varisat.specs.promises.Decided.{StatusIsTrue};
 ghost use Rattle.varisat.specs.promises.Proven.{CanCountFault, taken_by_writer};
-ghost use Rattle.varisat_solve.specs.promises.Solving.{SolvesFirst};
+ghost use Rattle.varisat_solve.specs.promises.Timing.{SolvesInTime};
 ghost use Rattle.varisat_proof.specs.promises.Verified.{GivesUnsatisfiable, EndsDrat, EndsCheck, sources_of, fault_status};
 
 mod help;
@@ -342,7 +342,7 @@ fn decide_in_heap<R: Read + Drop, T: ProofTarget, E: Write>(
     requires room { CanCountFault taken_by_writer proof.old }
     requires out_faults { (T.taken out.old).faults < 2 ^ 64 - 1 }
     ensures truth { StatusIsTrue cnf.old cnf.new result }
-    ensures outcome { SolvesFirst taken_by_writer options cnf.old cnf.new proof.old proof.new
+    ensures outcome { SolvesInTime taken_by_writer options cnf.old cnf.new proof.old proof.new
         (T.taken out.old) (T.taken out.new) result
         ⊎ ((result ≡ fault_status) × (T.taken out.new ≡ T.taken out.old)) }
 {

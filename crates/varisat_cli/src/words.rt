@@ -3,6 +3,7 @@
 ghost use Rattle.std.specs.Prelude.{◌≡◌, MatchBool};
 
 use crate::help::{CHECK_HELP, HELP, SESSION_HELP, SOLVE_HELP, VERSION};
+use varisat::line::parse_number;
 use varisat::program::SolveOptions;
 use varisat::proof::ProofFormat;
 use varisat_solve::program::{ModelLines, ProgramOptions, Simplification};
@@ -118,10 +119,12 @@ const SHORT_FLAGS: [&str; 3] = ["-q", "-n", "-v"];
 
 const SOLVE_VALUES: [&str; 4] = ["--proof", "--output", "--max-steps", "--heap"];
 
+const SHORT_VALUES: [&str; 1] = ["-t"];
+
 // The files and options of `solve`: where the formula is, where a proof goes and where the verdict, whether the proof is
 // binary or marked, whether the search is checked, whether it is reported how far it is, or nothing is, whether it is counted
-// and timed, whether a model is not to be printed, or in short lines, whether the formula is simplified, a limit of steps, and
-// the size of the solver's heap.
+// and timed, whether a model is not to be printed, or in short lines, whether the formula is simplified, limits of steps and of
+// seconds of CPU time, and the size of the solver's heap.
 #[derive(Clone, Copy)]
 pub struct SolveWords<'a> {
     cnf: Option<&'a str>,
@@ -138,6 +141,7 @@ pub struct SolveWords<'a> {
     is_wrapped: bool,
     simplification: Option<Simplification>,
     max_steps: Option<u64>,
+    max_seconds: Option<u64>,
     pub heap: Option<usize>,
 }
 
@@ -159,6 +163,7 @@ impl<'a> SolveWords<'a> {
             is_wrapped: false,
             simplification: None,
             max_steps: None,
+            max_seconds: None,
             heap: None,
         }
     }
@@ -174,7 +179,7 @@ impl<'a> SolveWords<'a> {
                     self.set(name, word)?;
                     option = None;
                 }
-                None if is_among(word, &SOLVE_VALUES) => option = Some(word),
+                None if has_value(word) => option = Some(word),
                 None => self.take(word)?,
             }
         }
@@ -187,7 +192,7 @@ impl<'a> SolveWords<'a> {
     // Takes a word that is not the value of the one before it.
     fn take(&mut self, word: &'a str) -> Result<(), Mistake<'a>> {
         if let Some((name, value)) = word.split_once('=') {
-            if is_among(name, &SOLVE_VALUES) {
+            if has_value(name) {
                 return self.set(name, value);
             }
         }
@@ -238,6 +243,10 @@ impl<'a> SolveWords<'a> {
                 Some(steps) => self.max_steps = Some(steps),
                 None => return Err(Mistake::WrongValue(option, value)),
             },
+            "-t" if self.max_seconds.is_none() => match parse_number(value.as_bytes()) {
+                Some(seconds) => self.max_seconds = Some(seconds),
+                None => return Err(Mistake::WrongValue(option, value)),
+            },
             "--heap" if self.heap.is_none() => match heap_size(value) {
                 Some(bytes) => self.heap = Some(bytes),
                 None => return Err(Mistake::WrongValue(option, value)),
@@ -282,6 +291,7 @@ impl<'a> SolveWords<'a> {
             simplification: self.simplification.unwrap_or(Simplification::IfLong),
             counts: self.is_counted,
             model_lines: model_lines(self.hides_model, self.is_wrapped),
+            max_seconds: self.max_seconds,
         }
     }
 }
@@ -298,6 +308,11 @@ fn model_lines(is_hidden: bool, is_wrapped: bool) -> ModelLines
     } else {
         ModelLines::One
     }
+}
+
+// Whether the option of `solve` is one that has a value.
+fn has_value(option: &str) -> bool {
+    is_among(option, &SOLVE_VALUES) || is_among(option, &SHORT_VALUES)
 }
 
 // The option of `solve` that a word may have meant.

@@ -6,3 +6,6 @@ pub mod DecidedBehind
 pub mod SimplifiedTexts
 mod ShownTexts
 mod WrappedTexts
+mod SpentRounds
+mod LimitedSteps
+mod TimedOptions

@@ -2,3 +2,4 @@
 pub mod Extending
 pub mod Wrapping
 pub mod Solving
+pub mod Timing

@@ -7,20 +7,20 @@ ghost use Rattle.varisat_solver.specs.inside.Representations.{Represents};
 ghost use Rattle.varisat.specs.promises.Decided.{Decided, concluded, allowed_steps};
 ghost use Rattle.varisat.specs.promises.Proven.{CanCountFault, prepared, DecidesBy};
 ghost use Rattle.varisat_solve.specs.promises.Extending.{conclusion_of_all};
+ghost use Rattle.varisat_solve.specs.promises.Timing.{IsLimitInTime, IsInTime};
 ghost use Rattle.varisat_solve.specs.promises.Solving.{AreLow, Concluded, line_refusal, TakesLead, SearchesOver, SearchesSimplified, SearchesFirst, FailsOver, FailsSimplified, FailsFirst};
 
 use crate::lines::write_history;
 use crate::models::{extend_model, named_count};
-use crate::options::{ProgramOptions, is_parsed_first, is_simplified};
+use crate::options::{ProgramOptions, is_parsed_first, is_simplified, options_left};
+use crate::rounds::find_within;
 use crate::watch::Watch;
 use std::alloc::Allocator;
 use std::io::Write;
 use std::mem::forget;
-use std::time::Clock;
+use std::time::{Clock, CpuClock};
 use varisat::CnfFormula;
-use varisat::deciding::{
-    Report, SolveOptions, close, decide_text, find_report, new_solver, prepare,
-};
+use varisat::deciding::{Report, SolveOptions, close, decide_text, new_solver, prepare};
 use varisat::dimacs::DimacsParser;
 use varisat::io::{ByteSource, ProofTarget};
 use varisat::proof::{ProofFormat, WriteError};
@@ -30,27 +30,30 @@ use varisat_simplify::history::History;
 use varisat_simplify::simplify::{Simplified, simplify};
 
 /// Decides a DIMACS CNF text. Its formula may be simplified before it is searched: the options say which formulas are. Where
-/// the work is to be counted and timed the formula is read before the solver takes it.
-pub fn decide<W: ProofTarget, A: Allocator + Copy, S: ByteSource, E: Write, C: Clock>(
+/// the work is to be counted and timed, or the time is limited, the formula is read before the solver takes it. Once the time
+/// is spent nothing is simplified and no step is made: the options become those to which the work was kept.
+pub fn decide<W: ProofTarget, A: Allocator + Copy, S: ByteSource, E: Write, C: Clock + CpuClock>(
     alloc: A,
     cnf: &mut S,
     target: &mut Option<W>,
-    options: ProgramOptions,
+    options: &mut ProgramOptions,
     watch: &Watch<'_, C>,
     err: &mut E,
 ) -> Result<Report<A>, SolverError>
     requires faults { (S.input cnf.old).faults < 2 ^ 64 - 1 }
     requires room { CanCountFault W.taken target.old }
+    requires timed { watch.now.max_seconds ≡ options.old.max_seconds }
+    ensures kept { IsInTime options.old options.new }
     ensures decided { IfOk result
         (λ report.
-        DecidesBy W.taken options.search (S.input cnf.old) (S.input cnf.new) target.old target.new (concluded report)) }
+        DecidesBy W.taken options.new.search (S.input cnf.old) (S.input cnf.new) target.old target.new (concluded report)) }
     ensures searched { IfOk result
         (λ report.
-        SearchesFirst W.taken options target.old (S.input cnf.old) (S.input cnf.new) (concluded report)) }
+        SearchesFirst W.taken options.new target.old (S.input cnf.old) (S.input cnf.new) (concluded report)) }
     ensures fails { IfErr result
-        (λ error. FailsFirst W.taken options target.old (S.input cnf.old) (S.input cnf.new) error) }
+        (λ error. FailsFirst W.taken options.new target.old (S.input cnf.old) (S.input cnf.new) error) }
 {
-    if !is_parsed_first(options) {
+    if !is_parsed_first(*options) {
         return decide_text(alloc, cnf, target, options.search, err);
     }
     let start = watch.start();
@@ -59,10 +62,14 @@ pub fn decide<W: ProofTarget, A: Allocator + Copy, S: ByteSource, E: Write, C: C
         Err(fault) => return Err(SolverError::from_text(fault)),
     };
     watch.tell(err, "read_milliseconds", start);
-    if is_simplified(options, &formula) {
-        decide_simplified(alloc, formula, target, options.search, watch, err)
+    *options = options_left(*options, watch.is_spent());
+    let is_long = is_simplified(*options, &formula);
+    let search = options.search;
+    let max_steps = &mut options.search.max_steps;
+    if is_long {
+        decide_simplified(alloc, formula, target, search, max_steps, watch, err)
     } else {
-        decide_formula(alloc, formula, target, options.search, watch, err)
+        decide_formula(alloc, formula, target, search, max_steps, watch, err)
     }
 }
 
@@ -77,25 +84,29 @@ fn refuse_line(fault: WriteError) -> SolverError
 }
 
 /// Decides a text's formula, which is simplified first. The lines that lead to what it is made into come before those of the
-/// search.
-fn decide_simplified<W: ProofTarget, A: Allocator + Copy, E: Write, C: Clock>(
+/// search. The limit of steps is lowered to those that were allowed when the time was spent.
+fn decide_simplified<W: ProofTarget, A: Allocator + Copy, E: Write, C: Clock + CpuClock>(
     alloc: A,
     formula: CnfFormula<A>,
     target: &mut Option<W>,
     options: SolveOptions,
+    max_steps: &mut Option<u64>,
     watch: &Watch<'_, C>,
     err: &mut E,
 ) -> Result<Report<A>, SolverError>
     requires room { CanCountFault W.taken target.old }
     requires plain { has_marks options.format ≡ false }
     requires low { AreLow formula.clauses }
+    ensures limit { IsLimitInTime watch.now.max_seconds max_steps.old max_steps.new }
     ensures decided { IfOk result
         (λ report.
-        Concluded W.taken options.format (allowed_steps options.max_steps) formula.clauses target.old target.new
+        Concluded W.taken options.format (allowed_steps max_steps.new) formula.clauses target.old target.new
         (concluded report)) }
     ensures searched { IfOk result
-        (λ report. SearchesSimplified W.taken options target.old formula (concluded report)) }
-    ensures fails { IfErr result (λ error. FailsSimplified W.taken options target.old formula error) }
+        (λ report.
+        SearchesSimplified W.taken (record options { max_steps = max_steps.new }) target.old formula (concluded report)) }
+    ensures fails { IfErr result (λ error.
+        FailsSimplified W.taken (record options { max_steps = max_steps.new }) target.old formula error) }
 {
     let count = named_count(&formula);
     let made = simplify_reporting(alloc, formula, options.progress.is_some(), watch, err)?;
@@ -105,13 +116,13 @@ fn decide_simplified<W: ProofTarget, A: Allocator + Copy, E: Write, C: Clock>(
         history,
     } = made;
     write_lead(alloc, history, target, options.format)?;
-    let report = decide_formula(alloc, formula, target, options, watch, err)?;
+    let report = decide_formula(alloc, formula, target, options, max_steps, watch, err)?;
     let report = extend_report(alloc, &stack, report, count)?;
     Ok(report)
 }
 
 /// Simplifies a formula, of which no variable is frozen. What is left of it is reported on `err`, if that is wanted.
-fn simplify_reporting<A: Allocator + Copy, E: Write, C: Clock>(
+fn simplify_reporting<A: Allocator + Copy, E: Write, C: Clock + CpuClock>(
     alloc: A,
     formula: CnfFormula<A>,
     is_reported: bool,
@@ -184,33 +195,36 @@ fn prove_few<A: Allocator + Copy>(formula: &CnfFormula<A>)
     let _count = formula.len();
 }
 
-/// Decides a formula as it is, by a new solver. If all went well the solver's memory is kept, as by `decide_text`.
-fn decide_formula<W: ProofTarget, A: Allocator + Copy, E: Write, C: Clock>(
+/// Decides a formula as it is, by a new solver. The limit of steps is lowered to those that were allowed when the time was
+/// spent. If all went well the solver's memory is kept, as by `decide_text`.
+fn decide_formula<W: ProofTarget, A: Allocator + Copy, E: Write, C: Clock + CpuClock>(
     alloc: A,
     formula: CnfFormula<A>,
     target: &mut Option<W>,
     options: SolveOptions,
+    max_steps: &mut Option<u64>,
     watch: &Watch<'_, C>,
     err: &mut E,
 ) -> Result<Report<A>, SolverError>
     requires room { CanCountFault W.taken target.old }
     requires low { AreLow formula.clauses }
+    ensures limit { IsLimitInTime watch.now.max_seconds max_steps.old max_steps.new }
     ensures decided { IfOk result
         (λ report.
-        Concluded W.taken options.format (allowed_steps options.max_steps) formula.clauses target.old target.new
+        Concluded W.taken options.format (allowed_steps max_steps.new) formula.clauses target.old target.new
         (concluded report)) }
     ensures searched { IfOk result
         (λ report.
         SearchesOver
-        (prepared W.taken options.format options.check options.max_steps target.old) formula.clauses (concluded report)) }
+        (prepared W.taken options.format options.check max_steps.new target.old) formula.clauses (concluded report)) }
     ensures fails { IfErr result
         (λ error.
         FailsOver W.taken
-        (prepared W.taken options.format options.check options.max_steps target.old) formula.clauses error) }
+        (prepared W.taken options.format options.check max_steps.new target.old) formula.clauses error) }
 {
     prove_few(&formula);
     let mut solver: Solver<W, A> = new_solver(alloc, options.check);
-    let report = decide_in(&mut solver, formula, target, options, watch, err);
+    let report = decide_in(&mut solver, formula, target, options, max_steps, watch, err);
     match report {
         Ok(report) => {
             forget(solver);
@@ -223,12 +237,14 @@ fn decide_formula<W: ProofTarget, A: Allocator + Copy, E: Write, C: Clock>(
     }
 }
 
-/// Decides a formula by the solver, which is new, and inside which a checker runs if the options ask for one.
-fn decide_in<W: ProofTarget, A: Allocator + Copy, E: Write, C: Clock>(
+/// Decides a formula by the solver, which is new, and inside which a checker runs if the options ask for one, with a limit
+/// of steps in place of that of the options. It is lowered to those that were allowed when the time was spent.
+fn decide_in<W: ProofTarget, A: Allocator + Copy, E: Write, C: Clock + CpuClock>(
     solver: &mut Solver<W, A>,
     formula: CnfFormula<A>,
     target: &mut Option<W>,
     options: SolveOptions,
+    max_steps: &mut Option<u64>,
     watch: &Watch<'_, C>,
     err: &mut E,
 ) -> Result<Report<A>, SolverError>
@@ -237,24 +253,29 @@ fn decide_in<W: ProofTarget, A: Allocator + Copy, E: Write, C: Clock>(
     requires room { CanCountFault W.taken target.old }
     requires low { AreLow formula.clauses }
     requires few { length formula.clauses < 2 ^ 64 }
+    ensures limit { IsLimitInTime watch.now.max_seconds max_steps.old max_steps.new }
     ensures decided { IfOk result
         (λ report.
-        Concluded W.taken options.format (allowed_steps options.max_steps) formula.clauses target.old target.new
+        Concluded W.taken options.format (allowed_steps max_steps.new) formula.clauses target.old target.new
         (concluded report)) }
     ensures searched { IfOk result
         (λ report.
         SearchesOver
-        (prepared W.taken options.format options.check options.max_steps target.old) formula.clauses (concluded report)) }
+        (prepared W.taken options.format options.check max_steps.new target.old) formula.clauses (concluded report)) }
     ensures fails { IfErr result
         (λ error.
         FailsOver W.taken
-        (prepared W.taken options.format options.check options.max_steps target.old) formula.clauses error) }
+        (prepared W.taken options.format options.check max_steps.new target.old) formula.clauses error) }
 {
-    prepare(solver, target.take(), options);
+    let asked = SolveOptions {
+        max_steps: *max_steps,
+        ..options
+    };
+    prepare(solver, target.take(), asked);
     solver.add_formula(&formula)?;
     drop(formula);
     let search_start = watch.start();
-    let report = find_report(solver, options.progress, err)?;
+    let report = find_within(solver, max_steps, options.progress, watch, err)?;
     watch.tell(err, "search_milliseconds", search_start);
     watch.tell_counts(err, solver.steps(), &solver.statistics());
     let proof_start = watch.start();

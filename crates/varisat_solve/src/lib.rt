@@ -5,6 +5,8 @@ pub mod deciding;
 pub mod lines;
 pub mod models;
 pub mod options;
+pub mod pace;
 pub mod program;
+pub mod rounds;
 pub mod watch;
 pub mod wrapping;

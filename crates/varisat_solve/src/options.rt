@@ -2,6 +2,7 @@
 ghost use Rattle.std.specs.Prelude.{◌≡◌, nat_le, false};
 ghost use Rattle.varisat_simplify.specs.promises.Simplified.{literal_count};
 ghost use Rattle.varisat_solve.specs.promises.Solving.{is_simplified, may_simplify};
+ghost use Rattle.varisat_solve.specs.promises.Timing.{options_left};
 
 use std::alloc::Allocator;
 use varisat::CnfFormula;
@@ -44,6 +45,8 @@ pub struct ProgramOptions {
     pub counts: bool,
     /// How a model that is found is printed.
     pub model_lines: ModelLines,
+    /// After how many seconds of CPU time no further step is made, if the time is limited.
+    pub max_seconds: Option<u64>,
 }
 
 /// Whether these options let any formula be simplified: they do not ask for none, and not for a proof as marked text.
@@ -58,15 +61,32 @@ pub fn may_simplify(options: ProgramOptions) -> bool
     }
 }
 
-/// Whether the formula is read from the text before a solver takes it: where it may be simplified, and where that is timed.
-/// Elsewhere a solver takes the text, and the formula is nowhere else.
+/// Whether the formula is read from the text before a solver takes it: where it may be simplified, and where that is timed,
+/// or the time is limited. Elsewhere a solver takes the text, and the formula is nowhere else.
 pub fn is_parsed_first(options: ProgramOptions) -> bool
     ensures { result ≡ false → may_simplify options ≡ false }
 {
-    if options.counts {
+    if options.counts || options.max_seconds.is_some() {
         return true;
     }
     may_simplify(options)
+}
+
+/// These options; or, once the time is spent, those that let nothing be simplified and no step be made.
+pub fn options_left(options: ProgramOptions, is_spent: bool) -> ProgramOptions
+    ensures { result ≡ options_left options is_spent }
+{
+    if !is_spent {
+        return options;
+    }
+    ProgramOptions {
+        search: SolveOptions {
+            max_steps: Some(0),
+            ..options.search
+        },
+        simplification: Simplification::Never,
+        ..options
+    }
 }
 
 /// Whether the formula is simplified before it is searched.

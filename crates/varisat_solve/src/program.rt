@@ -4,7 +4,8 @@ ghost use Rattle.varisat_formula.specs.promises.Written.{Puts};
 ghost use Rattle.varisat.specs.promises.Decided.{StatusIsTrue, concluded};
 ghost use Rattle.varisat.specs.promises.Proven.{CanCountFault};
 ghost use Rattle.varisat_proof.specs.promises.Verified.{fault_status};
-ghost use Rattle.varisat_solve.specs.promises.Solving.{SolvesFirst, shown_text};
+ghost use Rattle.varisat_solve.specs.promises.Solving.{shown_text};
+ghost use Rattle.varisat_solve.specs.promises.Timing.{SolvesInTime};
 
 use crate::deciding::decide;
 pub use crate::options::{ModelLines, ProgramOptions, Simplification};
@@ -12,7 +13,7 @@ use crate::watch::Watch;
 use crate::wrapping::print_wrapped;
 use std::alloc::Allocator;
 use std::io::{self, Write};
-use std::time::Clock;
+use std::time::{Clock, CpuClock};
 use varisat::dimacs::{DimacsError, DimacsErrorKind};
 use varisat::io::{ByteSource, ProofTarget};
 pub use varisat::program::SolveOptions;
@@ -27,13 +28,16 @@ use varisat_proof::program::print_text;
 /// same steps, model and proof. With `progress` it is reported on `err` what simplifying left, and how long it took; with
 /// `counts`, what was counted, and how many milliseconds reading, simplifying, the search and the end of the proof took.
 /// `model_lines` says how a model is printed. A fault of the text, which is in the file of this name, is told in words too.
+/// Once the process has taken `max_seconds` of CPU time no further step is made: all is then as if `search.max_steps` were the
+/// steps that were allowed by then. The time is asked for after the text is read and between rounds of steps, so that it may be
+/// exceeded. Reading or simplifying is not cut short; but nothing is simplified once the time is spent.
 pub fn solve_lines<
     A: Allocator + Copy,
     S: ByteSource,
     P: ProofTarget,
     T: ProofTarget,
     E: Write,
-    C: Clock,
+    C: Clock + CpuClock,
 >(
     alloc: A,
     name: &str,
@@ -49,13 +53,14 @@ pub fn solve_lines<
     requires out_faults { (T.taken out.old).faults < 2 ^ 64 - 1 }
     // Deciding fails, and nothing is printed; or the source gave a whole text, which a solver searched that has the limit, the
     // checker and the proof that the options ask for; and what it concluded was printed, or a beginning of that if a call of
-    // `out` failed.
-    ensures outcome { SolvesFirst P.taken options (S.input cnf.old) (S.input cnf.new) proof.old proof.new
+    // `out` failed. If the time is limited, the limit of steps may be a lower one.
+    ensures outcome { SolvesInTime P.taken options (S.input cnf.old) (S.input cnf.new) proof.old proof.new
         (T.taken out.old) (T.taken out.new) result }
     ensures truth { StatusIsTrue (S.input cnf.old) (S.input cnf.new) result }
 {
-    let watch = Watch::new(clock, options.counts);
-    match decide(alloc, cnf, proof, options, &watch, err) {
+    let watch = Watch::new(clock, options.counts, options.max_seconds);
+    let mut asked = options;
+    match decide(alloc, cnf, proof, &mut asked, &watch, err) {
         Ok(report) => match print_shown(out, &report, options.model_lines) {
             Ok(()) => status_of(&report),
             Err(error) => print_fault(err, &error),

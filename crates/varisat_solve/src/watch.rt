@@ -1,23 +1,52 @@
-//! Reports of what was counted in a search, and of how long each part of the work took.
+//! Reports of what was counted in a search, and of how long each part of the work took; and when the time is spent.
+ghost use Rattle.std.specs.Prelude.{◌≡◌, None, false};
 
 use std::io::{self, Write};
-use std::time::{Clock, Instant};
+use std::time::{Clock, CpuClock, Duration, Instant};
 use varisat_schedule::counters::Counters;
 
-/// Takes the time of each part of the work, and reports it where that is wanted.
+/// Takes the time of each part of the work, and reports it where that is wanted. Knows when the time is spent.
 #[derive(Drop)]
-pub struct Watch<'a, C: Clock> {
+pub struct Watch<'a, C: Clock + CpuClock> {
     clock: &'a C,
     is_reporting: bool,
+    /// How many seconds of CPU time the process has, if they are limited.
+    pub max_seconds: Option<u64>,
 }
 
-impl<'a, C: Clock> Watch<'a, C> {
-    /// One that reports or not, by this clock.
-    pub fn new(clock: &'a C, is_reporting: bool) -> Watch<'a, C> {
+impl<'a, C: Clock + CpuClock> Watch<'a, C> {
+    /// One that reports or not, by this clock, and limits the CPU time or not.
+    pub fn new(clock: &'a C, is_reporting: bool, max_seconds: Option<u64>) -> Watch<'a, C>
+        ensures { result.max_seconds ≡ max_seconds }
+    {
         Watch {
             clock,
             is_reporting,
+            max_seconds,
         }
+    }
+
+    /// How much CPU time the process took so far. Where the clock fails it is the greatest that there is, so that a limit
+    /// is kept to.
+    pub fn cpu_time(&self) -> Duration {
+        self.clock.process_cpu_time().unwrap_or(Duration::MAX)
+    }
+
+    /// Whether the time is limited, and was spent once the process had taken so much of it.
+    pub fn is_spent_at(&self, now: Duration) -> bool
+        ensures { self.now.max_seconds ≡ None → result ≡ false }
+    {
+        match self.max_seconds {
+            Some(seconds) => now.as_secs() >= seconds,
+            None => false,
+        }
+    }
+
+    /// Whether the time is limited and spent.
+    pub fn is_spent(&self) -> bool
+        ensures { self.now.max_seconds ≡ None → result ≡ false }
+    {
+        self.is_spent_at(self.cpu_time())
     }
 
     /// The present moment. An error is the clock's.
@@ -58,7 +87,7 @@ impl<'a, C: Clock> Watch<'a, C> {
 }
 
 /// Writes what was counted in a search, a number a line, under the names that the library for C has for it.
-fn write_counts<E: Write>(err: &mut E, steps: u64, counters: &Counters) -> io::Result<()> {
+pub fn write_counts<E: Write>(err: &mut E, steps: u64, counters: &Counters) -> io::Result<()> {
     let rows = [
         ("steps", steps),
         ("conflicts", counters.conflicts),

@@ -151,6 +151,8 @@ prove_crate() (
   for folder in "$PWD"/crates/*/out/rlib; do words+=(-L "dependency=$folder"); done
   words+=(--antt-project "$kit/rattle/logic/antt-project.json" --logic-built "$kit/logic_built" --links "$name=" --jobs "$jobs")
   cd "crates/$name" && mkdir -p out/rlib || exit
+  # Of a repository with a link in out/ rt proves nothing.
+  trap 'rm -rf out/toolchain' EXIT
   linked=("${words[@]}" --list-axioms --toolchain "$PWD/out/toolchain")
   if [ -f src/main.rt ]; then
     copy_toolchain "$kit" "$PWD/out/toolchain" "$PWD/out/$name.bc" &&
